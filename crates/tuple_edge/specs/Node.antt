@@ -1,0 +1,42 @@
+-- The order of nodes.
+use Rattle.std.specs.Prelude.{ℕ}
+use Rattle.std.specs.declared.cmp.Ordering.{Ordering}
+use Rattle.std.specs.Ordering.{nat_cmp, on, then_cmp}
+use Rattle.tuple_edge.specs.declared.node.Which.{Which}
+use Rattle.tuple_edge.specs.declared.node.Which.TheVariants as which
+use Rattle.tuple_edge.specs.declared.node.NodeId.{NodeId}
+use Rattle.tuple_edge.specs.declared.node.NodeId.TheVariants as node
+
+-- ingress, then the pairs, then egress
+abbrev pub group_of : NodeId → ℕ
+group_of node.Ingress = 0
+group_of (node.Replica stage part which) = 1
+group_of (node.Control stage part) = 1
+group_of node.Egress = 2
+
+abbrev pub stage_of : NodeId → ℕ
+stage_of node.Ingress = 0
+stage_of (node.Replica stage part which) = stage
+stage_of (node.Control stage part) = stage
+stage_of node.Egress = 0
+
+abbrev pub part_of : NodeId → ℕ
+part_of node.Ingress = 0
+part_of (node.Replica stage part which) = part
+part_of (node.Control stage part) = part
+part_of node.Egress = 0
+
+abbrev pub rank_of_which : Which → ℕ
+rank_of_which which.A = 0
+rank_of_which which.B = 1
+
+-- in a pair replica A, replica B, the controller
+abbrev pub rank_of : NodeId → ℕ
+rank_of node.Ingress = 0
+rank_of (node.Replica stage part which) = rank_of_which which
+rank_of (node.Control stage part) = 2
+rank_of node.Egress = 0
+
+-- the order of nodes
+abbrev pub node_cmp : NodeId → NodeId → Ordering
+node_cmp = then_cmp (on group_of nat_cmp) (then_cmp (on stage_of nat_cmp) (then_cmp (on part_of nat_cmp) (on rank_of nat_cmp)))

@@ -1,0 +1,29 @@
+//! Rows, the items of an edge, and the packets and events of the nodes: the plain data that every
+//! other crate speaks of, with the few functions that give it meaning.
+//!
+//! It promises the order of items (by stamp, then rows before the mark before the end, then source)
+//! and of nodes, the routing of a row, sums that stop at a bound, and that an outbox is a list. It
+//! stands on std alone.
+#![tactic(auto)]
+
+mod event;
+mod item;
+mod memory;
+mod node;
+mod order;
+mod outbox;
+mod packet;
+mod row;
+mod sum;
+
+pub use event::{Drained, Event, History, Stamped, Worked};
+pub use item::Item;
+pub use memory::OutOfMemory;
+pub use node::{EdgeId, LinkId, NodeId, Which};
+pub use outbox::Outbox;
+pub use packet::{Body, Entry, Packet};
+pub use row::{Column, Key, Row, route};
+pub use sum::{BIG, saturating_sum_of};
+
+#[cfg(test)]
+mod tests;

@@ -1,0 +1,86 @@
+// Packets that a node has to send.
+ghost use Rattle.std.specs.Prelude.{◌≡◌, ◌≤◌, ◌<◌, ◌+◌, ◌++◌, ◌∷◌, [], length, OnOk, OnErr, IsTrue, ◌↔◌, slice_get};
+
+use crate::{Body, NodeId, OutOfMemory};
+use std::alloc::Global;
+use std::marker::Model;
+
+/// The packets that a node has to send, in order, each with its receiver.
+#[derive(Drop)]
+pub struct Outbox {
+    packets: Vec<(NodeId, Body)>,
+}
+
+impl Model for Outbox {
+    ghost use Rattle.std.specs.Prelude.{◌-◌, vec_capacity, vec_len};
+    ghost use Rattle.tuple_edge.specs.Outbox.{OutboxView};
+
+    ghost Value = { OutboxView };
+
+    ghost view = { λ o. record { packets = o.packets.items; spare = vec_capacity o.packets - vec_len o.packets } };
+}
+
+impl Outbox {
+    /// An outbox with nothing to be sent.
+    pub fn new(alloc: Global) -> Outbox
+        ensures { result.packets ≡ [] }
+    {
+        Outbox {
+            packets: Vec::new(alloc),
+        }
+    }
+
+    /// Makes room for this many further packets.
+    pub fn reserve(&mut self, items: usize) -> Result<(), OutOfMemory>
+        ensures packets { self.new.packets ≡ self.old.packets }
+        ensures spare { OnOk result (items ≤ self.new.spare) }
+        ensures kept { self.old.spare ≤ self.new.spare }
+        ensures unchanged { OnErr result (self.new ≡ self.old) }
+
+        // Where there is room already no memory is asked for.
+        ensures refused { OnErr result (self.old.spare < items) }
+    {
+        match self.packets.reserve(items) {
+            Ok(()) => Ok(()),
+            Err(_) => Err(OutOfMemory),
+        }
+    }
+
+    /// Appends a packet for a receiver. It takes no memory.
+    pub fn push(&mut self, to: NodeId, body: Body)
+        requires { 1 ≤ self.old.spare }
+        ensures packets { self.new.packets ≡ self.old.packets ++ (to, body) ∷ [] }
+        ensures spare { self.old.spare ≤ self.new.spare + 1 }
+    {
+        self.packets.push_reserved((to, body));
+    }
+
+    /// How many packets there are.
+    pub fn len(&self) -> usize
+        ensures { result ≡ length self.now.packets }
+    {
+        self.packets.len()
+    }
+
+    /// Whether there is no packet.
+    pub fn is_empty(&self) -> bool
+        ensures { IsTrue result ↔ (self.now.packets ≡ []) }
+    {
+        self.packets.is_empty()
+    }
+
+    /// The packet at a place, from 0. None exactly where there are no more than `nth` packets.
+    pub fn get(&self, nth: usize) -> Option<(NodeId, Body)>
+        ensures { result ≡ slice_get self.now.packets nth }
+    {
+        self.packets.get(nth).copied()
+    }
+
+    /// Gives up all packets, and keeps the room.
+    pub fn clear(&mut self)
+        ensures packets { self.new.packets ≡ [] }
+        ensures spare { self.new.spare ≡ self.old.spare + length self.old.packets }
+    {
+        self.packets.clear();
+    }
+}
