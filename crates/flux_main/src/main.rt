@@ -1,0 +1,34 @@
+//! The program: it hands its words, the system's files and the standard streams to `flux`, and ends with
+//! the status that `flux` answers.
+#![tactic(auto)]
+
+use flux_top::{StdFiles, StdSink, flux};
+use std::alloc::{AllocError, Global};
+use std::env;
+use std::process::ExitCode;
+
+/// The status where no memory was to be had for the words.
+const OUT_OF_MEMORY: u8 = 8;
+
+fn main(rt: HostRuntime) -> ExitCode {
+    let alloc = rt.alloc();
+    let Ok(words) = words(&rt, alloc) else {
+        let _ = eprintln!(rt; "flux: out of memory");
+        return ExitCode::from(OUT_OF_MEMORY);
+    };
+    let mut files = StdFiles::new(&rt, alloc);
+    let mut out = StdSink::new(rt.stdout());
+    let mut err = StdSink::new(rt.stderr());
+    ExitCode::from(flux(alloc, &words, &mut files, &mut out, &mut err))
+}
+
+// The words after the program's name. Words that are no text have no form, so they count as none.
+fn words(rt: &HostRuntime, alloc: Global) -> Result<Vec<String>, AllocError> {
+    let mut words = Vec::new(alloc);
+    if let Ok(args) = env::args(rt) {
+        for word in args.skip(1) {
+            words.push(word)?;
+        }
+    }
+    Ok(words)
+}

@@ -1,0 +1,6 @@
+pub mod Calls
+pub mod FileNames
+pub mod Outputs
+pub mod ReadLaws
+pub mod Refusals
+pub mod Sinks

@@ -1,0 +1,98 @@
+-- What calls to files and sinks do, and what of it is told.
+use Rattle.std.specs.Prelude.{Bool, true, false, Result, Ok, Err, ◌∷◌, if◌then◌else◌, ℕ, ◌≡◌, ◌≢◌, ◌+◌, ◌-◌, ◌^◌, ◌<◌, ◌≤◌, min, List, [], ◌++◌, take, length, Option, Some, None}
+use Rattle.flux_top.specs.declared.outside.FileStop.{FileStop}
+use Rattle.flux_top.specs.declared.outside.FileStop.TheVariants as stop
+use Rattle.flux_top.specs.declared.outside.Got.{Got}
+use Rattle.flux_top.specs.declared.outside.Got.TheVariants as got
+
+-- ---- counts of faults
+
+-- a count became greater, or stands at the last value of its counter
+abbrev pub Rose : ℕ → ℕ → Type 0
+Rose before now = min (before + 1) (2 ^ 64 - 1) ≤ now
+
+-- a file call fails only where its count rose
+abbrev pub Explains : ℕ → ℕ → FileStop → Type 0
+Explains before now stop.Failed = Rose before now
+Explains before now stop.OutOfMemory = Unit {0}
+
+-- ---- files
+
+-- what each name holds
+abbrev pub Names : Type 0
+Names = List ℕ → Option (List ℕ)
+
+-- a name holds these bytes, as far as it is told
+abbrev pub IsHeld : Option Names → List ℕ → List ℕ → Type 0
+IsHeld None name bytes = Unit {0}
+IsHeld (Some named) name bytes = named name ≡ Some bytes
+
+-- what was there stands in front
+abbrev pub KeepsFront : List ℕ → List ℕ → Type 0
+KeepsFront old new = take (length old) new ≡ old
+
+-- bytes were read whole after those that were there, or they are too long
+abbrev pub IsReadOf : List ℕ → ℕ → Got → List ℕ → List ℕ → Type 0
+IsReadOf bytes max got.Whole old new = (length bytes ≤ max) × (new ≡ old ++ bytes)
+IsReadOf bytes max (got.TooLong seen) old new = (max < length bytes) × (seen ≡ max + 1)
+
+-- a read gave the bytes that the name holds, as far as it is told
+pub record IsRead (told : Option Names) (name : List ℕ) (max : ℕ) (ending : Got) (old new : List ℕ) : Type 0 where
+  pub bytes : List ℕ
+  pub held : IsHeld told name bytes
+  pub read : IsReadOf bytes max ending old new
+
+-- one name holds these bytes, and the others what they held
+pub record SavesAs (old new : Names) (name bytes : List ℕ) : Type 0 where
+  pub saved : new name ≡ Some bytes
+  pub others : (other : List ℕ) → other ≢ name → new other ≡ old other
+
+-- the same, where it is told what names hold
+abbrev pub Saves : Option Names → Option Names → List ℕ → List ℕ → Type 0
+Saves None new name bytes = Unit {0}
+Saves (Some old) None name bytes = ⊥
+Saves (Some old) (Some new) name bytes = SavesAs old new name bytes
+
+-- a call of files, with its name
+pub data Call : Type 0 where
+  Read : (name : List ℕ) → Call
+  Save : (name : List ℕ) → Call
+
+-- whether a call found memory
+abbrev pub is_counted : {T : Type 0} → Result T FileStop → Bool
+is_counted (Ok x) = true
+is_counted (Err stop.Failed) = true
+is_counted (Err stop.OutOfMemory) = false
+
+-- a call joins the list of calls where it found memory
+abbrev pub Joins : Option (List Call) → Option (List Call) → Call → Bool → Type 0
+Joins None new call counted = Unit {0}
+Joins (Some old) new call counted = new ≡ Some (if counted then old ++ call ∷ [] else old)
+
+-- the calls that were added begin this list
+pub record AddsFront (old new calls : List Call) : Type 0 where
+  pub front : List Call
+  pub left : List Call
+  pub whole : calls ≡ front ++ left
+  pub added : new ≡ old ++ front
+
+-- the same, where calls are told
+abbrev pub AsksFor : Option (List Call) → Option (List Call) → List Call → Type 0
+AsksFor None new calls = Unit {0}
+AsksFor (Some old) None calls = ⊥
+AsksFor (Some old) (Some new) calls = AddsFront old new calls
+
+-- ---- sinks
+
+-- these bytes were taken, where it is told what is taken
+abbrev pub Takes : Option (List ℕ) → Option (List ℕ) → List ℕ → Type 0
+Takes None new bytes = Unit {0}
+Takes (Some old) new bytes = new ≡ Some (old ++ bytes)
+
+-- a proper prefix of these bytes was taken
+pub record TakesPart (old new : Option (List ℕ)) (bytes : List ℕ) : Type 0 where
+  pub front : List ℕ
+  pub left : List ℕ
+  pub some_left : 0 < length left
+  pub whole : bytes ≡ front ++ left
+  pub taken : Takes old new front
