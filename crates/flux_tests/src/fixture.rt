@@ -1,0 +1,46 @@
+// A call of `flux` over files in memory.
+use flux_top::{MemFiles, MemSink, flux};
+use std::alloc::Global;
+use std::test::Fail;
+
+/// What a call came to: the status, what was written and what was said.
+#[derive(Drop)]
+pub(crate) struct Seen {
+    pub(crate) status: u8,
+    pub(crate) out: MemSink,
+    pub(crate) err: MemSink,
+}
+
+/// Calls `flux` with these words, divided by blanks, over the files `p.txt` and `t.csv`. The calls of
+/// files whose numbers are in `fails` fail.
+pub(crate) fn call(
+    alloc: Global,
+    line: &str,
+    plan: &str,
+    trades: &str,
+    fails: &[u64],
+) -> Result<Seen, Fail> {
+    let out = MemSink::new(alloc, Vec::new(alloc), usize::MAX, 10_000)?;
+    call_into(alloc, line, plan, trades, fails, out)
+}
+
+/// The same into a sink that is handed in.
+pub(crate) fn call_into(
+    alloc: Global,
+    line: &str,
+    plan: &str,
+    trades: &str,
+    fails: &[u64],
+    mut out: MemSink,
+) -> Result<Seen, Fail> {
+    let mut files = MemFiles::new(alloc, fails.to_vec(alloc)?);
+    files.put_file("p.txt", plan.as_bytes())?;
+    files.put_file("t.csv", trades.as_bytes())?;
+    let mut words = Vec::new(alloc);
+    for word in line.split_whitespace() {
+        words.push(String::from_str(alloc, word)?)?;
+    }
+    let mut err = MemSink::new(alloc, Vec::new(alloc), usize::MAX, 1_000)?;
+    let status = flux(alloc, &words, &mut files, &mut out, &mut err);
+    Ok(Seen { status, out, err })
+}

@@ -1,0 +1,8 @@
+//! Tests of whole calls of `flux`, over files and sinks in memory. The crate has no code of its own: it
+//! stands above flux_top so that flux_top is proved once, and not a second time with its tests.
+#![tactic(auto)]
+
+#[cfg(test)]
+mod eval;
+#[cfg(test)]
+mod fixture;
