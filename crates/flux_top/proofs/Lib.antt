@@ -1,4 +1,5 @@
 pub mod Calls
+pub mod Completeness
 pub mod FileNames
 pub mod Outputs
 pub mod ReadLaws

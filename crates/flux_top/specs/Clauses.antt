@@ -1,5 +1,5 @@
 -- What the clauses of `flux` and of its steps say.
-use Rattle.std.specs.Prelude.{ℕ, ◌≡◌, ◌⊎◌, List, Option, None, Ok, Err}
+use Rattle.std.specs.Prelude.{ℕ, ◌≡◌, ◌⊎◌, List, Option, None, Some, Ok, Err}
 use Rattle.std.specs.String.{string_bytes}
 use Rattle.flux_top.specs.Outside.{IsHeld, Names, Rose, Takes, TakesPart}
 use Rattle.flux_top.specs.Outcome.{ComesOf, ComesTo, Needs, Reading, Refuses, Writes, cannot_read_line}
@@ -40,6 +40,16 @@ pub record SaysUnread (told : Option Names) (words : List (List ℕ)) (old new :
   pub name : List ℕ
   pub comes : ComesTo told words (Needs name)
   pub tells : Tells old new before now (cannot_read_line name)
+
+-- the files tell what they hold, and of that the words come to a text
+abbrev pub Accepts : Option Names → List (List ℕ) → Type 0
+Accepts None words = ⊥
+Accepts (Some named) words = (text : List ℕ) × ComesTo (Some named) words (Writes text)
+
+-- the files tell what they hold, and of that the words come to a refusal
+abbrev pub Rejects : Option Names → List (List ℕ) → Type 0
+Rejects None words = ⊥
+Rejects (Some named) words = (line : List ℕ) × ComesTo (Some named) words (Refuses line)
 
 -- ---- of its steps
 

@@ -1,6 +1,6 @@
 // The commands, and the one call that does what the words of a command line ask for.
-ghost use Rattle.std.specs.Prelude.{◌≡◌, ◌≢◌, ◌↔◌, ◌∷◌, [], IfErr, IfOk, OnOk, Err, Some, None, map, string_bytes};
-ghost use Rattle.flux_top.specs.Clauses.{HasCause, HasReadCause, IsQuiet, IsStatus, SaysRefusal, SaysUnread, StopsOf, StopsTo, Tells, WritesPart, WritesWhole};
+ghost use Rattle.std.specs.Prelude.{◌≡◌, ◌≢◌, ◌↔◌, ◌⊎◌, ◌∷◌, [], IfErr, IfOk, OnOk, Err, Some, None, map, string_bytes};
+ghost use Rattle.flux_top.specs.Clauses.{Accepts, HasCause, HasReadCause, IsQuiet, IsStatus, Rejects, SaysRefusal, SaysUnread, StopsOf, StopsTo, Tells, WritesPart, WritesWhole};
 ghost use Rattle.flux_top.specs.Outcome.{ComesOf, Writes, cannot_write_line, memory_line, usage_line};
 ghost use Rattle.flux_top.specs.Outside.{AsksFor, Read, Rose};
 ghost use Rattle.flux_top.specs.Output.{output};
@@ -19,6 +19,7 @@ use plan_reader::Plan;
 use std::alloc::Global;
 use tuple_edge::OutOfMemory;
 
+#[tactic(auto, using(crate::proofs::Completeness::accepted_unrefused, crate::proofs::Completeness::rejected_unwritten, crate::proofs::Completeness::rejected_without_part, crate::proofs::Completeness::accepted_formed, crate::proofs::Completeness::rejected_formed))]
 /// Does what the words after the program's name ask for, and gives the status: 0 where it is done, 2 where
 /// the words have no form, 3 where an input is refused, 4 where a file can't be read, 5 where `out` took
 /// not all, 8 where no memory was to be had. One line goes to `err` for each status but 0.
@@ -56,6 +57,12 @@ pub fn flux<F: Files, S: Sink, E: Sink>(
     // It asks for nothing but the inputs of its words, in order, and writes only at 0 and 5.
     ensures asks { AsksFor (F.calls files.old) (F.calls files.new) (reads_of (form (map string_bytes words.now))) }
     ensures quiet { result ≢ 0 → result ≢ 5 → out.new ≡ out.old }
+
+    // Where the files tell what they hold and no count rose, what they hold is accepted and done, or it is
+    // refused, unless no memory was to be had.
+    ensures complete { Accepts (F.contents files.old) (map string_bytes words.now) → (Rose (F.read_faults files.old) (F.read_faults files.new) → ⊥)
+        → (Rose (S.faults out.old) (S.faults out.new) → ⊥) → (result ≡ 0) ⊎ (result ≡ 8) }
+    ensures rejects { Rejects (F.contents files.old) (map string_bytes words.now) → (Rose (F.read_faults files.old) (F.read_faults files.new) → ⊥) → (result ≡ 3) ⊎ (result ≡ 8) }
 {
     match run(alloc, words, files, out) {
         Ok(()) => 0,
