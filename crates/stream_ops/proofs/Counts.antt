@@ -1,31 +1,19 @@
--- What one more item does to the rows of a key and to their sums.
-use Rattle.std.proofs.Common.{ℕ, ◌≡◌, ℤ, pos, Bool, true, false, cond, List, [], ◌∷◌, ◌++◌, map, refl, sym, ap, ◌∙◌, Some}
-use Rattle.std.specs.Cmp.{Equal-is}
+-- What one more item does to what is kept for the keys.
+use Rattle.std.proofs.Common.{ℕ, ◌≡◌, Bool, true, false, cond, List, [], ◌∷◌, ◌++◌, fold, refl, sym, ap, ◌∙◌, Option, Some}
 use Rattle.std.specs.List.{filter}
-use Rattle.std.specs.Ordering.{int_cmp}
-use Rattle.std.proofs.lemmas.List.{map-append, append-nil}
+use Rattle.std.specs.Map.{keys_of, lookup}
+use Rattle.std.proofs.lemmas.List.{append-nil}
 use Rattle.std.proofs.lemmas.List.Elements.{filter-append}
 use Rattle.std.proofs.lemmas.List.Sums.{fold-append}
-use Rattle.std.proofs.lemmas.Map.Lookups.{exact_signed, exact_pairs}
-use Rattle.tuple_edge.specs.Sum.{saturating_sum, total_of}
 use Rattle.tuple_edge.specs.declared.item.Item.{Item}
 use Rattle.tuple_edge.specs.declared.item.Item.TheVariants as item
 use Rattle.tuple_edge.specs.declared.row.Key.{Key}
 use Rattle.tuple_edge.specs.declared.row.Row.{Row}
-use Rattle.stream_ops.specs.Answers.{rows_of, rows_with, sums, sums_row}
-use Rattle.stream_ops.specs.Keys.{is_key, key_cmp, key_of}
-use Rattle.stream_ops.specs.State.{kept, kept_of, with_row}
-use Rattle.stream_ops.specs.declared.spec.OpSpec.{OpSpec}
-use Rattle.stream_ops.specs.declared.spec.OpSpec.TheVariants as op
-use Rattle.stream_ops.specs.declared.state.Sums.{Sums}
-use Rattle.std.specs.Map.{lookup}
+use Rattle.stream_ops.specs.Keys.{is_key, key_of}
+use Rattle.stream_ops.specs.Rows.{keys_among, keys_in, rows_of, rows_with, with_key}
+use Rattle.stream_ops.specs.State.{Keeps}
 use Rattle.stream_ops.specs.declared.spec.By.{By}
-
--- keys that compare as equal are one
-pub same_key : (a b : Key) → is_key a b ≡ true → a ≡ b
-same_key a b same =
-    ap (λ (p : ℤ × ℤ). let k : Key = record { account = p.0; symbol = p.1 } in k)
-    (exact_pairs int_cmp int_cmp exact_signed exact_signed (a.account, a.symbol) (b.account, b.symbol) ((Equal-is (key_cmp a b)).0 same))
+use Rattle.stream_ops.proofs.Keyed.{same_key}
 
 pub rows_of-append : (xs ys : List Item) → rows_of (xs ++ ys) ≡ rows_of xs ++ rows_of ys
 rows_of-append [] ys = refl
@@ -39,53 +27,45 @@ pub rows_with-push : (b : By) (items : List Item) (stamp : _) (r : Row) (k : Key
 rows_with-push b items stamp r k =
     ap (filter (λ r. is_key (key_of b r) k)) (rows_of-append items (item.Row stamp r ∷ [])) ∙ filter-append (λ r. is_key (key_of b r) k) (rows_of items) (r ∷ [])
 
--- a sum with one more row
-pub total_of-push : (f : Row → ℤ) (rows : List Row) (r : Row) → total_of (map f (rows ++ r ∷ [])) ≡ saturating_sum (total_of (map f rows)) (f r)
-total_of-push f rows r = ap total_of (map-append f rows (r ∷ [])) ∙ fold-append saturating_sum (pos 0) (map f rows) (f r ∷ [])
+pub keys_in-push : (b : By) (items : List Item) (stamp : _) (r : Row) → keys_in b (items ++ item.Row stamp r ∷ []) ≡ with_key (key_of b r) (keys_in b items)
+keys_in-push b items stamp r =
+    ap (fold (λ ks r. with_key (key_of b r) ks) []) (rows_of-append items (item.Row stamp r ∷ [])) ∙ fold-append (λ ks r. with_key (key_of b r) ks) [] (rows_of items) (r ∷ [])
 
-pub sums-push : (rows : List Row) (r : Row) → sums (rows ++ r ∷ []) ≡ with_row (kept_of rows) r
-sums-push [] r = refl
-sums-push (x ∷ xs) r = rw (total_of-push (λ r. r.qty) (x ∷ xs) r, total_of-push (λ r. r.value) (x ∷ xs) r) refl
+-- what is kept for a key, with one row more among the items
+kept-push_by : {X : Type 0} (kept : List Row → Option X) (next : Option X → Row → X) → ((rows : List Row) (r : Row) → kept (rows ++ r ∷ []) ≡ Some (next (kept rows) r))
+    → (b : By) (before : List Item) (r : Row) (k : Key) (t : Bool) → is_key (key_of b r) k ≡ t
+    → kept (rows_with b before k ++ cond t (r ∷ []) []) ≡ cond t (Some (next (kept (rows_with b before (key_of b r))) r)) (kept (rows_with b before k))
+kept-push_by kept next push b before r k false is = ap kept (append-nil (rows_with b before k))
+kept-push_by kept next push b before r k true is =
+    push (rows_with b before k) r ∙ ap (λ k'. Some (next (kept (rows_with b before k')) r)) (sym (same_key (key_of b r) k is))
 
-pub kept_of-push : (rows : List Row) (r : Row) → kept_of (rows ++ r ∷ []) ≡ Some (with_row (kept_of rows) r)
-kept_of-push [] r = refl
-kept_of-push (x ∷ xs) r = ap Some (sums-push (x ∷ xs) r)
+-- a map in which what is kept for a row's key was put
+abbrev pub Puts : {X : Type 0} → (Option X → Row → X) → Row → Key → List (Key × X) → List (Key × X) → Type 0
+Puts next r key old new =
+    ((q : Key) → lookup (is_key q) new ≡ cond (is_key key q) (Some (next (lookup (is_key key) old) r)) (lookup (is_key q) old)) × (keys_of new ≡ with_key key (keys_of old))
 
--- what is kept after one more row
-pub kept_total-push : (b : By) (before : List Item) (stamp : ℕ) (r : Row) (k : Key)
-    → kept (op.Total b) (before ++ item.Row stamp r ∷ []) k
-    ≡ cond (is_key (key_of b r) k) (Some (with_row (kept (op.Total b) before (key_of b r)) r)) (kept (op.Total b) before k)
-kept_total-push b before stamp r k = ap kept_of (rows_with-push b before stamp r k) ∙ by_test (is_key (key_of b r) k) refl
-  where
-    by_test : (t : Bool) → is_key (key_of b r) k ≡ t
-        → kept_of (rows_with b before k ++ cond t (r ∷ []) []) ≡ cond t (Some (with_row (kept_of (rows_with b before (key_of b r))) r)) (kept_of (rows_with b before k))
-    by_test false _ = ap kept_of (append-nil (rows_with b before k))
-    by_test true e = kept_of-push (rows_with b before k) r ∙ ap (λ k'. Some (with_row (kept_of (rows_with b before k')) r)) (sym (same_key (key_of b r) k e))
+-- a map that keeps of items what it should, keeps it of them and one row more, once that was put
+pub Keeps-next : {X : Type 0} (kept_of : List Row → Option X) (next : Option X → Row → X) → ((rows : List Row) (r : Row) → kept_of (rows ++ r ∷ []) ≡ Some (next (kept_of rows) r))
+    → (by : By) (old new : List (Key × X)) (before : List Item) (stamp : ℕ) (r : Row) (key : Key)
+    → key ≡ key_of by r → Keeps kept_of by old before → Puts next r key old new
+    → Keeps kept_of by new (before ++ item.Row stamp r ∷ [])
+Keeps-next kept_of next push by old new before stamp r key key_is had puts = record {
+  values = λ q. puts.0 q ∙ rw (key_is, had.values (key_of by r), had.values q)
+      (sym (ap kept_of (rows_with-push by before stamp r q) ∙ kept-push_by kept_of next push by before r q (is_key (key_of by r) q) refl));
+  keys = puts.1 ∙ rw (key_is, had.keys) (sym (keys_in-push by before stamp r));
+}
 
--- the state after a row that was counted
-pub total_stands : (b : By) (old new : List (Key × Sums)) (before : List Item) (stamp : ℕ) (r : Row) (key : Key) (total : Sums)
-    → ((k : Key) → lookup (is_key k) old ≡ kept (op.Total b) before k)
-    → key ≡ key_of b r
-    → total ≡ with_row (lookup (is_key key) old) r
-    → ((q : Key) → lookup (is_key q) new ≡ cond (is_key key q) (Some total) (lookup (is_key q) old))
-    → (k : Key) → lookup (is_key k) new ≡ kept (op.Total b) (before ++ item.Row stamp r ∷ []) k
-total_stands b old new before stamp r key total stood key_is total_is updated k =
-    updated k ∙ rw (total_is, key_is, stood (key_of b r), stood k) (sym (kept_total-push b before stamp r k))
+-- what is kept of items is kept of others with the same rows
+pub Keeps-same : {X : Type 0} (kept_of : List Row → Option X) (by : By) (kept : List (Key × X)) (xs ys : List Item)
+    → rows_of ys ≡ rows_of xs → Keeps kept_of by kept xs → Keeps kept_of by kept ys
+Keeps-same kept_of by kept xs ys same had = record {
+  values = λ k. had.values k ∙ ap (λ rows. kept_of (filter (λ r. is_key (key_of by r) k) rows)) (sym same);
+  keys = had.keys ∙ ap (keys_among by) (sym same);
+}
 
--- the answer to it
-pub total_answers : (b : By) (old : List (Key × Sums)) (before : List Item) (r : Row) (key : Key) (total : Sums)
-    → ((k : Key) → lookup (is_key k) old ≡ kept (op.Total b) before k)
-    → key ≡ key_of b r
-    → total ≡ with_row (lookup (is_key key) old) r
-    → sums_row r.time key total ≡ sums_row r.time (key_of b r) (sums (rows_with b before (key_of b r) ++ r ∷ []))
-total_answers b old before r key total stood key_is total_is =
-    rw (total_is, key_is, stood (key_of b r)) (ap (sums_row r.time (key_of b r)) (sym (sums-push (rows_with b before (key_of b r)) r)))
+-- no row more
+pub rows_of-mark : (before : List Item) (stamp : ℕ) → rows_of (before ++ item.Mark stamp ∷ []) ≡ rows_of before
+rows_of-mark before stamp = rows_of-append before (item.Mark stamp ∷ []) ∙ append-nil (rows_of before)
 
--- the rows with an item that is none
-pub kept-mark : (spec : OpSpec) (before : List Item) (stamp : ℕ) (k : Key) → kept spec (before ++ item.Mark stamp ∷ []) k ≡ kept spec before k
-kept-mark (op.Keep column compare limit) before stamp k = refl
-kept-mark (op.Total b) before stamp k = ap (λ rows. kept_of (filter (λ r. is_key (key_of b r) k) rows)) (rows_of-append before (item.Mark stamp ∷ []) ∙ append-nil (rows_of before))
-
-pub kept-end : (spec : OpSpec) (before : List Item) (stamp : ℕ) (k : Key) → kept spec (before ++ item.End stamp ∷ []) k ≡ kept spec before k
-kept-end (op.Keep column compare limit) before stamp k = refl
-kept-end (op.Total b) before stamp k = ap (λ rows. kept_of (filter (λ r. is_key (key_of b r) k) rows)) (rows_of-append before (item.End stamp ∷ []) ∙ append-nil (rows_of before))
+pub rows_of-end : (before : List Item) (stamp : ℕ) → rows_of (before ++ item.End stamp ∷ []) ≡ rows_of before
+rows_of-end before stamp = rows_of-append before (item.End stamp ∷ []) ∙ append-nil (rows_of before)

@@ -1,4 +1,4 @@
--- What rows are counted by.
+-- The key of a row, and the order of keys.
 use Rattle.std.specs.Prelude.{pos, Bool}
 use Rattle.std.specs.Ordering.{int_cmp, ordering_then, is_eq}
 use Rattle.std.specs.declared.cmp.Ordering.{Ordering}
@@ -7,7 +7,7 @@ use Rattle.tuple_edge.specs.declared.row.Row.{Row}
 use Rattle.stream_ops.specs.declared.spec.By.{By}
 use Rattle.stream_ops.specs.declared.spec.By.TheVariants as by
 
--- the key of a row: what it isn't counted by is 0
+-- the key of a row: a part that rows aren't kept by is 0
 abbrev pub key_of : By → Row → Key
 key_of by.Account r = record { account = r.account; symbol = pos 0 }
 key_of by.Symbol r = record { account = pos 0; symbol = r.symbol }

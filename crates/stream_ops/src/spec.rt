@@ -1,19 +1,29 @@
-// What an operator is told to do: the operators with their settings.
+// What an operator is told to do.
 ghost use Rattle.std.specs.Prelude.{◌≡◌};
-ghost use Rattle.stream_ops.specs.Keys.{key_of};
 ghost use Rattle.stream_ops.specs.Compares.{holds};
+ghost use Rattle.stream_ops.specs.Keys.{key_of};
 
 use tuple_edge::{Column, Key, Row};
 
-/// What rows have in common that an operator keeps together.
+/// The greatest number of rows that a `last` keeps for a key.
+pub const MAX_LAST_ROWS: u32 = 64;
+
+/// The greatest width of a window, in seconds.
+pub const MAX_WINDOW_SECONDS: i64 = 1_000_000;
+
+/// The greatest time of a row, in seconds; the least is 0.
+pub const MAX_TIME_SECONDS: i64 = 9_999_999_999;
+
+/// What rows have in common that are kept together. A part of the key that isn't named is 0.
 #[derive(Clone, Copy, Debug, PartialEq, Eq)]
 pub enum By {
     Account,
     Symbol,
+    /// Account and symbol.
     Both,
 }
 
-/// A comparison of a number with a limit: the number is, say, less than the limit.
+/// A comparison of a number with a limit.
 #[derive(Clone, Copy, Debug, PartialEq, Eq)]
 pub enum Compare {
     Less,
@@ -27,20 +37,37 @@ pub enum Compare {
 /// An operator with its settings.
 #[derive(Clone, Copy, Debug, PartialEq, Eq)]
 pub enum OpSpec {
-    /// Answers a row by itself where the column's value stands so to the limit, else by nothing.
+    /// Passes on the rows whose column compares so with the limit.
     Keep {
         column: Column,
         compare: Compare,
         limit: i64,
     },
-    /// Answers a row by the sums of its key's rows so far, that row included.
+    /// Answers each row with the sums of its key's rows so far.
     Total {
         by: By,
+    },
+    /// Answers each row with the sums of its key's last `rows` rows: 1 to [`MAX_LAST_ROWS`].
+    Last {
+        by: By,
+        rows: u32,
+    },
+    /// Answers with the sums of a key's window of time once a row opens a later one, and at the
+    /// end. `width` is in seconds: 1 to [`MAX_WINDOW_SECONDS`].
+    Window {
+        by: By,
+        width: i64,
+    },
+    /// Answers a row with its key's sums where it takes the size of the value's sum above `limit`
+    /// or back. `limit` is in cents, at least 0.
+    Crossing {
+        by: By,
+        limit: i64,
     },
 }
 
 impl By {
-    /// The key of a row: a part that it isn't kept by is 0.
+    /// The key of a row.
     pub fn key(self, row: &Row) -> Key
         ensures { result ≡ key_of self row.now }
     {
@@ -62,7 +89,7 @@ impl By {
 }
 
 impl Compare {
-    /// Whether the number stands so to the limit.
+    /// Whether the number compares so with the limit.
     pub fn holds(self, number: i64, limit: i64) -> bool
         ensures { result ≡ holds self number limit }
     {

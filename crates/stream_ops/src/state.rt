@@ -1,65 +1,136 @@
-// What an operator keeps of the items that it was given, and how it answers the next one.
-ghost use Rattle.std.specs.Prelude.{◌≡◌, ◌≤◌, ◌∷◌, ◌++◌, [], List, IfOk, OnErr, OnOk, Some, length};
-ghost use Rattle.std.specs.BTreeMap.{Updates, get};
+// An operator, with what it keeps of the items that it was given.
+ghost use Rattle.std.specs.Prelude.{ℕ, ◌≡◌, ◌≤◌, ◌∷◌, ◌++◌, [], List, IfOk, OnErr, OnOk, length};
+ghost use Rattle.stream_ops.specs.Answers.{IsOpen, answer, end_answer, row_answer};
+ghost use Rattle.stream_ops.specs.Spec.{IsSpec};
+ghost use Rattle.stream_ops.specs.State.{StandsFor, key_count, most_of, unseen};
+ghost use Rattle.stream_ops.specs.Times.{IsTime, IsTimely};
+ghost use Rattle.tuple_edge.specs.declared.item.Item.TheVariants as item;
 ghost use Rattle.tuple_edge.specs.declared.item.Item.{Item};
-ghost use Rattle.stream_ops.specs.Answers.{answer, IsOpen};
-ghost use Rattle.stream_ops.specs.Keys.{key_cmp};
-ghost use Rattle.stream_ops.specs.State.{StandsFor, most_of, with_row};
 
-use crate::{By, OpSpec};
+use crate::kept::{closing, count, crossing, note, push, sums_at, write_windows};
+use crate::{By, Compare, OpSpec, OpenWindow, Sums};
+use circular_buffer::HeapCircularBuffer;
 use std::alloc::Global;
 use std::collections::BTreeMap;
 use std::marker::Model;
-use tuple_edge::{Item, Key, OutOfMemory, Row, saturating_sum_of};
+use tuple_edge::{Column, Item, Key, OutOfMemory, Row};
 
-/// The sums of a key's rows, each within plus and minus `BIG`: shares and cents.
-#[derive(Clone, Copy, Debug, PartialEq, Eq)]
-pub struct Sums {
-    pub qty: i64,
-    pub value: i64,
+// An operator's settings, with what it keeps for each key.
+#[derive(Drop)]
+enum Operator {
+    Keep {
+        column: Column,
+        compare: Compare,
+        limit: i64,
+    },
+    Total {
+        by: By,
+        totals: BTreeMap<Key, Sums>,
+    },
+    Last {
+        by: By,
+        rows: u32,
+        last_rows: BTreeMap<Key, HeapCircularBuffer<Sums>>,
+    },
+    Window {
+        by: By,
+        width: i64,
+        windows: BTreeMap<Key, OpenWindow>,
+    },
+    Crossing {
+        by: By,
+        limit: i64,
+        totals: BTreeMap<Key, Sums>,
+    },
 }
 
-/// An operator and what it keeps of the items that it was given.
+/// An operator and what it keeps of the items that it was given: no more than its answers need.
 #[derive(Drop)]
 pub struct OpState {
-    spec: OpSpec,
-    totals: BTreeMap<Key, Sums>,
+    alloc: Global,
+    operator: Operator,
 }
 
 impl Model for OpState {
+    ghost use Rattle.stream_ops.specs.Spec.{IsSpec};
     ghost use Rattle.stream_ops.specs.State.{StateView};
+    ghost use Rattle.stream_ops.specs.View.{seen};
 
     ghost Value = { StateView };
 
-    ghost view = { λ s. record { spec = s.spec; totals = s.totals.entries } };
+    ghost view = { λ s. seen s.operator };
+
+    ghost invariant = { λ s. IsSpec (seen s.operator).spec };
 }
 
 impl OpState {
-    /// An operator that has seen nothing.
+    /// An operator that was given nothing.
     pub fn new(alloc: Global, spec: OpSpec) -> OpState
-        ensures { result ≡ record { spec = spec; totals = [] } }
+        requires { IsSpec spec }
+        ensures unseen { result ≡ unseen spec }
+        ensures stands { StandsFor result [] }
     {
-        OpState {
-            spec,
-            totals: BTreeMap::new(alloc),
-        }
+        let operator = match spec {
+            OpSpec::Keep {
+                column,
+                compare,
+                limit,
+            } => Operator::Keep {
+                column,
+                compare,
+                limit,
+            },
+            OpSpec::Total { by } => Operator::Total {
+                by,
+                totals: BTreeMap::new(alloc),
+            },
+            OpSpec::Last { by, rows } => Operator::Last {
+                by,
+                rows,
+                last_rows: BTreeMap::new(alloc),
+            },
+            OpSpec::Window { by, width } => Operator::Window {
+                by,
+                width,
+                windows: BTreeMap::new(alloc),
+            },
+            OpSpec::Crossing { by, limit } => Operator::Crossing {
+                by,
+                limit,
+                totals: BTreeMap::new(alloc),
+            },
+        };
+        OpState { alloc, operator }
     }
 
-    /// At least how many rows `step` would append.
+    /// At least how many rows `step` would append for this item.
     pub fn most(&self, item: &Item) -> u64
         ensures value { result ≡ most_of self.now item.now }
-        ensures enough { (before : List Item) → length (answer self.now.spec before item.now) ≤ result }
+        ensures enough { (before : List Item) → IsOpen before → StandsFor self.now before → length (answer self.now.spec before item.now) ≤ result }
     {
         match item {
             Item::Row { .. } => 1,
             Item::Mark { .. } => 0,
-            Item::End { .. } => self.totals.len() as u64,
+            Item::End { .. } => self.key_count() as u64,
         }
     }
 
-    /// Takes the next item, and appends the rows that answer it. After want of memory the state and
-    /// `out` are as before.
+    // For how many keys something is kept.
+    fn key_count(&self) -> usize
+        ensures { result ≡ key_count self.now }
+    {
+        match &self.operator {
+            Operator::Keep { .. } => 0,
+            Operator::Total { totals, .. } => totals.len(),
+            Operator::Last { last_rows, .. } => last_rows.len(),
+            Operator::Window { windows, .. } => windows.len(),
+            Operator::Crossing { totals, .. } => totals.len(),
+        }
+    }
+
+    /// Takes the next item, and appends the rows that answer it.
     pub fn step(&mut self, item: Item, out: &mut Vec<Row>) -> Result<(), OutOfMemory>
+        requires { IsTimely item }
         ensures answers { OnOk result ((before : List Item) → IsOpen before → StandsFor self.old before
             → out.new.items ≡ out.old.items ++ answer self.old.spec before item) }
         ensures stands { OnOk result ((before : List Item) → IsOpen before → StandsFor self.old before
@@ -67,71 +138,96 @@ impl OpState {
         ensures spec { self.new.spec ≡ self.old.spec }
         ensures err { OnErr result ((self.new ≡ self.old) × (out.new.items ≡ out.old.items)) }
     {
-        out.reserve(1)?;
         match item {
-            Item::Row { row, .. } => match self.spec {
-                OpSpec::Keep {
-                    column,
-                    compare,
-                    limit,
-                } => {
-                    if compare.holds(row.get(column), limit) {
-                        out.push_reserved(row);
-                    }
-                    Ok(())
+            Item::Row { row, .. } => {
+                out.reserve(1)?;
+                if let Some(answer) = self.take(&row)? {
+                    out.push_reserved(answer);
                 }
-                OpSpec::Total { by } => {
-                    let key = by.key(&row);
-                    let sums = count(&mut self.totals, key, &row)?;
-                    out.push_reserved(sums.row(&row, key));
-                    Ok(())
-                }
-            },
+                Ok(())
+            }
             Item::Mark { .. } => Ok(()),
-            Item::End { .. } => Ok(()),
+            Item::End { .. } => {
+                self.finish(out)?;
+                Ok(())
+            }
         }
     }
-}
 
-impl Sums {
-    ghost use Rattle.stream_ops.specs.Answers.{sums_row};
-    ghost use Rattle.stream_ops.specs.State.{sums_with};
-
-    // The sums with one more row.
-    fn with(self, row: &Row) -> Sums
-        ensures { result ≡ sums_with self row.now }
+    // Appends the rows that answer the end.
+    fn finish(&self, out: &mut Vec<Row>) -> Result<(), OutOfMemory>
+        ensures answers { OnOk result ((before : List Item) → StandsFor self.now before
+            → out.new.items ≡ out.old.items ++ end_answer self.now.spec before) }
+        ensures err { OnErr result (out.new.items ≡ out.old.items) }
     {
-        Sums {
-            qty: saturating_sum_of(self.qty, row.qty),
-            value: saturating_sum_of(self.value, row.value),
+        match &self.operator {
+            Operator::Keep { .. } => Ok(()),
+            Operator::Total { .. } => Ok(()),
+            Operator::Last { .. } => Ok(()),
+            Operator::Window { windows, .. } => {
+                write_windows(windows, out)?;
+                Ok(())
+            }
+            Operator::Crossing { .. } => Ok(()),
         }
     }
 
-    // The row that tells a key's sums at the time of a row.
-    fn row(self, at: &Row, key: Key) -> Row
-        ensures { result ≡ sums_row at.now.time key self }
+    // Takes the next row, and gives the row that answers it, if any.
+    fn take(&mut self, row: &Row) -> Result<Option<Row>, OutOfMemory>
+        requires { IsTime row.now.time }
+        ensures answers { IfOk result (λ answered. (before : List Item) → StandsFor self.old before
+            → answered ≡ row_answer self.old.spec before row.now) }
+        ensures stands { OnOk result ((before : List Item) (stamp : ℕ) → StandsFor self.old before
+            → StandsFor self.new (before ++ item.Row stamp row.now ∷ [])) }
+        ensures spec { self.new.spec ≡ self.old.spec }
+        ensures err { OnErr result (self.new ≡ self.old) }
     {
-        Row {
-            time: at.time,
-            account: key.account,
-            symbol: key.symbol,
-            qty: self.qty,
-            value: self.value,
+        let alloc = self.alloc;
+        match self.operator {
+            Operator::Keep {
+                column,
+                compare,
+                limit,
+            } => {
+                if compare.holds(row.get(column), limit) {
+                    Ok(Some(*row))
+                } else {
+                    Ok(None)
+                }
+            }
+            Operator::Total { by, ref mut totals } => {
+                let key = by.key(row);
+                let sums = count(totals, key, row)?;
+                Ok(Some(sums.row(&row.time, &key)))
+            }
+            Operator::Last {
+                by,
+                rows,
+                ref mut last_rows,
+            } => {
+                let key = by.key(row);
+                let sums = push(alloc, last_rows, key, &rows, row)?;
+                Ok(Some(sums.row(&row.time, &key)))
+            }
+            Operator::Window {
+                by,
+                width,
+                ref mut windows,
+            } => {
+                let key = by.key(row);
+                let closed = note(windows, key, &width, row)?;
+                Ok(closing(&closed, &key))
+            }
+            Operator::Crossing {
+                by,
+                limit,
+                ref mut totals,
+            } => {
+                let key = by.key(row);
+                let before = sums_at(totals, &key);
+                let after = count(totals, key, row)?;
+                Ok(crossing(&before, &after, &limit, &row.time, &key))
+            }
         }
     }
-}
-
-// Counts a row into the sums of its key, and gives them.
-fn count(totals: &mut BTreeMap<Key, Sums>, key: Key, row: &Row) -> Result<Sums, OutOfMemory>
-    ensures sums { IfOk result (λ sums. sums ≡ with_row (get key_cmp totals.old key) row.now) }
-    ensures updates { IfOk result (λ sums. Updates key_cmp totals.old totals.new key (Some sums)) }
-    ensures err { OnErr result (totals.new.entries ≡ totals.old.entries) }
-{
-    let had = totals
-        .get(&key)
-        .copied()
-        .unwrap_or(Sums { qty: 0, value: 0 });
-    let sums = had.with(row);
-    totals.insert(key, sums)?;
-    Ok(sums)
 }

@@ -1,0 +1,116 @@
+// The open window of a key.
+ghost use Rattle.std.specs.Int.{w64};
+ghost use Rattle.std.specs.Prelude.{◌≡◌, ◌*ℤ◌, ◌≤ℤ◌, pos, FitsSigned};
+ghost use Rattle.stream_ops.specs.Windows.{window_of};
+
+use crate::Sums;
+use tuple_edge::{Key, Row};
+
+/// A key's open window, with the sums of its rows.
+#[derive(Clone, Copy, Debug, PartialEq, Eq)]
+pub struct OpenWindow {
+    /// The window's number: the greatest time / width, rounded down, of the key's rows.
+    pub number: i64,
+    /// The time at which it starts, in seconds: number times width.
+    pub start: i64,
+    pub sums: Sums,
+}
+
+// The number of the window that a row's time lies in.
+fn window_at(width: &i64, row: &Row) -> i64
+    requires { pos 1 ≤ℤ width.now }
+    ensures { result ≡ window_of width.now row.now }
+{
+    row.time.div_euclid(*width)
+}
+
+// The time at which a window starts.
+fn start_of(number: &i64, width: &i64) -> i64
+    requires { FitsSigned w64 (number.now *ℤ width.now) }
+    ensures { result ≡ number.now *ℤ width.now }
+{
+    *number * *width
+}
+
+impl OpenWindow {
+    ghost use Rattle.stream_ops.specs.Spec.{IsSpec};
+    ghost use Rattle.stream_ops.specs.Steps.{closed_by, opened_by, sums_with, told_window, window_with};
+    ghost use Rattle.stream_ops.specs.Sums.{amounts};
+    ghost use Rattle.stream_ops.specs.Times.{IsTime};
+    ghost use Rattle.stream_ops.specs.declared.spec.TheConstants.{MAX_WINDOW_SECONDS};
+
+    // The window that a row opens.
+    pub(crate) fn at(width: &i64, row: &Row) -> OpenWindow
+        requires timely { IsTime row.now.time }
+        requires width { (pos 1 ≤ℤ width.now) × (width.now ≤ℤ MAX_WINDOW_SECONDS) }
+        ensures { result ≡ opened_by width.now row.now }
+    {
+        let number = window_at(width, row);
+        OpenWindow::starting(
+            &number,
+            &start_of(&number, width),
+            &Sums::none().with(&Sums::of(row)),
+        )
+    }
+
+    fn starting(number: &i64, start: &i64, sums: &Sums) -> OpenWindow
+        ensures { result ≡ record { number = number.now; start = start.now; sums = sums.now } }
+    {
+        OpenWindow {
+            number: *number,
+            start: *start,
+            sums: *sums,
+        }
+    }
+
+    // The window with one more row.
+    fn with(&self, row: &Row) -> OpenWindow
+        ensures { result ≡ record { number = self.now.number; start = self.now.start; sums = sums_with self.now.sums (amounts row.now) } }
+    {
+        OpenWindow {
+            number: self.number,
+            start: self.start,
+            sums: self.sums.with(&Sums::of(row)),
+        }
+    }
+
+    // The open window after a row, which alone would open this one: a late row counts into the
+    // window that is open.
+    pub(crate) fn joining(&self, had: &Option<OpenWindow>, row: &Row) -> OpenWindow
+        ensures { result ≡ window_with had.now self.now row.now }
+    {
+        match had {
+            Some(open) => {
+                if open.number < self.number {
+                    *self
+                } else {
+                    open.with(row)
+                }
+            }
+            None => *self,
+        }
+    }
+
+    // The window that closes where this one opens.
+    pub(crate) fn closing(&self, had: &Option<OpenWindow>) -> Option<OpenWindow>
+        ensures { result ≡ closed_by had.now self.now }
+    {
+        match had {
+            Some(open) => {
+                if self.number > open.number {
+                    Some(*open)
+                } else {
+                    None
+                }
+            }
+            None => None,
+        }
+    }
+
+    // The row that tells of the window.
+    pub(crate) fn row(&self, key: &Key) -> Row
+        ensures { result ≡ told_window key.now self.now }
+    {
+        self.sums.row(&self.start, key)
+    }
+}
