@@ -1,0 +1,12 @@
+pub mod AfterNext
+pub mod Alone
+pub mod Choices
+pub mod Counts
+pub mod Fewer
+pub mod Forms
+pub mod Heads
+pub mod Rest
+pub mod RunLaw
+pub mod Standing
+pub mod Step
+pub mod Taken

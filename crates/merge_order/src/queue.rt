@@ -1,0 +1,96 @@
+// The items that wait on one edge, as a queue that contracts see as a list.
+ghost use Rattle.std.specs.Prelude.{◌≡◌, ◌∷◌, ◌++◌, [], OnErr, OnOk, drop, length, map, slice_get};
+ghost use Rattle.merge_order.specs.MergeView.{is_alike, without};
+
+use std::alloc::Global;
+use std::collections::VecDeque;
+use std::marker::Model;
+use tuple_edge::{Item, OutOfMemory};
+
+/// The items that wait on an edge, in order.
+#[derive(Drop)]
+pub(crate) struct Queue {
+    items: VecDeque<Item>,
+}
+
+impl Model for Queue {
+    ghost use Rattle.std.specs.Prelude.{List};
+    ghost use Rattle.tuple_edge.specs.declared.item.Item.{Item};
+
+    ghost Value = { List Item };
+
+    ghost view = { λ queue. queue.items.items };
+}
+
+impl Queue {
+    pub(crate) fn new(alloc: Global) -> Queue
+        ensures { result ≡ [] }
+    {
+        Queue {
+            items: VecDeque::new(alloc),
+        }
+    }
+
+    pub(crate) fn len(&self) -> u64
+        ensures { result ≡ length self.now }
+    {
+        self.items.len() as u64
+    }
+
+    /// The item at a place, from 0.
+    pub(crate) fn get(&self, nth: usize) -> Option<Item>
+        ensures { result ≡ slice_get self.now nth }
+    {
+        self.items.get(nth).copied()
+    }
+
+    pub(crate) fn push(&mut self, item: Item) -> Result<(), OutOfMemory>
+        ensures pushed { OnOk result (self.new ≡ self.old ++ item ∷ []) }
+        ensures unchanged { OnErr result (self.new ≡ self.old) }
+    {
+        self.items.push_back(item)?;
+        Ok(())
+    }
+
+    /// Takes the first item away.
+    pub(crate) fn pop(&mut self)
+        ensures { self.new ≡ drop 1 self.old }
+    {
+        let _ = self.items.pop_front();
+    }
+
+    // Takes the first item away where it is this mark or this end.
+    fn pop_sign(&mut self, sign: &Item)
+        ensures { self.new ≡ without sign.now self.old }
+    {
+        match self.get(0) {
+            None => {}
+            Some(first) => {
+                if is_alike(sign, &first) {
+                    self.pop();
+                }
+            }
+        }
+    }
+}
+
+// Whether two items have one kind and one stamp.
+fn is_alike(item: &Item, other: &Item) -> bool
+    ensures { result ≡ is_alike item.now other.now }
+{
+    match (item, other) {
+        (Item::Row { .. }, Item::Row { .. })
+        | (Item::Mark { .. }, Item::Mark { .. })
+        | (Item::End { .. }, Item::End { .. }) => item.stamp() == other.stamp(),
+        _ => false,
+    }
+}
+
+/// Takes this mark or this end away from each queue that has it first.
+pub(crate) fn pop_signs(queues: &mut [Queue], sign: &Item)
+    ensures { queues.new ≡ map (without sign.now) queues.old }
+{
+    for queue in queues.iter_mut() {
+        queue.pop_sign(sign);
+    }
+}
