@@ -1,7 +1,7 @@
--- The grammar of the lines of a plan, over their words.
-use Rattle.std.specs.Prelude.{ℕ, ℤ, ◌≡◌, ◌==◌, List, [], ◌∷◌, Option, Some, None, Result, Ok, Err, codes, if◌then◌else◌}
+-- The words of a plan's lines, from the left: each gives a value or a fault, whose line isn't known here.
+use Rattle.std.specs.Prelude.{ℕ, ℤ, pos, ◌≡◌, ◌==◌, ◌&&◌, nat_le, List, [], ◌∷◌, Option, Some, None, Result, Ok, Err, codes, unsigned_abs, if◌then◌else◌}
 use Rattle.std.specs.Str.{bytes_eq}
-use Rattle.std.specs.Borrow.{Bor}
+use Rattle.tuple_edge.specs.Sum.{big}
 use Rattle.tuple_edge.specs.declared.row.Column.{Column}
 use Rattle.tuple_edge.specs.declared.row.Column.TheVariants as column
 use Rattle.stream_ops.specs.declared.spec.By.{By}
@@ -10,157 +10,145 @@ use Rattle.stream_ops.specs.declared.spec.Compare.{Compare}
 use Rattle.stream_ops.specs.declared.spec.Compare.TheVariants as compare
 use Rattle.stream_ops.specs.declared.spec.OpSpec.{OpSpec}
 use Rattle.stream_ops.specs.declared.spec.OpSpec.TheVariants as op
-use Rattle.plan_reader.specs.Lines.{words_of}
-use Rattle.plan_reader.specs.Numbers.{limit_named, number_of}
-use Rattle.plan_reader.specs.declared.plan.PlanError.{PlanError}
-use Rattle.plan_reader.specs.declared.plan.PlanError.TheVariants as error
-use Rattle.plan_reader.specs.declared.plan.Stage.{Stage}
+use Rattle.stream_ops.specs.declared.spec.TheConstants.{MAX_LAST_ROWS, MAX_WINDOW_SECONDS}
+use Rattle.plan_reader.specs.Lines.{Word}
+use Rattle.plan_reader.specs.Numbers.{number_of, signed_number_of}
+use Rattle.plan_reader.specs.Reading.{◌>>=◌}
+use Rattle.plan_reader.specs.declared.error.Fault.{Fault}
+use Rattle.plan_reader.specs.declared.error.Fault.TheVariants as fault
 
--- what is said of a fault
-abbrev pub plan_fault : PlanError → List ℕ
-plan_fault error.OutOfMemory = codes "out of memory"
-plan_fault error.NotBuilt = codes "not built"
-
-abbrev pub Word : Type 0
-Word = List ℕ
-
--- a value or the first fault from the left
+-- a value and the words after it, or the fault of the first word that is refused
 abbrev pub Read : Type 0 → Type 0
-Read A = Result A PlanError
+Read A = Result (A × List Word) Fault
 
-infixl 10 ◌>>=◌
-abbrev pub ◌>>=◌ : {A B : Type 0} → Read A → (A → Read B) → Read B
-(Ok x) >>= f = f x
-(Err e) >>= f = Err e
-
--- What a function returned, seen by view, is what reading gives, unless memory ran out.
-abbrev pub Fails : {A : Type 0} → PlanError → Read A → Type 0
-Fails error.OutOfMemory read = Unit {0}
-Fails error.NotBuilt read = read ≡ Err error.NotBuilt
-
-abbrev pub Gives : {X A : Type 0} → (X → A) → Read X → Read A → Type 0
-Gives view (Ok x) read = read ≡ Ok (view x)
-Gives view (Err e) read = Fails e read
-
--- a value and the words after it
-abbrev pub after : {A : Type 0} → A × Bor (List ℕ) → A × List Word
-after x = (x.0, words_of x.1.now)
-
-abbrev pub word_after : Bor (List ℕ) × Bor (List ℕ) → Word × List Word
-word_after x = (x.0.now, words_of x.1.now)
-
-abbrev pub word_at : List Word → Read (Word × List Word)
-word_at [] = Err error.NotBuilt
+-- a word; none is a fault of grammar
+abbrev pub word_at : List Word → Read Word
+word_at [] = Err fault.Grammar
 word_at (word ∷ words) = Ok (word, words)
 
+-- no word
 abbrev pub end_at : List Word → Read (Unit {0})
-end_at [] = Ok tt
-end_at (word ∷ words) = Err error.NotBuilt
+end_at [] = Ok (tt, [])
+end_at (word ∷ words) = Err fault.Grammar
 
--- a word that has to stand here
-unfoldable pub fixed_at : Word → List Word → Read (List Word)
+-- a word that is fixed
+unfoldable pub fixed_at : Word → List Word → Read (Unit {0})
 fixed_at text words = do
   w ← word_at words
-  if bytes_eq w.0 text then Ok w.1 else Err error.NotBuilt
+  if bytes_eq w.0 text then Ok (tt, w.1) else Err fault.Grammar
 
--- the number 1
-abbrev pub is_one : {A : Type 0} → Option ℕ → A → Read A
-is_one None x = Err error.NotBuilt
-is_one (Some n) x = if n == 1 then Ok x else Err error.NotBuilt
+-- ---- numbers
 
-unfoldable pub one_at : List Word → Read (List Word)
-one_at words = do
+-- the value of a word in a number's place
+abbrev pub valued : {A : Type 0} → Option A → List Word → Read A
+valued None words = Err fault.Number
+valued (Some n) words = Ok (n, words)
+
+unfoldable pub number_at : List Word → Read ℕ
+number_at words = do
   w ← word_at words
-  is_one (number_of w.0) w.1
+  valued (number_of w.0) w.1
 
-abbrev pub column_named : Word → Read Column
-column_named w =
-    if bytes_eq w (codes "time") then Ok column.Time
-    else if bytes_eq w (codes "account") then Ok column.Account
-    else if bytes_eq w (codes "symbol") then Ok column.Symbol
-    else if bytes_eq w (codes "qty") then Ok column.Qty
-    else if bytes_eq w (codes "value") then Ok column.Value
-    else Err error.NotBuilt
+-- a number from low to high
+unfoldable pub number_within : ℕ → ℕ → List Word → Read ℕ
+number_within low high words = do
+  n ← number_at words
+  if nat_le low n.0 && nat_le n.0 high then Ok n else Err fault.Range
 
-unfoldable pub column_at : List Word → Read (Column × List Word)
-column_at words = do
-  w ← word_at words
-  c ← column_named w.0
-  Ok (c, w.1)
-
-abbrev pub by_named : Word → Read By
-by_named w =
-    if bytes_eq w (codes "account") then Ok by.Account
-    else if bytes_eq w (codes "symbol") then Ok by.Symbol
-    else if bytes_eq w (codes "both") then Ok by.Both
-    else Err error.NotBuilt
-
-unfoldable pub by_at : List Word → Read (By × List Word)
-by_at words = do
-  w ← word_at words
-  b ← by_named w.0
-  Ok (b, w.1)
-
-abbrev pub compare_named : Word → Read Compare
-compare_named w =
-    if bytes_eq w (codes "<") then Ok compare.Less
-    else if bytes_eq w (codes "<=") then Ok compare.AtMost
-    else if bytes_eq w (codes "=") then Ok compare.Equal
-    else if bytes_eq w (codes "!=") then Ok compare.Unequal
-    else if bytes_eq w (codes ">=") then Ok compare.AtLeast
-    else if bytes_eq w (codes ">") then Ok compare.Greater
-    else Err error.NotBuilt
-
-unfoldable pub compare_at : List Word → Read (Compare × List Word)
-compare_at words = do
-  w ← word_at words
-  c ← compare_named w.0
-  Ok (c, w.1)
-
-abbrev pub limit_or_fault : {A : Type 0} → Option ℤ → A → Read (ℤ × A)
-limit_or_fault None rest = Err error.NotBuilt
-limit_or_fault (Some z) rest = Ok (z, rest)
-
-unfoldable pub limit_at : List Word → Read (ℤ × List Word)
+-- a number within the bounds of a field, with a minus where it is negative
+unfoldable pub limit_at : List Word → Read ℤ
 limit_at words = do
   w ← word_at words
-  limit_or_fault (limit_named w.0) w.1
+  z ← valued (signed_number_of w.0) w.1
+  if nat_le (unsigned_abs z.0) big then Ok z else Err fault.Range
 
-unfoldable pub keep_at : List Word → Read (OpSpec × List Word)
+-- ---- names
+
+-- what a word of a list of names stands for
+abbrev pub listed : {A : Type 0} → Option A → List Word → Read A
+listed None words = Err fault.UnknownWord
+listed (Some x) words = Ok (x, words)
+
+abbrev pub column_named : Word → Option Column
+column_named w =
+    if bytes_eq w (codes "time") then Some column.Time
+    else if bytes_eq w (codes "account") then Some column.Account
+    else if bytes_eq w (codes "symbol") then Some column.Symbol
+    else if bytes_eq w (codes "qty") then Some column.Qty
+    else if bytes_eq w (codes "value") then Some column.Value
+    else None
+
+unfoldable pub column_at : List Word → Read Column
+column_at words = do
+  w ← word_at words
+  listed (column_named w.0) w.1
+
+abbrev pub by_named : Word → Option By
+by_named w =
+    if bytes_eq w (codes "account") then Some by.Account
+    else if bytes_eq w (codes "symbol") then Some by.Symbol
+    else if bytes_eq w (codes "both") then Some by.Both
+    else None
+
+unfoldable pub by_at : List Word → Read By
+by_at words = do
+  w ← word_at words
+  listed (by_named w.0) w.1
+
+abbrev pub compare_named : Word → Option Compare
+compare_named w =
+    if bytes_eq w (codes "<") then Some compare.Less
+    else if bytes_eq w (codes "<=") then Some compare.AtMost
+    else if bytes_eq w (codes "=") then Some compare.Equal
+    else if bytes_eq w (codes "!=") then Some compare.Unequal
+    else if bytes_eq w (codes ">=") then Some compare.AtLeast
+    else if bytes_eq w (codes ">") then Some compare.Greater
+    else None
+
+unfoldable pub compare_at : List Word → Read Compare
+compare_at words = do
+  w ← word_at words
+  listed (compare_named w.0) w.1
+
+-- ---- operators
+
+unfoldable pub keep_at : List Word → Read OpSpec
 keep_at words = do
   column ← column_at words
   compare ← compare_at column.1
   limit ← limit_at compare.1
   Ok (op.Keep column.0 compare.0 limit.0, limit.1)
 
-unfoldable pub total_at : List Word → Read (OpSpec × List Word)
+unfoldable pub total_at : List Word → Read OpSpec
 total_at words = do
   by ← by_at words
   Ok (op.Total by.0, by.1)
 
-unfoldable pub op_at : List Word → Read (OpSpec × List Word)
+unfoldable pub last_at : List Word → Read OpSpec
+last_at words = do
+  by ← by_at words
+  rows ← number_within 1 MAX_LAST_ROWS by.1
+  Ok (op.Last by.0 rows.0, rows.1)
+
+unfoldable pub window_at : List Word → Read OpSpec
+window_at words = do
+  by ← by_at words
+  width ← number_within 1 (unsigned_abs MAX_WINDOW_SECONDS) by.1
+  Ok (op.Window by.0 (pos width.0), width.1)
+
+unfoldable pub crossing_at : List Word → Read OpSpec
+crossing_at words = do
+  by ← by_at words
+  limit ← number_within 0 big by.1
+  Ok (op.Crossing by.0 (pos limit.0), limit.1)
+
+-- an operator and its settings
+unfoldable pub op_at : List Word → Read OpSpec
 op_at words = do
   w ← word_at words
   if bytes_eq w.0 (codes "keep") then keep_at w.1
       else if bytes_eq w.0 (codes "total") then total_at w.1
-      else Err error.NotBuilt
-
--- the first line
-unfoldable pub version_at : List Word → Read (Unit {0})
-version_at words = do
-  rest ← fixed_at (codes "flux") words
-  rest' ← one_at rest
-  end_at rest'
-
--- the line of the one stage that is built
-unfoldable pub stage_at : List Word → Read Stage
-stage_at words = do
-  number ← fixed_at (codes "stage") words
-  parts ← one_at number
-  count ← fixed_at (codes "parts") parts
-  by ← one_at count
-  name ← fixed_at (codes "by") by
-  column ← column_at name
-  what ← op_at column.1
-  end ← end_at what.1
-  Ok (record { parts = 1; by = column.0; op = what.0 })
+      else if bytes_eq w.0 (codes "last") then last_at w.1
+      else if bytes_eq w.0 (codes "window") then window_at w.1
+      else if bytes_eq w.0 (codes "crossing") then crossing_at w.1
+      else Err fault.UnknownWord

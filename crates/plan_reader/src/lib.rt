@@ -1,13 +1,36 @@
-//! The text of a plan: its lines and words, and how it is read.
+//! The text of a plan: it is read, or refused by its first fault, and written again. Beside it stand
+//! the readers of lines, words and number words that all texts of this repository share.
 //!
-//! It promises that a text is read as its definition over lines and words says. It stands on tuple_edge
-//! and stream_ops.
+//! It promises that every text is read as its definition says, the value or the first fault with its
+//! line; that every plan is within the limits; that a plan's canonical text reads back as the plan;
+//! and which nodes and links a plan has. It stands on `tuple_edge` for nodes and columns, and on
+//! `stream_ops` for what an operator is told.
 #![tactic(auto)]
 
+mod draft;
+mod error;
+mod limits;
 mod lines;
+mod nodes;
+mod numbers;
 mod plan;
+mod read;
+mod stage;
+mod statement;
 mod words;
+mod write;
 
-pub use lines::{next_counting_line, next_word};
-pub use plan::{MAX_PLAN_BYTES, Plan, PlanError, Stage, read_plan};
-pub use words::number_of;
+pub use error::PlanError;
+pub use limits::{
+    DEFAULT_HOLD, DEFAULT_MARK, EDGES_PER_MARK, MAX_HOLD, MAX_MARK, MAX_PARTS, MAX_PLAN_BYTES,
+    MAX_STAGES, MIN_HOLD,
+};
+pub use lines::{Line, Lines, Words};
+pub use numbers::{number_of, signed_number_of};
+pub use plan::Plan;
+pub use read::read_plan;
+pub use stage::Stage;
+pub use write::{canonical_text_reads_back, write_plan};
+
+#[cfg(test)]
+mod tests;

@@ -1,0 +1,100 @@
+-- The canonical words of a plan read back as the plan.
+use Rattle.std.proofs.Common.{ℕ, suc, ℤ, pos, negsuc, ◌≡◌, ◌<◌, ◌≤◌, ◌+◌, ◌*◌, ◌==◌, ◌&&◌, nat_lt, Bool, true, false, List, [], ◌∷◌, ◌++◌, length, map, refl, sym, ap, ◌∙◌, arith, append_assoc}
+use Rattle.std.specs.Prelude.{Option, Some, None, Result, Ok, Err, nat_le, unsigned_abs, ◌≤ℤ◌, All, codes}
+use Rattle.std.specs.Fmt.{decimal, signed_decimal}
+use Rattle.std.proofs.lemmas.Bool.Decides.{nat_tests}
+use Rattle.std.proofs.lemmas.Int.{ints}
+use Rattle.stream_ops.specs.Spec.{IsSpec}
+use Rattle.stream_ops.specs.declared.spec.By.{By}
+use Rattle.stream_ops.specs.declared.spec.By.TheVariants as by
+use Rattle.stream_ops.specs.declared.spec.Compare.{Compare}
+use Rattle.stream_ops.specs.declared.spec.Compare.TheVariants as compare
+use Rattle.stream_ops.specs.declared.spec.OpSpec.{OpSpec}
+use Rattle.stream_ops.specs.declared.spec.OpSpec.TheVariants as op
+use Rattle.stream_ops.specs.declared.spec.TheConstants.{MAX_LAST_ROWS, MAX_WINDOW_SECONDS}
+use Rattle.tuple_edge.specs.Sum.{IsWithin, big}
+use Rattle.tuple_edge.specs.declared.row.Column.{Column}
+use Rattle.tuple_edge.specs.declared.row.Column.TheVariants as column
+use Rattle.plan_reader.specs.Grammar.{by_at, column_at, compare_at, crossing_at, fixed_at, keep_at, last_at, limit_at, number_at, number_within, op_at, total_at, window_at}
+use Rattle.plan_reader.specs.Lines.{Word}
+use Rattle.plan_reader.specs.Plan.{Said, stage_at, stage_number_at}
+use Rattle.plan_reader.specs.PlanView.{IsLimit, IsStage}
+use Rattle.plan_reader.specs.Text.{by_name, column_name, compare_name, op_words, stage_words}
+use Rattle.plan_reader.specs.declared.limits.TheConstants.{MAX_PARTS, MAX_STAGES}
+use Rattle.plan_reader.specs.declared.stage.Stage.{Stage}
+use Rattle.plan_reader.proofs.NumberWords.{number_of_decimal, signed_number_of_decimal}
+
+-- ---- words
+
+pub number_back : (n : ℕ) (rest : List Word) → n < 10000000000000000000 → number_at (decimal n ∷ rest) ≡ Ok (n, rest)
+unfolding number_at
+number_back n rest small = rw (number_of_decimal n small) refl
+
+pub number_within_back : (low high n : ℕ) (rest : List Word) → low ≤ n → n ≤ high → high < 10000000000000000000 → number_within low high (decimal n ∷ rest) ≡ Ok (n, rest)
+unfolding number_within
+number_within_back low high n rest above below small =
+    let least : nat_le low n ≡ true = grind (arith, nat_tests) in
+    let most : nat_le n high ≡ true = grind (arith, nat_tests) in
+    rw (number_back n rest (omega (arith, below, small)), least, most) refl
+
+limit_back : (z : ℤ) (rest : List Word) → IsWithin z → limit_at (signed_decimal z ∷ rest) ≡ Ok (z, rest)
+unfolding limit_at
+limit_back z rest within =
+    let small : unsigned_abs z ≤ big = omega (arith, ints, within.low, within.high) in
+    let test : nat_le (unsigned_abs z) big ≡ true = grind (arith, nat_tests) in
+    rw (signed_number_of_decimal z (omega (arith, small)), test) refl
+
+pub column_back : (c : Column) (rest : List Word) → column_at (column_name c ∷ rest) ≡ Ok (c, rest)
+unfolding column_at
+column_back column.Time rest = refl
+column_back column.Account rest = refl
+column_back column.Symbol rest = refl
+column_back column.Qty rest = refl
+column_back column.Value rest = refl
+
+by_back : (b : By) (rest : List Word) → by_at (by_name b ∷ rest) ≡ Ok (b, rest)
+unfolding by_at
+by_back by.Account rest = refl
+by_back by.Symbol rest = refl
+by_back by.Both rest = refl
+
+compare_back : (c : Compare) (rest : List Word) → compare_at (compare_name c ∷ rest) ≡ Ok (c, rest)
+unfolding compare_at
+compare_back compare.Less rest = refl
+compare_back compare.AtMost rest = refl
+compare_back compare.Equal rest = refl
+compare_back compare.Unequal rest = refl
+compare_back compare.AtLeast rest = refl
+compare_back compare.Greater rest = refl
+
+-- ---- operators
+
+keep_back : (c : Column) (k : Compare) (z : ℤ) → IsWithin z → keep_at (column_name c ∷ compare_name k ∷ signed_decimal z ∷ []) ≡ Ok (op.Keep c k z, [])
+unfolding keep_at
+keep_back c k z within = rw (column_back c (compare_name k ∷ signed_decimal z ∷ []), compare_back k (signed_decimal z ∷ []), limit_back z [] within) refl
+
+total_back : (b : By) → total_at (by_name b ∷ []) ≡ Ok (op.Total b, [])
+unfolding total_at
+total_back b = rw (by_back b []) refl
+
+last_back : (b : By) (rows : ℕ) → 1 ≤ rows → rows ≤ MAX_LAST_ROWS → last_at (by_name b ∷ decimal rows ∷ []) ≡ Ok (op.Last b rows, [])
+unfolding last_at
+last_back b rows low high = rw (by_back b (decimal rows ∷ []), number_within_back 1 MAX_LAST_ROWS rows [] low high (omega arith)) refl
+
+window_back : (b : By) (n : ℕ) → 1 ≤ n → n ≤ unsigned_abs MAX_WINDOW_SECONDS → window_at (by_name b ∷ decimal n ∷ []) ≡ Ok (op.Window b (pos n), [])
+unfolding window_at
+window_back b n low high = rw (by_back b (decimal n ∷ []), number_within_back 1 (unsigned_abs MAX_WINDOW_SECONDS) n [] low high (omega arith)) refl
+
+crossing_back : (b : By) (n : ℕ) → n ≤ big → crossing_at (by_name b ∷ decimal n ∷ []) ≡ Ok (op.Crossing b (pos n), [])
+unfolding crossing_at
+crossing_back b n high = rw (by_back b (decimal n ∷ []), number_within_back 0 big n [] (omega arith) high (omega arith)) refl
+
+pub op_back : (o : OpSpec) → IsSpec o → IsLimit o → op_at (op_words o) ≡ Ok (o, [])
+unfolding op_at
+op_back (op.Keep c k z) spec limit = keep_back c k z limit
+op_back (op.Total b) spec limit = total_back b
+op_back (op.Last b rows) spec limit = last_back b rows spec.0 spec.1
+op_back (op.Window b (pos n)) spec limit = window_back b n (omega (arith, ints, spec.0)) (omega (arith, ints, spec.1))
+op_back (op.Window b (negsuc n)) spec limit = absurd (omega (arith, ints, spec.0))
+op_back (op.Crossing b (pos n)) spec limit = crossing_back b n (omega (arith, ints, limit.high))
+op_back (op.Crossing b (negsuc n)) spec limit = absurd (omega (arith, ints, spec))

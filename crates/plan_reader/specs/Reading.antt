@@ -1,0 +1,41 @@
+-- Reading from the left: a value, or the first fault.
+use Rattle.std.specs.Prelude.{◌≡◌, List, Result, Ok, Err}
+use Rattle.plan_reader.specs.Lines.{Word}
+use Rattle.plan_reader.specs.declared.error.PlanError.{PlanError}
+use Rattle.plan_reader.specs.declared.error.PlanError.TheVariants as error
+
+infixl 10 ◌>>=◌
+abbrev pub ◌>>=◌ : {A B E : Type 0} → Result A E → (A → Result B E) → Result B E
+(Ok x) >>= f = f x
+(Err e) >>= f = Err e
+
+-- What a reader gave, seen by view, is what reading gives, and it left the words that are left then.
+abbrev pub TakesBy : {X A E : Type 0} → (X → A) → List Word → Result X E → Result (A × List Word) E → Type 0
+TakesBy view left (Ok x) read = read ≡ Ok (view x, left)
+TakesBy view left (Err e) read = read ≡ Err e
+
+-- the same of a value that is seen as it is
+abbrev pub Takes : {A E : Type 0} → List Word → Result A E → Result (A × List Word) E → Type 0
+Takes left result read = TakesBy (λ x. x) left result read
+
+-- what a reader gave, seen by view, is what reading gives
+abbrev pub Reads : {X A E : Type 0} → (X → A) → Result X E → Result A E → Type 0
+Reads view (Ok x) read = read ≡ Ok (view x)
+Reads view (Err e) read = read ≡ Err e
+
+-- this fault is the first one, unless memory ran out
+abbrev pub Fails : {A : Type 0} → PlanError → Result A PlanError → Type 0
+Fails (error.Grammar line) read = read ≡ Err (error.Grammar line)
+Fails (error.UnknownWord line) read = read ≡ Err (error.UnknownWord line)
+Fails (error.Number line) read = read ≡ Err (error.Number line)
+Fails (error.Range line) read = read ≡ Err (error.Range line)
+Fails error.NoStage read = read ≡ Err error.NoStage
+Fails (error.TooMany line) read = read ≡ Err (error.TooMany line)
+Fails (error.TooLong bytes) read = read ≡ Err (error.TooLong bytes)
+Fails (error.Crowded edges mark) read = read ≡ Err (error.Crowded edges mark)
+Fails error.OutOfMemory read = Unit {0}
+
+-- the same, unless memory ran out
+abbrev pub Gives : {X A : Type 0} → (X → A) → Result X PlanError → Result A PlanError → Type 0
+Gives view (Ok x) read = read ≡ Ok (view x)
+Gives view (Err e) read = Fails e read

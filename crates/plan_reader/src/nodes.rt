@@ -1,0 +1,133 @@
+// The nodes of a plan, and the links between them.
+ghost use Rattle.std.specs.Prelude.{◌≡◌, ◌≤◌, ◌+◌, length};
+ghost use Rattle.tuple_edge.specs.declared.node.NodeId.TheVariants as node;
+ghost use Rattle.plan_reader.specs.Nodes.{carries_any, has_link, has_node, has_pair, sources_of};
+
+use crate::Plan;
+use tuple_edge::{LinkId, NodeId, Which};
+
+impl Plan {
+    /// The number of edges into each partition of a stage: 1 for stage 1, and for each later one the
+    /// number of partitions of the stage before. The stage after the last is egress.
+    pub fn sources(&self, stage: u32) -> u32
+        requires low { 1 ≤ stage }
+        requires high { stage ≤ length self.now.stages + 1 }
+        ensures { result ≡ sources_of self.now stage }
+    {
+        if stage == 1 {
+            1
+        } else {
+            self.stages()[stage as usize - 2].parts
+        }
+    }
+
+    // Whether a pair runs this partition of this stage.
+    fn has_pair(&self, stage: u32, part: u32) -> bool
+        ensures { result ≡ has_pair self.now stage part }
+    {
+        let stages = self.stages();
+        if stage == 0 || stage as usize > stages.len() {
+            return false;
+        }
+        part < stages[stage as usize - 1].parts
+    }
+
+    /// Whether the plan has this node: ingress, for each partition of each stage two replicas and a
+    /// controller, and egress.
+    pub fn has(&self, node: NodeId) -> bool
+        ensures { result ≡ has_node self.now node }
+    {
+        match node {
+            NodeId::Ingress => true,
+            NodeId::Replica { stage, part, .. } => self.has_pair(stage, part),
+            NodeId::Control { stage, part } => self.has_pair(stage, part),
+            NodeId::Egress => true,
+        }
+    }
+
+    // Whether a link may go from ingress to this node.
+    fn leads_from_ingress(&self, to: NodeId) -> bool
+        ensures { result ≡ carries_any self.now node.Ingress to }
+    {
+        // A plan has a stage, so that nothing goes straight to egress.
+        let _ = self.stages();
+        match to {
+            NodeId::Ingress => false,
+            NodeId::Replica { stage, .. } => stage == 1,
+            NodeId::Control { .. } => false,
+            NodeId::Egress => false,
+        }
+    }
+
+    // Whether a link may go from egress to this node.
+    fn leads_from_egress(&self, to: NodeId) -> bool
+        ensures { result ≡ carries_any self.now node.Egress to }
+    {
+        let last = self.stages().len();
+        match to {
+            NodeId::Ingress => false,
+            NodeId::Replica { stage, .. } => stage as usize == last,
+            NodeId::Control { .. } => false,
+            NodeId::Egress => false,
+        }
+    }
+
+    // Whether a link may go from this replica to this node.
+    fn leads_from_replica(&self, stage: u32, part: u32, which: Which, to: NodeId) -> bool
+        ensures { result ≡ carries_any self.now (node.Replica stage part which) to }
+    {
+        let last = self.stages().len();
+        match to {
+            NodeId::Ingress => stage == 1,
+            NodeId::Replica {
+                stage: to_stage,
+                part: to_part,
+                which: to_which,
+            } => {
+                stage.abs_diff(to_stage) == 1
+                    || stage == to_stage && part == to_part && which != to_which
+            }
+            NodeId::Control {
+                stage: to_stage,
+                part: to_part,
+            } => stage == to_stage && part == to_part,
+            NodeId::Egress => stage as usize == last,
+        }
+    }
+
+    // Whether a link may go from this controller to this node.
+    fn leads_from_control(&self, stage: u32, part: u32, to: NodeId) -> bool
+        ensures { result ≡ carries_any self.now (node.Control stage part) to }
+    {
+        match to {
+            NodeId::Ingress => stage == 1,
+            NodeId::Replica {
+                stage: to_stage,
+                part: to_part,
+                ..
+            } => {
+                u64::from(stage) == u64::from(to_stage) + 1 || stage == to_stage && part == to_part
+            }
+            NodeId::Control { .. } => false,
+            NodeId::Egress => false,
+        }
+    }
+
+    /// Whether the plan has this link.
+    pub fn links(&self, link: LinkId) -> bool
+        ensures { result ≡ has_link self.now link }
+    {
+        let LinkId { from, to } = link;
+        if !self.has(from) || !self.has(to) {
+            return false;
+        }
+        match from {
+            NodeId::Ingress => self.leads_from_ingress(to),
+            NodeId::Replica { stage, part, which } => {
+                self.leads_from_replica(stage, part, which, to)
+            }
+            NodeId::Control { stage, part } => self.leads_from_control(stage, part, to),
+            NodeId::Egress => self.leads_from_egress(to),
+        }
+    }
+}
