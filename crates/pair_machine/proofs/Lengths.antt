@@ -1,0 +1,378 @@
+-- No stage sends more rows than there are trades, so each edge is short.
+use Rattle.std.proofs.Common.{◌≡◌, ◌<◌, ◌≤◌, ◌*◌, ℕ, zero, suc, Bool, true, false, List, [], ◌∷◌, ◌++◌, ◌+◌, Option, None, Some, get_or, length, map, refl, sym, ap, ◌∙◌, subst, arith, take, append_assoc}
+use Rattle.std.specs.Prelude.{All, filter, fold, if◌then◌else◌, ◌==◌, ◌||◌, ◌%◌}
+use Rattle.std.specs.List.{range_with_len}
+use Rattle.std.proofs.lemmas.Bool.{eqb-true, eqb-false}
+use Rattle.std.proofs.lemmas.List.{append-nil, length-append}
+use Rattle.std.proofs.lemmas.List.Elements.{All-head, All-tail, All-take}
+use Rattle.tuple_edge.specs.declared.item.Item.{Item}
+use Rattle.tuple_edge.specs.declared.item.Item.TheVariants as item
+use Rattle.tuple_edge.specs.declared.row.Row.{Row}
+use Rattle.tuple_edge.specs.Row.{route_of}
+use Rattle.tuple_edge.specs.Item.{stamp_of}
+use Rattle.merge_order.specs.Edges.{AllFrom, AreAlike, AreEdges, IsEdge}
+use Rattle.merge_order.specs.Merged.{Place, all_rows_at, has_mark_at, is_row_at, items, mark_at, merged, rows_at, stamp_at, stamps_upto}
+use Rattle.merge_order.proofs.Choices.{if_elim}
+use Rattle.merge_order.proofs.Forms.{items-append, merged_edge, merged_marks}
+use Rattle.merge_order.proofs.Taken.{mark_none, place, rows_cons, rows_if, some_mark_at}
+use Rattle.stream_ops.proofs.AnswerLaws.{length-answers}
+use Rattle.stream_ops.proofs.Counts.{rows_of-append}
+use Rattle.stream_ops.specs.Answers.{IsOpen, answer, answers, end_answer, rows_of}
+use Rattle.stream_ops.specs.declared.spec.OpSpec.{OpSpec}
+use Rattle.plan_reader.specs.PlanView.{IsPlan, PlanView}
+use Rattle.plan_reader.specs.declared.stage.Stage.{Stage}
+use Rattle.pair_machine.specs.Ingress.{last_stamp, mark_after, sent_by_ingress, sent_from}
+use Rattle.pair_machine.specs.Edges.{answered, edge, edge_to, edges_to, goes_to, merged_at, passed, sent_by, sent_by_part, sent_by_stage, stamped}
+use Rattle.pair_machine.proofs.Sending.{edges_to_edges, merged_part}
+use Rattle.pair_machine.proofs.Stages.{HasPart, Send, ingress_marks, ingress_sends, send_edges, sends, stage_sends, stages_have_parts}
+
+-- how many rows are among these items
+abbrev pub row_count : List Item → ℕ
+row_count is = length (rows_of is)
+
+-- and on all these lists
+abbrev pub all_row_count : List (List Item) → ℕ
+all_row_count [] = 0
+all_row_count (e ∷ es) = row_count e + all_row_count es
+
+row_count-append : (xs ys : List Item) → row_count (xs ++ ys) ≡ row_count xs + row_count ys
+row_count-append xs ys = ap length (rows_of-append xs ys) ∙ length-append (rows_of xs) (rows_of ys)
+
+abbrev place_count : List Place → ℕ
+place_count ps = row_count (items ps)
+
+place_count-append : (ps qs : List Place) → place_count (ps ++ qs) ≡ place_count ps + place_count qs
+place_count-append ps qs = ap row_count (items-append ps qs) ∙ row_count-append (items ps) (items qs)
+
+-- a merged list has no more rows than its edges ------------------------------------------
+
+abbrev as_one : Bool → ℕ
+as_one b = if b then 1 else 0
+
+-- how many rows of a stamp an edge has
+abbrev stamped_count : ℕ → List Item → ℕ
+stamped_count n [] = 0
+stamped_count n (i ∷ is) = as_one (is_row_at n i) + stamped_count n is
+
+rows_count : (n q : ℕ) (e : List Item) → place_count (rows_at n q e) ≡ stamped_count n e
+rows_count n q [] = refl
+rows_count n q (item.Row s r ∷ e) = ap place_count (rows_cons n q (item.Row s r) e) ∙ go (s == n) (rows_count n q e)
+  where
+    go : (b : Bool) → place_count (rows_at n q e) ≡ stamped_count n e → place_count (rows_if n q b (item.Row s r) e) ≡ as_one b + stamped_count n e
+    go true old = omega (arith, old)
+    go false old = omega (arith, old)
+rows_count n q (item.Mark s ∷ e) = omega (arith, rows_count n q e)
+rows_count n q (item.End s ∷ e) = omega (arith, rows_count n q e)
+
+abbrev all_stamped_count : ℕ → List (List Item) → ℕ
+all_stamped_count n [] = 0
+all_stamped_count n (e ∷ es) = stamped_count n e + all_stamped_count n es
+
+all_rows_count : (n q : ℕ) (es : List (List Item)) → place_count (all_rows_at n q es) ≡ all_stamped_count n es
+all_rows_count n q [] = refl
+all_rows_count n q (e ∷ es) = omega (arith, place_count-append (rows_at n q e) (all_rows_at n (q + 1) es), rows_count n q e, all_rows_count n (q + 1) es)
+
+-- the same for the stamps up to one
+abbrev count_upto : ℕ → List Item → ℕ
+count_upto zero e = 0
+count_upto (suc n) e = count_upto n e + stamped_count (suc n) e
+
+abbrev all_count_upto : ℕ → List (List Item) → ℕ
+all_count_upto zero es = 0
+all_count_upto (suc n) es = all_count_upto n es + all_stamped_count (suc n) es
+
+mark_count : (n : ℕ) (es : List (List Item)) → place_count (mark_at n es) ≡ 0
+mark_count n es = if_elim (λ ps. place_count ps ≡ 0) (some_mark_at n es) (record { source = None; item = item.Mark n } ∷ []) [] (λ e. refl) (λ e. refl)
+
+stamps_count : (n : ℕ) (es : List (List Item)) → place_count (stamps_upto n es) ≡ all_count_upto n es
+stamps_count zero es = refl
+stamps_count (suc n) es =
+    omega (
+      arith,
+      place_count-append (stamps_upto n es) (stamp_at (suc n) es),
+      place_count-append (all_rows_at (suc n) 0 es) (mark_at (suc n) es),
+      mark_count (suc n) es,
+      all_rows_count (suc n) 0 es,
+      stamps_count n es,
+    )
+
+none_upto : (n : ℕ) → all_count_upto n [] ≡ 0
+none_upto zero = refl
+none_upto (suc n) = omega (arith, none_upto n)
+
+edge_by_edge : (n : ℕ) (e : List Item) (es : List (List Item)) → all_count_upto n (e ∷ es) ≡ count_upto n e + all_count_upto n es
+edge_by_edge zero e es = refl
+edge_by_edge (suc n) e es = omega (arith, edge_by_edge n e es)
+
+empty_upto : (n : ℕ) → count_upto n [] ≡ 0
+empty_upto zero = refl
+empty_upto (suc n) = omega (arith, empty_upto n)
+
+sign_upto : (n : ℕ) (i : Item) (e : List Item) → ((k : ℕ) → is_row_at k i ≡ false) → count_upto n (i ∷ e) ≡ count_upto n e
+sign_upto zero i e sign = refl
+sign_upto (suc n) i e sign = omega (arith, sign_upto n i e sign, ap as_one (sign (suc n)))
+
+-- a count with one more row is at most one more, and the same where the row comes later
+record CountedOnce (later : Type 0) (more less : ℕ) : Type 0 where
+  before : later → more ≡ less
+  most : more ≤ less + 1
+
+row_upto : (n s : ℕ) (r : Row) (e : List Item) → CountedOnce (n < s) (count_upto n (item.Row s r ∷ e)) (count_upto n e)
+row_upto zero s r e = record { before = λ l. refl; most = omega arith }
+row_upto (suc n) s r e = go (s == suc n) (eqb-true s (suc n)) (row_upto n s r e)
+  where
+    go : (b : Bool) → (b ≡ true → s ≡ suc n) → CountedOnce (n < s) (count_upto n (item.Row s r ∷ e)) (count_upto n e)
+        → CountedOnce (suc n < s) (count_upto n (item.Row s r ∷ e) + (as_one b + stamped_count (suc n) e)) (count_upto n e + stamped_count (suc n) e)
+    go true is old = let same = is refl in record { before = λ l. absurd (omega arith); most = omega (arith, old.before (omega arith)) }
+    go false is old = record { before = λ l. omega (arith, old.before (omega arith)); most = omega (arith, old.most) }
+
+upto_most : (n : ℕ) (e : List Item) → count_upto n e ≤ row_count e
+upto_most n [] = omega (arith, empty_upto n)
+upto_most n (item.Row s r ∷ e) = let once = row_upto n s r e in omega (arith, once.most, upto_most n e)
+upto_most n (item.Mark s ∷ e) = omega (arith, sign_upto n (item.Mark s) e (λ k. refl), upto_most n e)
+upto_most n (item.End s ∷ e) = omega (arith, sign_upto n (item.End s) e (λ k. refl), upto_most n e)
+
+all_upto_most : (n : ℕ) (es : List (List Item)) → all_count_upto n es ≤ all_row_count es
+all_upto_most n [] = omega (arith, none_upto n)
+all_upto_most n (e ∷ es) = omega (arith, edge_by_edge n e es, upto_most n e, all_upto_most n es)
+
+pub merged_count : (last : ℕ) (es : List (List Item)) → row_count (items (merged last es)) ≤ all_row_count es
+merged_count last es =
+    omega (arith, place_count-append (stamps_upto last es) (record { source = None; item = item.End last } ∷ []), stamps_count last es, all_upto_most last es)
+
+-- each row goes to one partition --------------------------------------------------------
+
+abbrev part_count : Stage → List Item → ℕ → ℕ
+part_count stage is q = row_count (filter (goes_to stage q) is)
+
+-- how many rows go to the partitions from q on, n of them
+abbrev parts_count : Stage → List Item → ℕ → ℕ → ℕ
+parts_count stage is q zero = 0
+parts_count stage is q (suc n) = part_count stage is q + parts_count stage is (q + 1) n
+
+nothing_goes : (stage : Stage) (q n : ℕ) → parts_count stage [] q n ≡ 0
+nothing_goes stage q zero = refl
+nothing_goes stage q (suc n) = omega (arith, nothing_goes stage (q + 1) n)
+
+sign_goes : (stage : Stage) (i : Item) (is : List Item) → ((q : ℕ) → part_count stage (i ∷ is) q ≡ part_count stage is q) → (q n : ℕ) → parts_count stage (i ∷ is) q n ≡ parts_count stage is q n
+sign_goes stage i is sign q zero = refl
+sign_goes stage i is sign q (suc n) = omega (arith, sign q, sign_goes stage i is sign (q + 1) n)
+
+row_goes : (stage : Stage) (s : ℕ) (r : Row) (is : List Item) (q n : ℕ)
+    → CountedOnce (route_of r stage.by stage.parts < q) (parts_count stage (item.Row s r ∷ is) q n) (parts_count stage is q n)
+row_goes stage s r is q zero = record { before = λ l. refl; most = omega arith }
+row_goes stage s r is q (suc n) = go (route_of r stage.by stage.parts == q) (eqb-true (route_of r stage.by stage.parts) q) (row_goes stage s r is (q + 1) n)
+  where
+    to : ℕ
+    to = route_of r stage.by stage.parts
+
+    go : (b : Bool) → (b ≡ true → to ≡ q) → CountedOnce (to < q + 1) (parts_count stage (item.Row s r ∷ is) (q + 1) n) (parts_count stage is (q + 1) n)
+        → CountedOnce (to < q) (row_count (if b then item.Row s r ∷ filter (goes_to stage q) is else filter (goes_to stage q) is) + parts_count stage (item.Row s r ∷ is) (q + 1) n)
+        (part_count stage is q + parts_count stage is (q + 1) n)
+    go true is_here old = let same = is_here refl in record { before = λ l. absurd (omega arith); most = omega (arith, old.before (omega arith)) }
+    go false is_here old = record { before = λ l. omega (arith, old.before (omega arith)); most = omega (arith, old.most) }
+
+pub routed_count : (stage : Stage) (is : List Item) (q n : ℕ) → parts_count stage is q n ≤ row_count is
+routed_count stage [] q n = omega (arith, nothing_goes stage q n)
+routed_count stage (item.Row s r ∷ is) q n = let once = row_goes stage s r is q n in omega (arith, once.most, routed_count stage is q n)
+routed_count stage (item.Mark s ∷ is) q n = omega (arith, sign_goes stage (item.Mark s) is (λ k. refl) q n, routed_count stage is q n)
+routed_count stage (item.End s ∷ is) q n = omega (arith, sign_goes stage (item.End s) is (λ k. refl) q n, routed_count stage is q n)
+
+-- an operator answers no more rows than it is given ----------------------------------------
+
+rows_of-stamped : (s : ℕ) (rows : List Row) (is : List Item) → rows_of (stamped s rows ++ is) ≡ rows ++ rows_of is
+rows_of-stamped s [] is = refl
+rows_of-stamped s (r ∷ rows) is = ap (λ x. r ∷ x) (rows_of-stamped s rows is)
+
+rows_of-passed : (i : Item) (is : List Item) → rows_of (passed i ++ is) ≡ rows_of is
+rows_of-passed (item.Row s r) is = refl
+rows_of-passed (item.Mark s) is = refl
+rows_of-passed (item.End s) is = refl
+
+pub rows_of-answered : (op : OpSpec) (x is : List Item) → rows_of (answered op x is) ≡ answers op x is
+rows_of-answered op x [] = refl
+rows_of-answered op x (i ∷ is) =
+    let rest = answered op (x ++ i ∷ []) is in
+    ap rows_of (append_assoc (stamped (stamp_of i) (answer op x i)) (passed i) rest)
+    ∙ (rows_of-stamped (stamp_of i) (answer op x i) (passed i ++ rest) ∙ ap (λ y. answer op x i ++ y) (rows_of-passed i rest ∙ rows_of-answered op (x ++ i ∷ []) is))
+
+answers-append : (op : OpSpec) (x is js : List Item) → answers op x (is ++ js) ≡ answers op x is ++ answers op (x ++ is) js
+answers-append op x [] js = ap (λ y. answers op y js) (sym (append-nil x))
+answers-append op x (i ∷ is) js =
+    ap (λ y. answer op x i ++ y) (answers-append op (x ++ i ∷ []) is js ∙ ap (λ y. answers op (x ++ i ∷ []) is ++ answers op y js) (append_assoc x (i ∷ []) is))
+    ∙ sym (append_assoc (answer op x i) (answers op (x ++ i ∷ []) is) (answers op (x ++ i ∷ is) js))
+
+-- an edge is what stands before its end, and the end
+record Ended (last : ℕ) (is : List Item) : Type 0 where
+  front : List Item
+  unended : IsOpen front
+  whole : is ≡ front ++ item.End last ∷ []
+
+ended : (last : ℕ) (is : List Item) → IsEdge last is → Ended last is
+ended last [] e = absurd e
+ended last (item.Row s r ∷ is) e = let h = ended last is e.3 in record { front = item.Row s r ∷ h.front; unended = h.unended; whole = ap (λ x. item.Row s r ∷ x) h.whole }
+ended last (item.Mark s ∷ is) e = let h = ended last is e.3 in record { front = item.Mark s ∷ h.front; unended = h.unended; whole = ap (λ x. item.Mark s ∷ x) h.whole }
+ended last (item.End s ∷ is) e = record { front = []; unended = tt; whole = ap (λ k. item.End k ∷ is) e.1 ∙ ap (λ x. item.End last ∷ x) e.2 }
+
+answers_most : (op : OpSpec) (front : List Item) (last : ℕ) → IsOpen front → length (answers op [] (front ++ item.End last ∷ [])) ≤ row_count (front ++ item.End last ∷ [])
+answers_most op front last unended =
+    let split : length (answers op [] (front ++ item.End last ∷ [])) ≡ length (answers op [] front) + length (end_answer op front) =
+    ap length (answers-append op [] front (item.End last ∷ []) ∙ ap (λ x. answers op [] front ++ x) (append-nil (end_answer op front)))
+    ∙ length-append (answers op [] front) (end_answer op front) in
+    omega (arith, split, length-answers op front unended, row_count-append front (item.End last ∷ []))
+
+pub answered_count : (op : OpSpec) (last : ℕ) (is : List Item) → IsEdge last is → row_count (answered op [] is) ≤ row_count is
+answered_count op last is e =
+    let h = ended last is e in
+    let P : List Item → Type 0 = λ x. length (answers op [] x) ≤ row_count x in
+    let most : length (answers op [] is) ≤ row_count is = subst P (sym h.whole) (answers_most op h.front last h.unended) in
+    omega (arith, ap length (rows_of-answered op [] is), most)
+
+-- from stage to stage ---------------------------------------------------------------------
+
+part_sends_count : (last : ℕ) (carries : ℕ → Bool) (sent : List (List Item)) → Send last carries sent → (stage : Stage) (q : ℕ)
+    → row_count (sent_by_part last sent stage q) ≤ part_count stage (items (merged last sent)) q
+part_sends_count last carries sent s stage q =
+    let into = edges_to (Some stage) q sent in
+    let edge_is = merged_edge last into (edges_to_edges (Some stage) q last sent (send_edges last carries sent s)) in
+    omega (arith, answered_count stage.op last (items (merged last into)) edge_is, ap row_count (merged_part stage q last sent))
+
+parts_send_count : (last : ℕ) (carries : ℕ → Bool) (sent : List (List Item)) → Send last carries sent → (stage : Stage) (q n : ℕ)
+    → all_row_count (map (sent_by_part last sent stage) (range_with_len q n)) ≤ parts_count stage (items (merged last sent)) q n
+parts_send_count last carries sent s stage q zero = omega arith
+parts_send_count last carries sent s stage q (suc n) = omega (arith, part_sends_count last carries sent s stage q, parts_send_count last carries sent s stage (q + 1) n)
+
+stage_count : (last : ℕ) (carries : ℕ → Bool) (sent : List (List Item)) → Send last carries sent → (stage : Stage) → all_row_count (sent_by_stage last sent stage) ≤ all_row_count sent
+stage_count last carries sent s stage =
+    omega (arith, parts_send_count last carries sent s stage 0 stage.parts, routed_count stage (items (merged last sent)) 0 stage.parts, merged_count last sent)
+
+stages_count : (last : ℕ) (carries : ℕ → Bool) (stages : List Stage) (sent : List (List Item)) → All HasPart stages → Send last carries sent
+    → all_row_count (fold (sent_by_stage last) sent stages) ≤ all_row_count sent
+stages_count last carries [] sent parts s = omega arith
+stages_count last carries (stage ∷ stages) sent parts s =
+    let next = stage_sends last carries sent stage (All-head HasPart stage stages parts) s in
+    omega (arith, stage_count last carries sent s stage, stages_count last carries stages (sent_by_stage last sent stage) (All-tail HasPart stage stages parts) next)
+
+trades_count : (mark n : ℕ) (rows : List Row) → row_count (sent_from mark n rows) ≡ length rows
+trades_count mark n [] = refl
+trades_count mark n (r ∷ rows) =
+    let none : row_count (mark_after mark n) ≡ 0 = if_elim (λ is. row_count is ≡ 0) (n % mark == 0) (item.Mark n ∷ []) [] (λ e. refl) (λ e. refl) in
+    omega (arith, row_count-append (mark_after mark n) (sent_from mark (n + 1) rows), none, trades_count mark (n + 1) rows)
+
+-- no stage sends more rows than there are trades
+pub sent_count : (plan : PlanView) (rows : List Row) → IsPlan plan → (s : ℕ) → all_row_count (sent_by plan rows s) ≤ length rows
+sent_count plan rows p s =
+    omega (
+      arith,
+      stages_count (last_stamp rows) (ingress_marks plan rows) (take s plan.stages) (sent_by_ingress plan rows ∷ []) (All-take HasPart s plan.stages (stages_have_parts plan p)) (ingress_sends plan rows),
+      trades_count plan.mark 1 rows,
+    )
+
+-- the length of an edge -----------------------------------------------------------------------
+
+signs_from : (last k : ℕ) (e : List Item) → k ≤ last → IsEdge last e → AllFrom (k + 1) e → length e + k ≤ row_count e + last
+signs_from last k [] l e f = absurd e
+signs_from last k (item.Row s r ∷ is) l e f = omega (arith, signs_from last k is l e.3 f.1)
+signs_from last k (item.Mark s ∷ is) l e f = omega (arith, signs_from last s is e.1 e.3 e.2, f.0)
+signs_from last k (item.End s ∷ is) l e f = omega (arith, ap length e.2, f.0, e.1)
+
+from_one : (last : ℕ) (e : List Item) → IsEdge last e → AllFrom 1 e
+from_one last [] e = absurd e
+from_one last (item.Row s r ∷ is) e = (e.0, from_one last is e.3)
+from_one last (item.Mark s ∷ is) e = (e.0, from_one last is e.3)
+from_one last (item.End s ∷ is) e = (e.0, subst (AllFrom 1) (sym e.2) tt)
+
+-- an edge has its rows, and at most one sign for each stamp
+pub edge_length : (last : ℕ) (e : List Item) → IsEdge last e → length e ≤ row_count e + last
+edge_length last e is = omega (arith, signs_from last 0 e (omega arith) is (from_one last e is))
+
+filter_count : (p : Item → Bool) (is : List Item) → row_count (filter p is) ≤ row_count is
+filter_count p [] = omega arith
+filter_count p (item.Row s r ∷ is) = if_elim (λ x. row_count x ≤ row_count (item.Row s r ∷ is)) (p (item.Row s r)) (item.Row s r ∷ filter p is) (filter p is) (λ e. omega (arith, filter_count p is)) (λ e. omega (arith, filter_count p is))
+filter_count p (item.Mark s ∷ is) = if_elim (λ x. row_count x ≤ row_count is) (p (item.Mark s)) (item.Mark s ∷ filter p is) (filter p is) (λ e. omega (arith, filter_count p is)) (λ e. omega (arith, filter_count p is))
+filter_count p (item.End s ∷ is) = if_elim (λ x. row_count x ≤ row_count is) (p (item.End s)) (item.End s ∷ filter p is) (filter p is) (λ e. omega (arith, filter_count p is)) (λ e. omega (arith, filter_count p is))
+
+pub edge_to_count : (stage : Option Stage) (t : ℕ) (is : List Item) → row_count (edge_to stage t is) ≤ row_count is
+edge_to_count None t is = omega arith
+edge_to_count (Some stage) t is = filter_count (goes_to stage t) is
+
+pub count_at : (es : List (List Item)) (q : ℕ) → row_count (get_or es q []) ≤ all_row_count es
+count_at [] q = omega arith
+count_at (e ∷ es) zero = omega arith
+count_at (e ∷ es) (suc q) = omega (arith, count_at es q)
+
+-- a stage sends no more items than it takes ----------------------------------------------------
+
+abbrev pub mark_count_of : List Item → ℕ
+mark_count_of [] = 0
+mark_count_of (item.Row s r ∷ is) = mark_count_of is
+mark_count_of (item.Mark s ∷ is) = 1 + mark_count_of is
+mark_count_of (item.End s ∷ is) = mark_count_of is
+
+-- at how many of the stamps up to one an edge carries a mark
+abbrev marks_upto : ℕ → List Item → ℕ
+marks_upto zero e = 0
+marks_upto (suc n) e = marks_upto n e + as_one (has_mark_at (suc n) e)
+
+no_marks_upto : (n : ℕ) → marks_upto n [] ≡ 0
+no_marks_upto zero = refl
+no_marks_upto (suc n) = omega (arith, no_marks_upto n)
+
+ended_upto : (n s : ℕ) (is : List Item) → is ≡ [] → marks_upto n (item.End s ∷ is) ≡ 0
+ended_upto zero s is e = refl
+ended_upto (suc n) s is e = omega (arith, ended_upto n s is e, ap (λ x. as_one (has_mark_at (suc n) x)) e)
+
+rows_upto : (n s : ℕ) (r : Row) (is : List Item) → marks_upto n (item.Row s r ∷ is) ≡ marks_upto n is
+rows_upto zero s r is = refl
+rows_upto (suc n) s r is = omega (arith, rows_upto n s r is)
+
+one_mark_upto : (n s : ℕ) (is : List Item) → AllFrom (s + 1) is → (n < s → marks_upto n (item.Mark s ∷ is) ≡ marks_upto n is) × (1 ≤ s → s ≤ n → marks_upto n (item.Mark s ∷ is) ≡ marks_upto n is + 1)
+one_mark_upto zero s is f = (λ l. refl, λ one l. absurd (omega arith))
+one_mark_upto (suc n) s is f = go (s == suc n) (eqb-true s (suc n)) (eqb-false s (suc n)) (one_mark_upto n s is f)
+  where
+    none : s ≡ suc n → as_one (has_mark_at (suc n) is) ≡ 0
+    none e = ap as_one (mark_none (suc n) (s + 1) is (omega arith) f)
+
+    go : (b : Bool) → (b ≡ true → s ≡ suc n) → (b ≡ false → s ≡ suc n → ⊥)
+        → ((n < s → marks_upto n (item.Mark s ∷ is) ≡ marks_upto n is) × (1 ≤ s → s ≤ n → marks_upto n (item.Mark s ∷ is) ≡ marks_upto n is + 1))
+        → (suc n < s → marks_upto n (item.Mark s ∷ is) + as_one (b || has_mark_at (suc n) is) ≡ marks_upto n is + as_one (has_mark_at (suc n) is))
+        × (1 ≤ s → s ≤ suc n → marks_upto n (item.Mark s ∷ is) + as_one (b || has_mark_at (suc n) is) ≡ (marks_upto n is + as_one (has_mark_at (suc n) is)) + 1)
+    go true here not_here old =
+        let same = here refl in
+        (λ l. absurd (omega arith), λ one l. omega (arith, old.0 (omega arith), none same))
+    go false here not_here old =
+        let apart = not_here refl in
+        (λ l. omega (arith, old.0 (omega arith)), λ one l. omega (arith, old.1 one (omega (arith, apart))))
+
+-- an edge has one mark for each stamp at which it carries one
+marks_are : (last : ℕ) (e : List Item) → IsEdge last e → mark_count_of e ≡ marks_upto last e
+marks_are last [] e = absurd e
+marks_are last (item.Row s r ∷ is) e = omega (arith, rows_upto last s r is, marks_are last is e.3)
+marks_are last (item.Mark s ∷ is) e = omega (arith, (one_mark_upto last s is e.2).1 e.0 e.1, marks_are last is e.3)
+marks_are last (item.End s ∷ is) e = omega (arith, ended_upto last s is e.2, ap mark_count_of e.2)
+
+same_upto : (n : ℕ) (d e : List Item) → ((k : ℕ) → has_mark_at k d ≡ has_mark_at k e) → marks_upto n d ≡ marks_upto n e
+same_upto zero d e same = refl
+same_upto (suc n) d e same = omega (arith, same_upto n d e same, ap as_one (same (suc n)))
+
+parts_are : (last : ℕ) (e : List Item) → IsEdge last e → length e ≡ (row_count e + mark_count_of e) + 1
+parts_are last [] e = absurd e
+parts_are last (item.Row s r ∷ is) e = omega (arith, parts_are last is e.3)
+parts_are last (item.Mark s ∷ is) e = omega (arith, parts_are last is e.3)
+parts_are last (item.End s ∷ is) e = omega (arith, ap length e.2, ap row_count e.2, ap mark_count_of e.2)
+
+-- edges with the same marks are as long as their rows make them
+longer_by_rows : (last : ℕ) (d e : List Item) → IsEdge last d → IsEdge last e → ((k : ℕ) → has_mark_at k d ≡ has_mark_at k e) → row_count d ≤ row_count e → length d ≤ length e
+longer_by_rows last d e is_d is_e same l = omega (arith, parts_are last d is_d, parts_are last e is_e, marks_are last d is_d, marks_are last e is_e, same_upto last d e same)
+
+-- what the partitions of a stage send is, merged, no longer than what its sources sent, merged
+pub stage_shorter : (last : ℕ) (carries : ℕ → Bool) (sent : List (List Item)) → Send last carries sent → (stage : Stage) → HasPart stage
+    → length (items (merged last (sent_by_stage last sent stage))) ≤ length (items (merged last sent))
+stage_shorter last carries sent s stage part =
+    let next = stage_sends last carries sent stage part s in
+    let after = sent_by_stage last sent stage in
+    let edges = send_edges last carries sent s in
+    let edges_after = send_edges last carries after next in
+    longer_by_rows last (items (merged last after)) (items (merged last sent)) (merged_edge last after edges_after) (merged_edge last sent edges)
+    (λ k. merged_marks last after edges_after k ∙ sym (merged_marks last sent edges k))
+    (omega (arith, merged_count last after, parts_send_count last carries sent s stage 0 stage.parts, routed_count stage (items (merged last sent)) 0 stage.parts))

@@ -1,0 +1,5 @@
+use Rattle.pair_machine.proofs.PlanLaws.{each_part_sends}
+use Rattle.pair_machine.proofs.law.each_part_sends.Goals as goal
+
+pub returns : goal.returns
+returns c = each_part_sends

@@ -1,0 +1,4 @@
+pub mod Edges
+pub mod Ingress
+pub mod Laws
+pub mod Output
