@@ -1,3 +1,7 @@
+pub mod Digits
+pub mod Marks
+pub mod Places
 pub mod Reading
-pub mod Symbols
+pub mod RecordFacts
+pub mod SymbolFacts
 pub mod Trims

@@ -1,7 +1,11 @@
+pub mod Columns
 pub mod Fields
-pub mod Records
-pub mod Signed
+pub mod Limits
+pub mod Messages
 pub mod Text
-pub mod Texts
+pub mod Records
+pub mod Results
+pub mod Signed
+pub mod Symbols
 pub mod Trades
 pub mod TradesView

@@ -1,155 +1,119 @@
 -- The trades that a text says.
-use Rattle.std.specs.Prelude.{ℕ, ℤ, zero, suc, pos, negsuc, ◌≡◌, ◌+◌, ◌*◌, ◌==◌, ◌&&◌, ◌||◌, nat_lt, Bool, List, [], ◌∷◌, ◌++◌, length, codes, Option, Some, None, unwrap_or, Result, Ok, Err, if◌then◌else◌}
-use Rattle.std.specs.List.{position}
-use Rattle.std.specs.Str.{bytes_eq}
-use Rattle.csv.specs.Reading.{default_config, records_from}
+use Rattle.std.specs.Prelude.{ℕ, pos, ◌≡◌, ◌+◌, ◌*◌, ◌==◌, nat_lt, List, [], ◌∷◌, ◌++◌, length, Option, Some, None, unwrap_or, Result, Ok, Err, if◌then◌else◌}
+use Rattle.std.specs.Option.{ok_or}
+use Rattle.csv.specs.Reading.{default_config, records, strip_bom}
 use Rattle.csv.specs.Records.{field_at}
-use Rattle.csv.specs.declared.parser.State.TheVariants as state
 use Rattle.tuple_edge.specs.declared.row.Row.{Row}
-use Rattle.ingress_egress.specs.Fields.{cents_of, in_range, is_symbol, side_of, trim_blanks}
+use Rattle.ingress_egress.specs.Columns.{columns_of}
+use Rattle.ingress_egress.specs.Fields.{account_of, price_of, qty_of, side_of, symbol_of, time_of, trim_blanks}
+use Rattle.ingress_egress.specs.Limits.{max_trades, max_trades_bytes}
 use Rattle.ingress_egress.specs.Records.{starts_with_mark}
+use Rattle.ingress_egress.specs.Results.{◌>>=◌}
 use Rattle.ingress_egress.specs.Signed.{signed}
+use Rattle.ingress_egress.specs.Symbols.{numbered}
 use Rattle.ingress_egress.specs.TradesView.{TradesView}
-use Rattle.ingress_egress.specs.declared.parsed.Parsed.{Parsed}
-use Rattle.ingress_egress.specs.declared.trades.TradeError.{TradeError}
-use Rattle.ingress_egress.specs.declared.trades.TradeError.TheVariants as error
+use Rattle.ingress_egress.specs.declared.columns.Columns.{Columns}
+use Rattle.ingress_egress.specs.declared.error.Field.{Field}
+use Rattle.ingress_egress.specs.declared.error.Field.TheVariants as field
+use Rattle.ingress_egress.specs.declared.error.TradeError.{TradeError}
+use Rattle.ingress_egress.specs.declared.error.TradeError.TheVariants as error
+use Rattle.ingress_egress.specs.declared.fields.Fault.{Fault}
+use Rattle.ingress_egress.specs.declared.fields.Fault.TheVariants as fault
+use Rattle.ingress_egress.specs.declared.fields.Side.{Side}
 
--- what is said of a fault
-abbrev pub trades_fault : TradeError → List ℕ
-trades_fault error.Header = codes "header"
-trades_fault error.OutOfMemory = codes "out of memory"
-trades_fault error.NotBuilt = codes "not built"
-
--- a value or the first fault
+-- a value, or the first refusal
 abbrev pub Read : Type 0 → Type 0
 Read A = Result A TradeError
 
-infixl 10 ◌>>=◌
-abbrev pub ◌>>=◌ : {A B : Type 0} → Read A → (A → Read B) → Read B
-(Ok x) >>= f = f x
-(Err e) >>= f = Err e
-
--- What a function returned, seen by view, is what reading gives, unless memory ran out.
-abbrev pub Fails : {A : Type 0} → TradeError → Read A → Type 0
-Fails error.OutOfMemory read = Unit {0}
-Fails error.Header read = read ≡ Err error.Header
-Fails error.NotBuilt read = read ≡ Err error.NotBuilt
-
-abbrev pub Gives : {X A : Type 0} → (X → A) → Read X → Read A → Type 0
-Gives view (Ok x) read = read ≡ Ok (view x)
-Gives view (Err e) read = Fails e read
-
-abbrev pub needed : {A : Type 0} → Option A → Read A
-needed None = Err error.NotBuilt
-needed (Some x) = Ok x
-
 -- ---- a record
 
+abbrev pub error_of : Fault → ℕ → Field → TradeError
+error_of fault.Form number what = error.Field number what
+error_of fault.Range number what = error.Range number what
+
+-- the value of a field of the record of this number, or why it is refused
+abbrev pub located : {A : Type 0} → ℕ → Field → Result A Fault → Read A
+located number what (Ok x) = Ok x
+located number what (Err why) = Err (error_of why number what)
+
 -- the field at a place, without blanks at its ends
-abbrev pub field : List (List ℕ) → ℕ → List ℕ
-field fields place = trim_blanks (unwrap_or (field_at fields place) [])
+abbrev pub text_at : List (List ℕ) → ℕ → List ℕ
+text_at fields place = trim_blanks (unwrap_or (field_at fields place) [])
 
--- a trade as its fields say it
-pub record Trade : Type 0 where
-  pub time : ℕ
-  pub account : ℕ
-  pub symbol : List ℕ
-  pub buys : Bool
-  pub qty : ℕ
-  pub cents : ℕ
+-- the number of a record's symbol, and the symbols that are known then
+unfoldable pub symbol_in : ℕ → List (List ℕ) → List ℕ → Read (ℕ × List (List ℕ))
+symbol_in number known text = do
+  name ← located number field.Symbol (symbol_of text)
+  located number field.Symbol (ok_or (numbered known name) fault.Range)
 
-abbrev pub parsed_of : Parsed → Trade
-parsed_of p = record { time = p.time; account = p.account; symbol = p.symbol.now; buys = p.buys; qty = p.qty; cents = p.cents }
-
-unfoldable pub trade_in : List (List ℕ) → Read Trade
-trade_in fields = if length fields == 6 then (do
-  time ← needed (in_range (field fields 0) 0 9999999999)
-  account ← needed (in_range (field fields 1) 1 1000000)
-  symbol ← if is_symbol (field fields 2) then Ok (field fields 2) else Err error.NotBuilt
-  buys ← needed (side_of (field fields 3))
-  qty ← needed (in_range (field fields 4) 1 100000)
-  cents ← needed (cents_of (field fields 5))
-  Ok (record { time = time; account = account; symbol = symbol; buys = buys; qty = qty; cents = cents })) else Err error.NotBuilt
-
--- ---- symbols
-
--- the number of a symbol, from 1, and the symbols that are known then
-abbrev pub numbered_at : Option ℕ → List (List ℕ) → List ℕ → Read (ℕ × List (List ℕ))
-numbered_at (Some place) known symbol = Ok (place + 1, known)
-numbered_at None known symbol = if nat_lt (length known) 4096 then Ok (length known + 1, known ++ symbol ∷ []) else Err error.NotBuilt
-
-unfoldable pub numbered : List (List ℕ) → List ℕ → Read (ℕ × List (List ℕ))
-numbered known symbol = numbered_at (position (λ s. bytes_eq s symbol) known) known symbol
-
--- ---- records
-
--- the row of a trade whose symbol has this number
-abbrev pub row_of : Trade → ℕ → Row
-row_of t number = record {
-  time = pos t.time;
-  account = pos t.account;
-  symbol = pos number;
-  qty = signed t.buys t.qty;
-  value = signed t.buys (t.qty * t.cents);
+-- the row of a trade: the quantity and the value are below zero for a sale
+abbrev pub row_of : ℕ → ℕ → ℕ → Side → ℕ → ℕ → Row
+row_of time account symbol side qty cents = record {
+  time = pos time;
+  account = pos account;
+  symbol = pos symbol;
+  qty = signed side qty;
+  value = signed side (qty * cents);
 }
 
+-- The row of a record of this number, and the symbols that are known then. The fields are read in this order, whatever that of the columns.
+unfoldable pub row_in : Columns → ℕ → List (List ℕ) → List (List ℕ) → Read (Row × List (List ℕ))
+row_in columns number known fields = if length fields == columns.count then (do
+  time ← located number field.Time (time_of (text_at fields columns.time))
+  account ← located number field.Account (account_of (text_at fields columns.account))
+  symbol ← symbol_in number known (text_at fields columns.symbol)
+  side ← located number field.Side (side_of (text_at fields columns.side))
+  qty ← located number field.Qty (qty_of (text_at fields columns.qty))
+  cents ← located number field.Price (price_of (text_at fields columns.price))
+  Ok (row_of time account symbol.0 side qty cents, symbol.1)) else Err (error.Row number)
+
+-- ---- all records
+
 -- trades with one more record
-unfoldable pub trade_onto : TradesView → List (List ℕ) → Read TradesView
-trade_onto trades fields = if nat_lt (length trades.rows) 100000 then (do
-  trade ← trade_in fields
-  symbol ← numbered trades.symbols trade.symbol
-  Ok (record { rows = trades.rows ++ row_of trade symbol.0 ∷ []; symbols = symbol.1 })) else Err error.NotBuilt
+unfoldable pub trade_onto : Columns → ℕ → TradesView → List (List ℕ) → Read TradesView
+trade_onto columns number trades fields = if nat_lt (length trades.rows) max_trades then (do
+  next ← row_in columns number trades.symbols fields
+  Ok (record { rows = trades.rows ++ next.0 ∷ []; symbols = next.1 })) else Err error.TooMany
 
--- trades with more records
-abbrev pub trades_onto : TradesView → List (List (List ℕ)) → Read TradesView
-trades_onto trades [] = Ok trades
-trades_onto trades (fields ∷ records) = trade_onto trades fields >>= λ more. trades_onto more records
-
--- the header
-abbrev pub header_names : List (List ℕ)
-header_names = codes "time" ∷ codes "account" ∷ codes "symbol" ∷ codes "side" ∷ codes "qty" ∷ codes "price" ∷ []
-
-unfoldable pub is_header : List (List ℕ) → Bool
-is_header fields = (length fields == 6)
-    && bytes_eq (field fields 0) (codes "time") && bytes_eq (field fields 1) (codes "account") && bytes_eq (field fields 2) (codes "symbol")
-    && bytes_eq (field fields 3) (codes "side") && bytes_eq (field fields 4) (codes "qty") && bytes_eq (field fields 5) (codes "price")
+-- trades with more records, of which the first has this number
+abbrev pub trades_onto : Columns → ℕ → TradesView → List (List (List ℕ)) → Read TradesView
+trades_onto columns number trades [] = Ok trades
+trades_onto columns number trades (fields ∷ records) = trade_onto columns number trades fields >>= λ more. trades_onto columns (number + 1) more records
 
 abbrev pub no_trades : TradesView
 no_trades = record { rows = []; symbols = [] }
 
--- the header and the trades
+-- the header, which is record 1, and the trades
 abbrev pub trades_of_records : List (List (List ℕ)) → Read TradesView
 trades_of_records [] = Err error.Header
-trades_of_records (names ∷ records) = if is_header names then trades_onto no_trades records else Err error.NotBuilt
+trades_of_records (header ∷ records) = columns_of header >>= λ columns. trades_onto columns 2 no_trades records
 
--- the records that are read: as many as a header, the most trades and one more
-abbrev pub read_records : List ℕ → List (List (List ℕ))
-read_records bytes = records_from default_config 100002 state.StartRecord bytes
+-- the trades of a text without the mark at its front: a second mark is no header
+abbrev pub trades_of_text : List ℕ → Read TradesView
+trades_of_text text = if starts_with_mark text then Err error.Header else trades_of_records (records default_config text)
 
 -- the trades of a text
 unfoldable pub trades_of : List ℕ → Read TradesView
-trades_of bytes =
-    if nat_lt 16777216 (length bytes) || starts_with_mark bytes then Err error.NotBuilt
-    else trades_of_records (read_records bytes)
+trades_of bytes = if nat_lt max_trades_bytes (length bytes) then Err (error.TooLong (length bytes)) else trades_of_text (strip_bom bytes)
 
--- ---- calls that change what they are given
+-- ---- what a call answers
 
--- After `Ok` this is what reading gives with the value; after a fault reading gives it.
-abbrev pub Changes : {A : Type 0} → Read (Unit {0}) → A → Read A → Type 0
-Changes (Ok x) new read = read ≡ Ok new
-Changes (Err e) new read = Fails e read
+-- The error of a call is the refusal of this reading. Want of memory is no refusal, and may come in place of any answer.
+abbrev pub IsRefusalOf : {A : Type 0} → TradeError → Read A → Type 0
+IsRefusalOf error.Header read = read ≡ Err error.Header
+IsRefusalOf (error.Row number) read = read ≡ Err (error.Row number)
+IsRefusalOf (error.Field number what) read = read ≡ Err (error.Field number what)
+IsRefusalOf (error.Range number what) read = read ≡ Err (error.Range number what)
+IsRefusalOf error.TooMany read = read ≡ Err error.TooMany
+IsRefusalOf (error.TooLong bytes) read = read ≡ Err (error.TooLong bytes)
+IsRefusalOf error.OutOfMemory read = Unit {0}
 
-abbrev pub Numbers : Read ℕ → List (List ℕ) → Read (ℕ × List (List ℕ)) → Type 0
-Numbers (Ok number) new read = read ≡ Ok (number, new)
-Numbers (Err e) new read = Fails e read
+-- What a call gave, seen by view, is what reading gives, unless memory ran out.
+abbrev pub Gives : {X A : Type 0} → (X → A) → Read X → Read A → Type 0
+Gives view (Ok x) read = read ≡ Ok (view x)
+Gives view (Err e) read = IsRefusalOf e read
 
--- what a number names: `-` where it is that of no symbol
-abbrev pub symbol_at : List (List ℕ) → ℕ → List ℕ
-symbol_at [] n = codes "-"
-symbol_at (s ∷ known) zero = s
-symbol_at (s ∷ known) (suc n) = symbol_at known n
-
-abbrev pub symbol_of : List (List ℕ) → ℤ → List ℕ
-symbol_of known (pos zero) = codes "-"
-symbol_of known (pos (suc n)) = symbol_at known n
-symbol_of known (negsuc n) = codes "-"
+-- the same of a call that gives a value and may make a symbol known
+abbrev pub Reads : {A : Type 0} → Read A → List (List ℕ) → Read (A × List (List ℕ)) → Type 0
+Reads (Ok x) known read = read ≡ Ok (x, known)
+Reads (Err e) known read = IsRefusalOf e read

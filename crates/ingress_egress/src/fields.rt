@@ -1,13 +1,40 @@
-// The fields of a trade.
-ghost use Rattle.std.specs.List.{list_all, position};
-ghost use Rattle.std.specs.Prelude.{◌==◌, ◌≡◌, ◌+◌, ◌<◌, ◌≤◌, IfSome, drop, length};
+// The fields of a trade, each from its text. The forms and limits are this crate's own.
+ghost use Rattle.std.specs.List.{list_all};
+ghost use Rattle.std.specs.Prelude.{◌==◌, ◌≡◌, ◌+◌, ◌*◌, ◌<◌, ◌≤◌, IfOk, IfSome, length, option_map, position};
+ghost use Rattle.std.specs.Str.{str_eq_ignore_ascii_case};
 ghost use Rattle.plan_reader.specs.Lines.{is_blank};
-ghost use Rattle.ingress_egress.specs.Fields.{cents_of, digits_of, drop_blanks, fraction_of, in_range, is_symbol, is_symbol_byte, joined, side_of, trim_blanks, trim_end};
+ghost use Rattle.ingress_egress.specs.Fields.{account_of, clock_of, digits_of, drop_blanks, fraction_of, is_symbol, is_symbol_byte, number_between, one_or_two_digits, price_of, qty_of, ranged, seconds_of_day, side_of, split_once, time_of, trim_blanks, trim_end, two_digits};
 
 use plan_reader::number_of;
 
-/// The highest price.
-pub const MAX_CENTS: u64 = 100_000_000;
+// The latest time, in seconds.
+const MAX_SECONDS: u64 = 9_999_999_999;
+
+const MAX_ACCOUNT: u64 = 1_000_000;
+
+const MAX_QTY: u64 = 100_000;
+// The highest price.
+const MAX_CENTS: u64 = 100_000_000;
+
+const MAX_SYMBOL_BYTES: usize = 32;
+// The most digits that a number may have.
+const MAX_DIGITS: usize = 18;
+
+// Why a field is refused.
+#[derive(Clone, Copy, Debug, PartialEq, Eq)]
+pub(crate) enum Fault {
+    // It isn't of its form.
+    Form,
+    // Its value lies outside its limits.
+    Range,
+}
+
+// What a trade does.
+#[derive(Clone, Copy, Debug, PartialEq, Eq)]
+pub(crate) enum Side {
+    Buy,
+    Sell,
+}
 
 // Whether a byte is a space or a tab.
 fn is_blank(byte: u8) -> bool
@@ -16,11 +43,11 @@ fn is_blank(byte: u8) -> bool
     byte == b' ' || byte == b'\t'
 }
 
-// A field without blanks at its start.
-fn without_front(field: &[u8]) -> &[u8]
-    ensures { result.now ≡ drop_blanks field.now }
+// A text without blanks at its start.
+fn without_front(text: &[u8]) -> &[u8]
+    ensures { result.now ≡ drop_blanks text.now }
 {
-    let mut rest = field;
+    let mut rest = text;
     while let Some((first, more)) = rest.split_first() {
         if !is_blank(*first) {
             break;
@@ -30,11 +57,11 @@ fn without_front(field: &[u8]) -> &[u8]
     rest
 }
 
-// A field without blanks at its end.
-fn without_back(field: &[u8]) -> &[u8]
-    ensures { result.now ≡ trim_end field.now }
+// A text without blanks at its end.
+fn without_back(text: &[u8]) -> &[u8]
+    ensures { result.now ≡ trim_end text.now }
 {
-    let mut rest = field;
+    let mut rest = text;
     while let Some((last, front)) = rest.split_last() {
         if !is_blank(*last) {
             break;
@@ -44,137 +71,224 @@ fn without_back(field: &[u8]) -> &[u8]
     rest
 }
 
-// A field without blanks at either end.
-pub(crate) fn trimmed(field: &[u8]) -> &[u8]
-    ensures { result.now ≡ trim_blanks field.now }
+// A text without blanks at either end.
+pub(crate) fn trimmed(text: &[u8]) -> &[u8]
+    ensures { result.now ≡ trim_blanks text.now }
 {
-    without_back(without_front(field))
+    without_back(without_front(text))
+}
+
+// Whether a text is this word, in either case.
+pub(crate) fn is_word(text: &[u8], word: &[u8]) -> bool
+    ensures { result ≡ str_eq_ignore_ascii_case text.now word.now }
+{
+    text.eq_ignore_ascii_case(word)
+}
+
+// The place of the first of these bytes.
+fn place_of_byte(text: &[u8], mark: u8) -> Option<usize>
+    ensures value { result ≡ position (λ b. b == mark) text.now }
+    ensures within { IfSome result (λ place. place < length text.now) }
+{
+    text.iter().position(|byte| *byte == mark)
+}
+
+// What stands before and after the first of these bytes.
+fn split_once(text: &[u8], mark: u8) -> Option<(&[u8], &[u8])>
+    ensures { option_map (λ parts. (parts.0.now, parts.1.now)) result ≡ split_once mark text.now }
+{
+    let place = place_of_byte(text, mark)?;
+    let (front, _) = text.split_at(place);
+    let (_, back) = text.split_at(place + 1);
+    Some((front, back))
 }
 
 // The value of 1 to 18 digits.
-pub(crate) fn digits_of(field: &[u8]) -> Option<u64>
-    ensures { result ≡ digits_of field.now }
+fn digits_of(text: &[u8]) -> Option<u64>
+    ensures { result ≡ digits_of text.now }
 {
-    if field.len() > 18 {
+    if text.len() > MAX_DIGITS {
         return None;
     }
-    number_of(field)
+    number_of(text)
 }
 
 // The value of digits, within limits.
-#[tactic(auto, unfolding(crate::specs::Fields::in_range))]
-pub(crate) fn in_range(field: &[u8], least: u64, most: u64) -> Option<u64>
-    ensures value { result ≡ in_range field.now least most }
-    ensures within { IfSome result (λ n. n ≤ most) }
+#[tactic(auto, unfolding(crate::specs::Fields::number_between))]
+fn number_between(text: &[u8], least: u64, most: u64) -> Result<u64, Fault>
+    ensures value { result ≡ number_between least most text.now }
+    ensures within { IfOk result (λ n. (least ≤ n) × (n ≤ most)) }
 {
-    match digits_of(field) {
-        Some(n) if least <= n && n <= most => Some(n),
-        _ => None,
+    let Some(number) = digits_of(text) else {
+        return Err(Fault::Form);
+    };
+    if number < least || number > most {
+        return Err(Fault::Range);
+    }
+    Ok(number)
+}
+
+// The value of two digits.
+fn two_digits(text: &[u8]) -> Option<u64>
+    ensures value { result ≡ two_digits text.now }
+    ensures within { IfSome result (λ n. n ≤ 99) }
+{
+    if text.len() != 2 {
+        return None;
+    }
+    number_of(text)
+}
+
+// The value of one or two digits.
+fn one_or_two_digits(text: &[u8]) -> Option<u64>
+    ensures { result ≡ one_or_two_digits text.now }
+{
+    if text.len() > 2 {
+        return None;
+    }
+    number_of(text)
+}
+
+// The seconds of the day at a time of day.
+fn seconds_of_day(hours: u64, minutes: u64, seconds: u64) -> Result<u64, Fault>
+    ensures value { result ≡ seconds_of_day hours minutes seconds }
+    ensures within { IfOk result (λ time. time ≤ 86399) }
+{
+    if hours > 23 || minutes > 59 || seconds > 59 {
+        return Err(Fault::Range);
+    }
+    Ok(hours * 3600 + minutes * 60 + seconds)
+}
+
+// The seconds of a time of day that is split at its first colon.
+#[tactic(auto, unfolding(crate::specs::Fields::clock_of))]
+fn clock_of(front: &[u8], back: &[u8]) -> Result<u64, Fault>
+    ensures value { result ≡ clock_of front.now back.now }
+    ensures within { IfOk result (λ time. time ≤ 86399) }
+{
+    let Some((middle, end)) = split_once(back, b':') else {
+        return Err(Fault::Form);
+    };
+    let Some(hours) = one_or_two_digits(front) else {
+        return Err(Fault::Form);
+    };
+    let Some(minutes) = two_digits(middle) else {
+        return Err(Fault::Form);
+    };
+    let Some(seconds) = two_digits(end) else {
+        return Err(Fault::Form);
+    };
+    seconds_of_day(hours, minutes, seconds)
+}
+
+// A time in seconds: a number of them, or a time of day.
+pub(crate) fn time_of(text: &[u8]) -> Result<u64, Fault>
+    ensures value { result ≡ time_of text.now }
+    ensures within { IfOk result (λ time. time ≤ 9999999999) }
+{
+    match split_once(text, b':') {
+        None => number_between(text, 0, MAX_SECONDS),
+        Some((front, back)) => clock_of(front, back),
     }
 }
 
-// Whether a trade buys: `B`, or `S` for a sale.
-#[tactic(auto, unfolding(crate::specs::Fields::side_of))]
-pub(crate) fn side_of(field: &[u8]) -> Option<bool>
-    ensures { result ≡ side_of field.now }
+// The number of an account.
+pub(crate) fn account_of(text: &[u8]) -> Result<u64, Fault>
+    ensures value { result ≡ account_of text.now }
+    ensures within { IfOk result (λ account. (1 ≤ account) × (account ≤ 1000000)) }
 {
-    if field == b"B".as_slice() {
-        Some(true)
-    } else if field == b"S".as_slice() {
-        Some(false)
-    } else {
-        None
-    }
+    number_between(text, 1, MAX_ACCOUNT)
 }
 
+// How many shares.
+pub(crate) fn qty_of(text: &[u8]) -> Result<u64, Fault>
+    ensures value { result ≡ qty_of text.now }
+    ensures within { IfOk result (λ qty. (1 ≤ qty) × (qty ≤ 100000)) }
+{
+    number_between(text, 1, MAX_QTY)
+}
+
+// A byte of a symbol: printed ASCII, and neither comma nor double quote.
 fn is_symbol_byte(byte: u8) -> bool
     ensures { result ≡ is_symbol_byte byte }
 {
     0x20 <= byte && byte <= 0x7e && byte != b',' && byte != b'"'
 }
 
-fn has_symbol_bytes(field: &[u8]) -> bool
-    ensures { result ≡ list_all is_symbol_byte field.now }
+fn has_symbol_bytes(text: &[u8]) -> bool
+    ensures { result ≡ list_all is_symbol_byte text.now }
 {
-    field.iter().all(|b| is_symbol_byte(*b))
+    text.iter().all(|byte| is_symbol_byte(*byte))
 }
 
-// Whether a field may be a symbol.
-#[tactic(auto, unfolding(crate::specs::Fields::is_symbol))]
-pub(crate) fn is_symbol(field: &[u8]) -> bool
-    ensures { result ≡ is_symbol field.now }
+// Whether a text may be a symbol: 1 to 32 of these bytes.
+pub(crate) fn is_symbol(text: &[u8]) -> bool
+    ensures { result ≡ is_symbol text.now }
 {
-    !field.is_empty() && field.len() <= 32 && has_symbol_bytes(field)
+    !text.is_empty() && text.len() <= MAX_SYMBOL_BYTES && has_symbol_bytes(text)
+}
+
+// Whether a trade buys or sells.
+#[tactic(auto, unfolding(crate::specs::Fields::side_of))]
+pub(crate) fn side_of(text: &[u8]) -> Result<Side, Fault>
+    ensures { result ≡ side_of text.now }
+{
+    if is_word(text, b"b") || is_word(text, b"buy") {
+        return Ok(Side::Buy);
+    }
+    if is_word(text, b"s") || is_word(text, b"sell") {
+        return Ok(Side::Sell);
+    }
+    Err(Fault::Form)
 }
 
 // The cents that one or two digits behind the point mean.
-#[tactic(auto, unfolding(crate::specs::Fields::fraction_of))]
-fn fraction_of(digits: &[u8]) -> Option<u64>
-    ensures value { result ≡ fraction_of digits.now }
-    ensures small { IfSome result (λ cents. cents ≤ 99) }
+fn fraction_of(text: &[u8]) -> Option<u64>
+    ensures value { result ≡ fraction_of text.now }
+    ensures within { IfSome result (λ cents. cents ≤ 99) }
 {
-    if digits.len() == 1 {
-        return match number_of(digits) {
-            Some(tens) if tens <= 9 => Some(tens * 10),
-            _ => None,
-        };
+    match text.len() {
+        1 => match number_of(text) {
+            Some(tens) => Some(tens * 10),
+            None => None,
+        },
+        _ => two_digits(text),
     }
-    if digits.len() == 2 {
-        return match number_of(digits) {
-            Some(cents) if cents <= 99 => Some(cents),
-            _ => None,
-        };
-    }
-    None
 }
 
-// The cents of whole units and a fraction, within the limit of a price.
-fn joined(whole: Option<u64>, fraction: Option<u64>) -> Option<u64>
-    requires { IfSome fraction (λ cents. cents ≤ 99) }
-    ensures value { result ≡ joined whole fraction }
-    ensures within { IfSome result (λ cents. cents ≤ 100000000) }
+// The cents of whole units and of a fraction, within the limit of a price.
+fn cents_of(units: u64, cents: u64) -> Result<u64, Fault>
+    requires { cents ≤ 99 }
+    ensures value { result ≡ ranged 0 100000000 (units * 100 + cents) }
+    ensures within { IfOk result (λ cents. cents ≤ 100000000) }
 {
-    let (Some(whole), Some(fraction)) = (whole, fraction) else {
-        return None;
-    };
-    if whole > 1_000_000 {
-        return None;
+    // Beyond this many units the product might wrap.
+    if units > MAX_CENTS / 100 {
+        return Err(Fault::Range);
     }
-    let cents = whole * 100 + fraction;
-    if cents > MAX_CENTS {
-        return None;
+    let total = units * 100 + cents;
+    if total > MAX_CENTS {
+        return Err(Fault::Range);
     }
-    Some(cents)
-}
-
-// What follows a place.
-fn rest_after(field: &[u8], place: usize) -> &[u8]
-    requires { place < length field.now }
-    ensures { result.now ≡ drop (place + 1) field.now }
-{
-    let (_, rest) = field.split_at(place + 1);
-    rest
-}
-
-// The place of the point.
-fn point_of(field: &[u8]) -> Option<usize>
-    ensures value { result ≡ position (λ b. b == 46) field.now }
-    ensures within { IfSome result (λ place. place < length field.now) }
-{
-    field.iter().position(|b| *b == b'.')
+    Ok(total)
 }
 
 // A price in cents: digits, or digits with a point and one or two digits.
-#[tactic(auto, unfolding(crate::specs::Fields::cents_of))]
-pub(crate) fn cents_of(field: &[u8]) -> Option<u64>
-    ensures value { result ≡ cents_of field.now }
-    ensures within { IfSome result (λ cents. cents ≤ 100000000) }
+pub(crate) fn price_of(text: &[u8]) -> Result<u64, Fault>
+    ensures value { result ≡ price_of text.now }
+    ensures within { IfOk result (λ cents. cents ≤ 100000000) }
 {
-    match point_of(field) {
-        None => joined(digits_of(field), Some(0)),
-        Some(place) => joined(
-            digits_of(&field[..place]),
-            fraction_of(rest_after(field, place)),
-        ),
-    }
+    let Some((whole, fraction)) = split_once(text, b'.') else {
+        let Some(units) = digits_of(text) else {
+            return Err(Fault::Form);
+        };
+        return cents_of(units, 0);
+    };
+    let Some(units) = digits_of(whole) else {
+        return Err(Fault::Form);
+    };
+    let Some(cents) = fraction_of(fraction) else {
+        return Err(Fault::Form);
+    };
+    cents_of(units, cents)
 }

@@ -1,22 +1,22 @@
-// Trades, and how they are read: a header of fixed names, then a trade a record.
-ghost use Rattle.std.specs.Prelude.{◌≡◌, ◌<◌, ◌≤◌, ◌^◌, ◌*◌, IfOk, IfSome, List, ℕ, length, vec_len};
-ghost use Rattle.std.specs.List.{position};
-ghost use Rattle.std.specs.Str.{bytes_eq};
+// Trades, and how they are read.
+ghost use Rattle.std.specs.Prelude.{◌≡◌, ◌<◌, ◌≤◌, ◌^◌, IfErr, IfOk, List, Ok, ℕ, false, length};
 ghost use Rattle.csv.specs.Records.{fields_of};
-ghost use Rattle.csv.specs.Reading.{default_config, records_from};
+ghost use Rattle.csv.specs.Machine.{ends_at_end};
 ghost use Rattle.csv.specs.declared.parser.State.{State};
-ghost use Rattle.ingress_egress.specs.Records.{HasLeft, starts_with_mark};
-ghost use Rattle.ingress_egress.specs.Texts.{texts};
-ghost use Rattle.ingress_egress.specs.Trades.{Gives, Numbers, field, is_header, no_trades, numbered, parsed_of, trade_in, trades_of, trades_onto};
+ghost use Rattle.ingress_egress.specs.Records.{HasLeft, records_left};
 ghost use Rattle.ingress_egress.specs.Signed.{signed};
+ghost use Rattle.ingress_egress.specs.Trades.{Gives, IsRefusalOf, Reads, located, no_trades, row_in, row_of, symbol_in, text_at, trades_of, trades_onto};
+ghost use Rattle.ingress_egress.specs.TradesView.{IsTrade};
 
-use crate::fields::{cents_of, in_range, is_symbol, side_of, trimmed};
-use crate::parsed::Parsed;
-use crate::records::{next_record, open_records};
+use crate::columns::{Columns, columns_of};
+use crate::fields::{
+    Fault, Side, account_of, is_symbol, price_of, qty_of, side_of, time_of, trimmed,
+};
+use crate::records::{next_record, open_records, starts_with_mark, without_mark};
+use crate::symbols::Symbols;
+use crate::{Field, TradeError};
 use csv::{ByteRecord, Reader};
 use std::alloc::Global;
-use std::error::Error;
-use std::fmt;
 use std::marker::Model;
 use tuple_edge::Row;
 
@@ -26,280 +26,193 @@ pub const MAX_TRADES_BYTES: u64 = 16_777_216;
 /// The most trades.
 pub const MAX_TRADES: usize = 100_000;
 
-/// The most different symbols.
-pub const MAX_SYMBOLS: usize = 4_096;
-
-/// Why a text is no list of trades.
-#[derive(Clone, Copy, Debug, PartialEq, Eq)]
-pub enum TradeError {
-    /// There is no record, so no header.
-    Header,
-    /// No memory was to be had.
-    OutOfMemory,
-    /// The text has a form that this reader doesn't take yet, or is faulty.
-    NotBuilt,
-}
-
-impl fmt::Display for TradeError {
-    ghost use Rattle.std.specs.Prelude.{Some};
-    ghost use Rattle.ingress_egress.specs.Trades.{trades_fault};
-
-    ghost output = { λ error. Some (trades_fault error) };
-
-    fn fmt<W: fmt::Write>(&self, f: &mut fmt::Formatter<W>) -> fmt::Result {
-        match self {
-            TradeError::Header => f.write_str("header"),
-            TradeError::OutOfMemory => f.write_str("out of memory"),
-            TradeError::NotBuilt => f.write_str("not built"),
-        }
-    }
-}
-
-impl Error for TradeError {}
-
 /// Trades as rows, whose symbols are numbers from 1 by first appearance.
 #[derive(Drop)]
 pub struct Trades {
     rows: Vec<Row>,
-    symbols: Vec<Vec<u8>>,
+    symbols: Symbols,
 }
 
 impl Model for Trades {
-    ghost use Rattle.std.specs.Prelude.{◌≤◌, vec_len};
-    ghost use Rattle.ingress_egress.specs.TradesView.{TradesView};
-    ghost use Rattle.ingress_egress.specs.Texts.{texts};
+    ghost use Rattle.ingress_egress.specs.TradesView.{TradesView, IsTrades};
 
     ghost Value = { TradesView };
 
-    ghost view = { λ t. record { rows = t.rows.items; symbols = texts t.symbols.items } };
+    ghost view = { λ t. record { rows = t.rows.items; symbols = t.symbols } };
 
-    ghost invariant = { λ t. (vec_len t.rows ≤ 100000) × (vec_len t.symbols ≤ 4096) };
-}
-
-// The field at a place, without blanks at its ends.
-fn field<'a>(record: &'a ByteRecord, place: usize) -> &'a [u8]
-    ensures { result.now ≡ field (fields_of record.now) place }
-{
-    match record.get(place) {
-        None => trimmed(&[]),
-        Some(text) => trimmed(text),
-    }
-}
-
-// A trade, of a record of six fields.
-#[tactic(auto, unfolding(crate::specs::Trades::trade_in))]
-fn trade_in(record: &ByteRecord) -> Result<Parsed<'_>, TradeError>
-    ensures { Gives parsed_of result (trade_in (fields_of record.now)) }
-{
-    if record.len() != 6 {
-        return Err(TradeError::NotBuilt);
-    }
-    let Some(time) = in_range(field(record, 0), 0, 9_999_999_999) else {
-        return Err(TradeError::NotBuilt);
-    };
-    let Some(account) = in_range(field(record, 1), 1, 1_000_000) else {
-        return Err(TradeError::NotBuilt);
-    };
-    let symbol = field(record, 2);
-    if !is_symbol(symbol) {
-        return Err(TradeError::NotBuilt);
-    }
-    let Some(buys) = side_of(field(record, 3)) else {
-        return Err(TradeError::NotBuilt);
-    };
-    let Some(qty) = in_range(field(record, 4), 1, 100_000) else {
-        return Err(TradeError::NotBuilt);
-    };
-    let Some(cents) = cents_of(field(record, 5)) else {
-        return Err(TradeError::NotBuilt);
-    };
-    Ok(Parsed {
-        time,
-        account,
-        symbol,
-        buys,
-        qty,
-        cents,
-    })
-}
-
-// A number, below zero for a sale.
-fn signed(buys: bool, number: u64) -> i64
-    requires { number < 2 ^ 63 }
-    ensures { result ≡ signed buys number }
-{
-    if buys {
-        number as i64
-    } else {
-        -(number as i64)
-    }
-}
-
-// The place of a known symbol, by the vectors that hold them.
-fn place_among(symbols: &[Vec<u8>], symbol: &[u8]) -> Option<usize>
-    ensures value { result ≡ position (λ s. bytes_eq s.items symbol.now) symbols.now }
-    ensures within { IfSome result (λ place. place < length symbols.now) }
-{
-    symbols.iter().position(|known| known.as_slice() == symbol)
-}
-
-// The place of a known symbol.
-fn place_of(symbols: &[Vec<u8>], symbol: &[u8]) -> Option<usize>
-    ensures value { result ≡ position (λ s. bytes_eq s symbol.now) (texts symbols.now) }
-    ensures within { IfSome result (λ place. place < length symbols.now) }
-{
-    place_among(symbols, symbol)
-}
-
-// The number of a symbol, which is added where it is new.
-#[tactic(auto, unfolding(crate::specs::Trades::numbered))]
-fn number(alloc: Global, symbols: &mut Vec<Vec<u8>>, symbol: &[u8]) -> Result<u64, TradeError>
-    requires { vec_len symbols.old ≤ 4096 }
-    ensures value { Numbers result (texts symbols.new.items) (numbered (texts symbols.old.items) symbol.now) }
-    ensures within { IfOk result (λ number. number ≤ 4096) }
-    ensures few { vec_len symbols.new ≤ 4096 }
-{
-    match place_of(symbols.as_slice(), symbol) {
-        Some(place) => Ok(place as u64 + 1),
-        None => {
-            let count = symbols.len();
-            if count >= MAX_SYMBOLS {
-                return Err(TradeError::NotBuilt);
-            }
-            let Ok(text) = Vec::from_slice(alloc, symbol) else {
-                return Err(TradeError::OutOfMemory);
-            };
-            if symbols.push(text).is_err() {
-                return Err(TradeError::OutOfMemory);
-            }
-            Ok(count as u64 + 1)
-        }
-    }
-}
-
-impl Parsed<'_> {
-    ghost use Rattle.ingress_egress.specs.Trades.{parsed_of, row_of};
-
-    // The row of a trade whose symbol has this number.
-    fn row(&self, number: u64) -> Row
-        requires { number ≤ 4096 }
-        ensures { result ≡ row_of (parsed_of self.now) number }
-    {
-        Row {
-            time: self.time as i64,
-            account: self.account as i64,
-            symbol: number as i64,
-            qty: signed(self.buys, self.qty),
-            value: signed(self.buys, self.qty * self.cents),
-        }
-    }
-}
-
-// Whether a text begins with the bytes of a byte order mark.
-fn starts_with_mark(text: &[u8]) -> bool
-    ensures { result ≡ starts_with_mark text.now }
-{
-    text.len() >= 3 && text[0] == 0xef && text[1] == 0xbb && text[2] == 0xbf
-}
-
-// Whether a record is the header.
-#[tactic(auto, unfolding(crate::specs::Trades::is_header))]
-fn is_header(record: &ByteRecord) -> bool
-    ensures { result ≡ is_header (fields_of record.now) }
-{
-    record.len() == 6
-        && field(record, 0) == b"time".as_slice()
-        && field(record, 1) == b"account".as_slice()
-        && field(record, 2) == b"symbol".as_slice()
-        && field(record, 3) == b"side".as_slice()
-        && field(record, 4) == b"qty".as_slice()
-        && field(record, 5) == b"price".as_slice()
+    ghost invariant = { λ t. IsTrades (record { rows = t.rows.items; symbols = t.symbols }) };
 }
 
 impl Trades {
-    ghost use Rattle.ingress_egress.specs.Trades.{Changes, no_trades, symbol_of, trade_onto};
+    ghost use Rattle.ingress_egress.specs.Symbols.{symbol_at};
+    ghost use Rattle.ingress_egress.specs.TradesView.{IsTrades};
 
-    fn new(alloc: Global) -> Trades
-        ensures { result ≡ no_trades }
-    {
-        Trades {
-            rows: Vec::new(alloc),
-            symbols: Vec::new(alloc),
-        }
-    }
-
-    /// The trades, in order.
+    /// The trades in order. A row has the time in seconds, the account, the number of the symbol, the
+    /// quantity, below zero for a sale, and the quantity times the price in cents.
     pub fn rows(&self) -> &[Row]
-        ensures { result.now ≡ self.now.rows }
+        ensures rows { result.now ≡ self.now.rows }
+        ensures limits { IsTrades self.now }
     {
         &self.rows
     }
 
     /// The symbol of a number: `-` where it is that of none.
     pub fn symbol(&self, number: i64) -> &[u8]
-        ensures { result.now ≡ symbol_of self.now.symbols number }
+        ensures { result.now ≡ symbol_at self.now.symbols number }
     {
-        if number < 1 {
-            return b"-";
-        }
-        let place = number as usize - 1;
-        if place >= self.symbols.len() {
-            return b"-";
-        }
-        self.symbols[place].as_slice()
-    }
-
-    // Adds the trade of a record.
-    #[tactic(auto, unfolding(crate::specs::Trades::trade_onto))]
-    fn add(&mut self, alloc: Global, record: &ByteRecord) -> Result<(), TradeError>
-        ensures { Changes result self.new (trade_onto self.old (fields_of record.now)) }
-    {
-        if self.rows.len() >= MAX_TRADES {
-            return Err(TradeError::NotBuilt);
-        }
-        let trade = trade_in(record)?;
-        let number = number(alloc, &mut self.symbols, trade.symbol)?;
-        if self.rows.push(trade.row(number)).is_err() {
-            return Err(TradeError::OutOfMemory);
-        }
-        Ok(())
+        self.symbols.name(number)
     }
 }
 
-// Adds the trades of the records that are left.
-fn add_records(
-    alloc: Global,
-    reader: &mut Reader<&[u8]>,
-    record: &mut ByteRecord,
-) -> Result<Trades, TradeError>
-    ensures { (state : State) (text : List ℕ) → HasLeft reader.old state text
-        → Gives (λ t. t) result (trades_onto no_trades (records_from default_config 100001 state text)) }
+// The value of a field of a record, or why and where it is refused.
+fn located<T>(rec: u64, field: Field, value: Result<T, Fault>) -> Result<T, TradeError>
+    ensures { result ≡ located rec field value }
 {
-    let mut trades = Trades::new(alloc);
-    for _turn in 0..MAX_TRADES + 1 {
-        if !next_record(reader, record)? {
-            return Ok(trades);
-        }
-        trades.add(alloc, record)?;
+    match value {
+        Ok(value) => Ok(value),
+        Err(Fault::Form) => Err(TradeError::Field { rec, field }),
+        Err(Fault::Range) => Err(TradeError::Range { rec, field }),
     }
-    Err(TradeError::OutOfMemory)
 }
 
-/// Reads the trades of a text, or gives its first fault.
+// The field at a place, without blanks at its ends.
+fn text_at<'a>(fields: &'a ByteRecord, place: usize) -> &'a [u8]
+    ensures { result.now ≡ text_at (fields_of fields.now) place }
+{
+    match fields.get(place) {
+        None => trimmed(&[]),
+        Some(text) => trimmed(text),
+    }
+}
+
+// A number as it counts: below zero for a sale.
+fn signed(side: Side, number: u64) -> i64
+    requires { number < 2 ^ 63 }
+    ensures { result ≡ signed side number }
+{
+    match side {
+        Side::Buy => number as i64,
+        Side::Sell => -(number as i64),
+    }
+}
+
+// The number of a record's symbol, which becomes known where it is new.
+#[tactic(auto, unfolding(crate::specs::Trades::symbol_in))]
+fn symbol_in(alloc: Global, rec: u64, symbols: &mut Symbols, text: &[u8]) -> Result<u64, TradeError>
+    requires { length symbols.old ≤ 4096 }
+    ensures reads { Reads result symbols.new (symbol_in rec symbols.old text.now) }
+    ensures within { IfOk result (λ number. (1 ≤ number) × (number ≤ 4096)) }
+    ensures few { length symbols.new ≤ 4096 }
+{
+    let field = Field::Symbol;
+    if !is_symbol(text) {
+        return Err(TradeError::Field { rec, field });
+    }
+    match symbols.number(alloc, text)? {
+        None => Err(TradeError::Range { rec, field }),
+        Some(number) => Ok(number),
+    }
+}
+
+// The row of a trade.
+fn row_of(time: u64, account: u64, symbol: u64, side: Side, qty: u64, cents: u64) -> Row
+    requires time { time ≤ 9999999999 }
+    requires account { (1 ≤ account) × (account ≤ 1000000) }
+    requires symbol { (1 ≤ symbol) × (symbol ≤ 4096) }
+    requires qty { (1 ≤ qty) × (qty ≤ 100000) }
+    requires cents { cents ≤ 100000000 }
+    ensures row { result ≡ row_of time account symbol side qty cents }
+    ensures within { IsTrade result }
+{
+    Row {
+        time: time as i64,
+        account: account as i64,
+        symbol: symbol as i64,
+        qty: signed(side, qty),
+        value: signed(side, qty * cents),
+    }
+}
+
+// Reads the row of a record of this number, whose symbol becomes known.
+#[tactic(auto, unfolding(crate::specs::Trades::row_in))]
+fn row_in(
+    alloc: Global,
+    columns: &Columns,
+    rec: u64,
+    symbols: &mut Symbols,
+    fields: &ByteRecord,
+) -> Result<Row, TradeError>
+    requires { length symbols.old ≤ 4096 }
+    ensures reads { Reads result symbols.new (row_in columns.now rec symbols.old (fields_of fields.now)) }
+    ensures within { IfOk result IsTrade }
+    ensures few { length symbols.new ≤ 4096 }
+{
+    if fields.len() != columns.count {
+        return Err(TradeError::Row { rec });
+    }
+    let time = located(rec, Field::Time, time_of(text_at(fields, columns.time)))?;
+    let account = located(
+        rec,
+        Field::Account,
+        account_of(text_at(fields, columns.account)),
+    )?;
+    let symbol = symbol_in(alloc, rec, symbols, text_at(fields, columns.symbol))?;
+    let side = located(rec, Field::Side, side_of(text_at(fields, columns.side)))?;
+    let qty = located(rec, Field::Qty, qty_of(text_at(fields, columns.qty)))?;
+    let cents = located(rec, Field::Price, price_of(text_at(fields, columns.price)))?;
+    Ok(row_of(time, account, symbol, side, qty, cents))
+}
+
+// Reads the records that are left.
+fn trades_left(
+    alloc: Global,
+    columns: &Columns,
+    reader: &mut Reader<&[u8]>,
+    fields: &mut ByteRecord,
+) -> Result<Trades, TradeError>
+    ensures { (state : State) (text : List ℕ) → HasLeft reader.old state text → ends_at_end state ≡ false
+        → Gives (λ t. t) result (trades_onto columns.now 2 no_trades (records_left state text)) }
+{
+    let mut rows = Vec::new(alloc);
+    let mut symbols = Symbols::new(alloc);
+    for turn in 0..MAX_TRADES {
+        if !next_record(reader, fields)? {
+            return Ok(Trades { rows, symbols });
+        }
+        // The header is record 1.
+        let row = row_in(alloc, columns, turn as u64 + 2, &mut symbols, fields)?;
+        rows.push(row)?;
+    }
+    if next_record(reader, fields)? {
+        return Err(TradeError::TooMany);
+    }
+    Ok(Trades { rows, symbols })
+}
+
+/// Reads the trades of a text: the header, whose names stand in any order and case, and then a trade
+/// a record. A byte order mark at the front is dropped, once. Where something is refused, the answer is
+/// the first such thing, record by record, and in a record in the order of [`Field`].
 #[tactic(auto, unfolding(crate::specs::Trades::trades_of))]
 pub fn read_trades(alloc: Global, bytes: &[u8]) -> Result<Trades, TradeError>
-    ensures { Gives (λ t. t) result (trades_of bytes.now) }
+    ensures answers { IfOk result (λ trades. trades_of bytes.now ≡ Ok trades) }
+
+    // Want of memory alone is no refusal of the text.
+    ensures refused { IfErr result (λ error. IsRefusalOf error (trades_of bytes.now)) }
 {
-    if bytes.len() as u64 > MAX_TRADES_BYTES || starts_with_mark(bytes) {
-        return Err(TradeError::NotBuilt);
+    if bytes.len() as u64 > MAX_TRADES_BYTES {
+        return Err(TradeError::TooLong {
+            bytes: bytes.len() as u64,
+        });
     }
-    let mut reader = open_records(alloc, bytes);
-    let mut record = ByteRecord::new(alloc);
-    if !next_record(&mut reader, &mut record)? {
+    let text = without_mark(bytes);
+    if starts_with_mark(text) {
         return Err(TradeError::Header);
     }
-    if !is_header(&record) {
-        return Err(TradeError::NotBuilt);
+    let mut reader = open_records(alloc, text);
+    let mut fields = ByteRecord::new(alloc);
+    if !next_record(&mut reader, &mut fields)? {
+        return Err(TradeError::Header);
     }
-    add_records(alloc, &mut reader, &mut record)
+    let columns = columns_of(&fields)?;
+    trades_left(alloc, &columns, &mut reader, &mut fields)
 }
