@@ -1,0 +1,117 @@
+// One out-edge of a producer.
+ghost use Rattle.ack_buffer.specs.Buffer.{BufferView, item_at};
+ghost use Rattle.flux_producer.specs.OutEdge.{acknowledged, cursor_of, over, rewound, sent, unused, wanted, with_item};
+ghost use Rattle.std.specs.Prelude.{◌≡◌, ◌≤◌, ◌<◌, ◌+◌, ◌^◌, IfSome, IfNone, OnOk, OnErr};
+
+use ack_buffer::AckBuffer;
+use std::alloc::Global;
+use std::marker::Model;
+use tuple_edge::{Item, OutOfMemory};
+
+/// An out-edge: its buffer, and for each replica of its consumer the next number to send.
+#[derive(Drop)]
+pub struct OutEdge {
+    buffer: AckBuffer,
+    cursors: [u64; 2],
+}
+
+impl Model for OutEdge {
+    ghost use Rattle.flux_producer.specs.OutEdge.{IsOutEdge, OutEdgeView};
+
+    ghost Value = { OutEdgeView };
+
+    ghost view = { λ e. record { buffer = e.buffer; cursors = e.cursors } };
+
+    ghost invariant = { λ e. IsOutEdge e.buffer e.cursors };
+}
+
+impl OutEdge {
+    // An edge with this buffer, of which nothing was sent.
+    pub(crate) fn over(buffer: AckBuffer) -> OutEdge
+        ensures { result ≡ over buffer }
+    {
+        let next = buffer.low() + 1;
+        OutEdge {
+            buffer,
+            cursors: [next, next],
+        }
+    }
+
+    // Makes room for so many further items.
+    pub(crate) fn reserve(&mut self, items: usize) -> Result<(), OutOfMemory>
+        ensures contents { self.new ≡ record self.old { buffer = record self.old.buffer { spare = self.new.buffer.spare } } }
+        ensures spare { OnOk result (items ≤ self.new.buffer.spare) }
+        ensures kept { self.old.buffer.spare ≤ self.new.buffer.spare }
+        ensures refused { OnErr result (self.old.buffer.spare < items) }
+    {
+        self.buffer.reserve(items)
+    }
+
+    // Produces the next item, and gives its number.
+    pub(crate) fn produce(&mut self, item: Item) -> u64
+        requires room { 1 ≤ self.old.buffer.spare }
+        requires fits { self.old.buffer.produced + 1 < 2 ^ 62 }
+        ensures number { result ≡ self.old.buffer.produced + 1 }
+        ensures produced { self.new ≡ with_item self.old item }
+    {
+        self.buffer.produce(item)
+    }
+
+    // Notes that the items up to a number are acknowledged.
+    pub(crate) fn ack(&mut self, upto: u64)
+        requires { upto < 2 ^ 62 }
+        ensures { self.new ≡ acknowledged self.old upto }
+    {
+        self.buffer.trim(upto);
+        let next = self.buffer.low() + 1;
+        self.cursors = [next.max(self.cursors[0]), next.max(self.cursors[1])];
+    }
+
+    // Goes back to a number that a replica wants.
+    pub(crate) fn want(&mut self, copy: u32, from: u64)
+        requires { copy < 2 }
+        ensures { self.new ≡ wanted self.old copy from }
+    {
+        let next = self.buffer.low() + 1;
+        let at = copy as usize;
+        self.cursors[at] = self.cursors[at].min(from.max(next));
+    }
+
+    // Begins again with the first item that isn't acknowledged.
+    pub(crate) fn rewind(&mut self)
+        ensures { self.new ≡ rewound self.old }
+    {
+        let next = self.buffer.low() + 1;
+        self.cursors = [next, next];
+    }
+
+    // Gives the item at a replica's cursor, and goes on to the next number. None where it isn't
+    // produced yet.
+    pub(crate) fn send(&mut self, copy: u32) -> Option<Item>
+        requires { copy < 2 }
+        ensures item { result ≡ item_at self.old.buffer (cursor_of self.old copy) }
+        ensures sent { IfSome result (λ _. self.new ≡ sent self.old copy) }
+        ensures none { IfNone result ((self.new ≡ self.old) × (self.old.buffer.produced < cursor_of self.old copy)) }
+    {
+        let at = copy as usize;
+        let item = self.buffer.get(self.cursors[at])?;
+        self.cursors[at] += 1;
+        Some(item)
+    }
+
+    pub(crate) fn buffer(&self) -> &AckBuffer
+        ensures { result.now ≡ self.now.buffer }
+    {
+        &self.buffer
+    }
+
+    // The next number to send to a replica.
+    pub(crate) fn cursor(&self, copy: u32) -> u64
+        requires { copy < 2 }
+        ensures value { result ≡ cursor_of self.now copy }
+        ensures above { self.now.buffer.low < result }
+        ensures fits { result ≤ 2 ^ 62 }
+    {
+        self.cursors[copy as usize]
+    }
+}

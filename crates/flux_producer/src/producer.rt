@@ -1,0 +1,303 @@
+// The producer: its out-edges, and what is due on them.
+ghost use Rattle.ack_buffer.specs.Buffer.{item_at};
+ghost use Rattle.flux_producer.specs.Due.{IsLeast, NoneWaits, due_at, due_of, due_to};
+ghost use Rattle.flux_producer.specs.OutEdge.{over, rewound, unused};
+ghost use Rattle.flux_producer.specs.ProducerView.{HasRoom, KeepsRoom, acked, buffer_at, contents_of, cursor_at, emitted, leading, opening, over_buffers, sent_on, wanted_from, without_room};
+ghost use Rattle.std.specs.Prelude.{◌≡◌, ◌≤◌, ◌<◌, ◌+◌, ◌^◌, length, None, Some, IfOk, OnOk, IsTrue, IfNone, IfSome, map, replicate, vec_len};
+
+use crate::Due;
+use crate::edge::OutEdge;
+use ack_buffer::AckBuffer;
+use std::alloc::Global;
+use std::marker::Model;
+use tuple_edge::{Item, OutOfMemory};
+
+/// The greatest number of replicas of a consumer.
+pub const MAX_COPIES: u32 = 2;
+
+/// What a node sends on its out-edges. Targets and replicas count from 0, numbers of items from 1.
+/// Numbers are below 2^62.
+#[derive(Drop)]
+pub struct Producer {
+    stage: u32,
+    from: u32,
+    copies: u32,
+    term: u64,
+    leads: bool,
+    edges: Vec<OutEdge>,
+}
+
+impl Model for Producer {
+    ghost use Rattle.flux_producer.specs.ProducerView.{IsProducer, ProducerView};
+
+    ghost Value = { ProducerView };
+
+    ghost view = { λ p. record {
+      stage = p.stage;
+      from = p.from;
+      copies = p.copies;
+      term = p.term;
+      leads = p.leads;
+      edges = p.edges.items;
+    } };
+
+    ghost invariant = { λ p. IsProducer p.copies p.edges.items };
+}
+
+// Edges on which nothing was produced.
+fn unused_edges(alloc: Global, targets: u32) -> Result<Vec<OutEdge>, OutOfMemory>
+    ensures { IfOk result (λ edges. edges.items ≡ replicate targets unused) }
+{
+    let mut edges = Vec::with_capacity(alloc, targets as usize)?;
+    for _target in 0..targets {
+        edges.push_reserved(OutEdge::over(AckBuffer::new(alloc)));
+    }
+    Ok(edges)
+}
+
+// Edges over these buffers.
+fn edges_over(alloc: Global, buffers: Vec<AckBuffer>) -> Result<Vec<OutEdge>, OutOfMemory>
+    ensures { IfOk result (λ edges. edges.items ≡ map over buffers.items) }
+{
+    let mut edges = Vec::with_capacity(alloc, buffers.len())?;
+    for buffer in buffers {
+        edges.push_reserved(OutEdge::over(buffer));
+    }
+    Ok(edges)
+}
+
+// Begins again on each edge with the first item that isn't acknowledged.
+fn rewind_all(edges: &mut Vec<OutEdge>)
+    ensures { edges.new.items ≡ map rewound edges.old.items }
+{
+    for edge in edges.iter_mut() {
+        edge.rewind();
+    }
+}
+
+// Makes room on each edge.
+fn reserve_all(edges: &mut Vec<OutEdge>, items: usize) -> Result<(), OutOfMemory>
+    ensures contents { map without_room edges.new.items ≡ map without_room edges.old.items }
+    ensures len { length edges.new.items ≡ length edges.old.items }
+    ensures room { OnOk result (HasRoom edges.new.items items) }
+    ensures kept { KeepsRoom edges.old.items edges.new.items }
+{
+    for i in 0..edges.len() {
+        edges[i].reserve(items)?;
+    }
+    Ok(())
+}
+
+impl Producer {
+    /// A producer of a stage and partition with this many out-edges, of which nothing was produced.
+    /// `copies` is how many replicas each target has. Its term is 1 where it leads, else 0.
+    pub fn new(
+        alloc: Global,
+        stage: u32,
+        from: u32,
+        targets: u32,
+        copies: u32,
+        leads: bool,
+    ) -> Result<Producer, OutOfMemory>
+        requires some { 1 ≤ copies }
+        requires few { copies ≤ MAX_COPIES }
+        ensures { IfOk result (λ p. p ≡ opening stage from targets copies leads) }
+    {
+        let edges = unused_edges(alloc, targets)?;
+        Ok(Producer {
+            stage,
+            from,
+            copies,
+            term: if leads { 1 } else { 0 },
+            leads,
+            edges,
+        })
+    }
+
+    /// A producer over these buffers, one for each target. It has term 0, doesn't lead, and its
+    /// cursors are above what is acknowledged by one.
+    pub fn starting(
+        alloc: Global,
+        stage: u32,
+        from: u32,
+        copies: u32,
+        edges: Vec<AckBuffer>,
+    ) -> Result<Producer, OutOfMemory>
+        requires some { 1 ≤ copies }
+        requires few { copies ≤ MAX_COPIES }
+        requires targets { vec_len edges < 2 ^ 32 }
+        ensures { IfOk result (λ p. p ≡ over_buffers stage from copies edges.items) }
+    {
+        let edges = edges_over(alloc, edges)?;
+        Ok(Producer {
+            stage,
+            from,
+            copies,
+            term: 0,
+            leads: false,
+            edges,
+        })
+    }
+
+    /// Makes room for so many further items on every edge. After want of memory some edges may have
+    /// more room than before.
+    pub fn reserve(&mut self, items: u64) -> Result<(), OutOfMemory>
+        ensures contents { contents_of self.new ≡ contents_of self.old }
+        ensures room { OnOk result (HasRoom self.new.edges items) }
+        ensures kept { KeepsRoom self.old.edges self.new.edges }
+    {
+        reserve_all(&mut self.edges, items as usize)
+    }
+
+    /// Produces the next item of an edge, and gives its number. It takes no memory.
+    pub fn emit(&mut self, to: u32, item: Item) -> u64
+        requires edge { to < length self.old.edges }
+        requires room { 1 ≤ (buffer_at self.old to).spare }
+        requires fits { (buffer_at self.old to).produced + 1 < 2 ^ 62 }
+        ensures number { result ≡ (buffer_at self.old to).produced + 1 }
+        ensures emitted { self.new ≡ emitted self.old to item }
+    {
+        self.edges[to as usize].produce(item)
+    }
+
+    /// Notes that the items of an edge up to a number are acknowledged: they are let go, and cursors
+    /// become at least the next number.
+    pub fn ack(&mut self, to: u32, upto: u64)
+        requires edge { to < length self.old.edges }
+        requires fits { upto < 2 ^ 62 }
+        ensures { self.new ≡ acked self.old to upto }
+    {
+        self.edges[to as usize].ack(upto);
+    }
+
+    /// Goes back to a number that a replica of a target wants, where it leads: the cursor never moves
+    /// forward, and stays above what is acknowledged.
+    pub fn want(&mut self, to: u32, copy: u32, from: u64)
+        requires edge { to < length self.old.edges }
+        requires copy { copy < self.old.copies }
+        ensures { self.new ≡ wanted_from self.old to copy from }
+    {
+        if self.leads {
+            self.edges[to as usize].want(copy, from);
+        }
+    }
+
+    /// Leads under a term that is above its own, and sends again all that is not acknowledged. Under
+    /// another term nothing changes.
+    pub fn lead(&mut self, term: u64)
+        ensures { self.new ≡ leading self.old term }
+    {
+        if term > self.term {
+            self.term = term;
+            self.leads = true;
+            rewind_all(&mut self.edges);
+        }
+    }
+
+    // What is due to a replica of a target.
+    fn due_at(&self, to: u32, copy: u32) -> Option<Due>
+        requires edge { to < length self.now.edges }
+        requires copy { copy < self.now.copies }
+        ensures { result ≡ due_at self.now to copy }
+    {
+        let edge = &self.edges[to as usize];
+        let number = edge.cursor(copy);
+        if number <= edge.buffer().produced() {
+            Some(Due { to, copy, number })
+        } else {
+            None
+        }
+    }
+
+    // What is due to a target.
+    fn due_to(&self, to: u32) -> Option<Due>
+        requires { to < length self.now.edges }
+        ensures { result ≡ due_to self.now to }
+    {
+        let mut due = None;
+        for copy in 0..self.copies {
+            due = Due::sooner(due, self.due_at(to, copy));
+        }
+        due
+    }
+
+    /// What is to be sent next: the least by number, target and replica. None exactly where it
+    /// doesn't lead or nothing waits.
+    pub fn due(&self) -> Option<Due>
+        ensures value { result ≡ due_of self.now }
+        ensures leads { IfSome result (λ _. IsTrue self.now.leads) }
+        ensures least { IfSome result (IsLeast self.now) }
+        ensures none { IfNone result (IsTrue self.now.leads → NoneWaits self.now) }
+    {
+        if !self.leads {
+            return None;
+        }
+        let mut due = None;
+        for to in 0..self.edges() {
+            due = Due::sooner(due, self.due_to(to));
+        }
+        due
+    }
+
+    /// Gives what is due with its item, and goes on to the next number. None as [`Producer::due`]. It
+    /// takes no memory.
+    pub fn send_due(&mut self) -> Option<(Due, Item)>
+        ensures none { IfNone result ((due_of self.old ≡ None) × (self.new ≡ self.old)) }
+        ensures due { IfSome result (λ s. due_of self.old ≡ Some s.0) }
+        ensures item { IfSome result (λ s. item_at (buffer_at self.old s.0.to) s.0.number ≡ Some s.1) }
+        ensures sent { IfSome result (λ s. self.new ≡ sent_on self.old s.0.to s.0.copy) }
+    {
+        let due = self.due()?;
+        let item = self.edges[due.to as usize].send(due.copy)?;
+        Some((due, item))
+    }
+
+    /// How many out-edges there are.
+    pub fn edges(&self) -> u32
+        ensures { result ≡ length self.now.edges }
+    {
+        self.edges.len() as u32
+    }
+
+    /// How many replicas each target has: 1 to [`MAX_COPIES`].
+    pub fn copies(&self) -> u32
+        ensures value { result ≡ self.now.copies }
+        ensures some { 1 ≤ result }
+        ensures few { result ≤ MAX_COPIES }
+    {
+        self.copies
+    }
+
+    /// What is not acknowledged on the edge to a target.
+    pub fn buffer(&self, to: u32) -> &AckBuffer
+        requires { to < length self.now.edges }
+        ensures { result.now ≡ buffer_at self.now to }
+    {
+        self.edges[to as usize].buffer()
+    }
+
+    /// The next number to send to a replica of a target.
+    pub fn cursor(&self, to: u32, copy: u32) -> u64
+        requires edge { to < length self.now.edges }
+        requires copy { copy < self.now.copies }
+        ensures value { result ≡ cursor_at self.now to copy }
+        ensures above { (buffer_at self.now to).low < result }
+        ensures fits { result ≤ 2 ^ 62 }
+    {
+        self.edges[to as usize].cursor(copy)
+    }
+
+    /// The term under which it last led; 0 where it never did.
+    pub fn term(&self) -> u64
+        ensures { result ≡ self.now.term }
+    {
+        self.term
+    }
+
+    /// Whether it leads.
+    pub fn leads(&self) -> bool
+        ensures { result ≡ self.now.leads }
+    {
+        self.leads
+    }
+}
