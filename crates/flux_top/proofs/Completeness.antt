@@ -1,7 +1,7 @@
 -- Where files tell what they hold, words come to one end: a text or a refusal.
 use Rattle.std.proofs.Common.{ℕ, ◌≡◌, List, [], ◌∷◌, refl, sym, ap, ◌∙◌, subst, Some, None, Option, Ok, Err}
 use Rattle.plan_reader.specs.PlanView.{PlanView}
-use Rattle.flux_top.specs.Clauses.{Accepts, Rejects, WritesPart}
+use Rattle.flux_top.specs.Clauses.{Accepts, Rejects, Told, WritesPart}
 use Rattle.flux_top.specs.Outcome.{AreHeld, ComesTo, Needs, Outcome, Reading, Refuses, Writes, eval_plan, outcome, plan_from, ◌>>=◌}
 use Rattle.flux_top.specs.Outside.{Names}
 use Rattle.flux_top.specs.Words.{Eval, Request, form, inputs_of}
@@ -72,5 +72,5 @@ pub rejected_formed : (told : Option Names) (words : List (List ℕ)) → Reject
 rejected_formed None words rejected none = rejected
 rejected_formed (Some named) words rejected none = none_not_some (sym none ∙ rejected.1.formed)
 
-pub rejected_without_part : (told : Option Names) (words : List (List ℕ)) (old new : Option (List ℕ)) → Rejects told words → WritesPart told words old new → ⊥
+pub rejected_without_part : (told : Option Names) (words : List (List ℕ)) (old new : Told) → Rejects told words → WritesPart told words old new → ⊥
 rejected_without_part told words old new rejected part = rejected_unwritten told words part.text rejected part.comes

@@ -1,7 +1,7 @@
 pub mod Calls
 pub mod Completeness
 pub mod FileNames
-pub mod Outputs
+pub mod Parts
 pub mod ReadLaws
 pub mod Refusals
 pub mod Sinks

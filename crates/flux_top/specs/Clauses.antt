@@ -1,7 +1,7 @@
 -- What the clauses of `flux` and of its steps say.
 use Rattle.std.specs.Prelude.{ℕ, ◌≡◌, ◌⊎◌, List, Option, None, Some, Ok, Err}
 use Rattle.std.specs.String.{string_bytes}
-use Rattle.flux_top.specs.Outside.{IsHeld, Names, Rose, Takes, TakesPart}
+use Rattle.flux_top.specs.Outside.{IsHeld, Names, OffersRests, Rose, Takes, TakesPart}
 use Rattle.flux_top.specs.Outcome.{ComesOf, ComesTo, Needs, Reading, Refuses, Writes, cannot_read_line}
 use Rattle.flux_top.specs.Words.{Request, form}
 use Rattle.flux_top.specs.declared.stop.Stop.{Stop}
@@ -17,17 +17,23 @@ IsStatus status = (status ≡ 0) ⊎ (status ≡ 2) ⊎ (status ≡ 3) ⊎ (stat
 abbrev pub Tells : Option (List ℕ) → Option (List ℕ) → ℕ → ℕ → List ℕ → Type 0
 Tells old new before now line = Takes old new line ⊎ (TakesPart old new line × Rose before now)
 
--- the text of the words' command was written whole
-pub record WritesWhole (told : Option Names) (words : List (List ℕ)) (old new : Option (List ℕ)) : Type 0 where
-  pub text : List ℕ
-  pub comes : ComesTo told words (Writes text)
-  pub takes : Takes old new text
+-- what a sink tells: the bytes taken, and the pieces offered
+abbrev pub Told : Type 0
+Told = Option (List ℕ) × Option (List (List ℕ))
 
--- a proper prefix of it was written
-pub record WritesPart (told : Option Names) (words : List (List ℕ)) (old new : Option (List ℕ)) : Type 0 where
+-- the text of the words' command was written whole, each put being given all that was left of it
+pub record WritesWhole (told : Option Names) (words : List (List ℕ)) (old new : Told) : Type 0 where
   pub text : List ℕ
   pub comes : ComesTo told words (Writes text)
-  pub takes : TakesPart old new text
+  pub takes : Takes old.0 new.0 text
+  pub offers : OffersRests old.1 new.1 text
+
+-- a proper prefix of it was written, in the same way
+pub record WritesPart (told : Option Names) (words : List (List ℕ)) (old new : Told) : Type 0 where
+  pub text : List ℕ
+  pub comes : ComesTo told words (Writes text)
+  pub takes : TakesPart old.0 new.0 text
+  pub offers : OffersRests old.1 new.1 text
 
 -- an input was refused, and its line said
 pub record SaysRefusal (told : Option Names) (words : List (List ℕ)) (old new : Option (List ℕ)) (before now : ℕ) : Type 0 where
@@ -81,6 +87,14 @@ IsUnreadBy (stop.CannotRead said) line = string_bytes said ≡ line
 IsUnreadBy stop.CannotWrite line = ⊥
 IsUnreadBy stop.OutOfMemory line = Unit {0}
 
+-- a reading was refused by this line
+abbrev pub StopsOn : {A : Type 0} → Reading A → Stop → Type 0
+StopsOn reading stop.Usage = ⊥
+StopsOn reading (stop.Refused line) = reading ≡ Err (string_bytes line)
+StopsOn reading (stop.CannotRead line) = ⊥
+StopsOn reading stop.CannotWrite = ⊥
+StopsOn reading stop.OutOfMemory = Unit {0}
+
 -- why the reading of a file stopped
 abbrev pub StopsAt : {A : Type 0} → Option Names → List ℕ → (List ℕ → Reading A) → Stop → Type 0
 StopsAt told name reading stop.Usage = ⊥
@@ -110,7 +124,7 @@ pub record IsUnreadTo (told : Option Names) (words : List (List ℕ)) (line : Li
   pub line_is : line ≡ cannot_read_line name
 
 -- why the command of these words stopped, and what was written of its text
-abbrev pub StopsTo : Option Names → List (List ℕ) → Option (List ℕ) → Option (List ℕ) → Stop → Type 0
+abbrev pub StopsTo : Option Names → List (List ℕ) → Told → Told → Stop → Type 0
 StopsTo told words old new stop.Usage = form words ≡ None
 StopsTo told words old new (stop.Refused line) = ComesTo told words (Refuses (string_bytes line))
 StopsTo told words old new (stop.CannotRead line) = IsUnreadTo told words (string_bytes line)

@@ -1,6 +1,6 @@
 pub mod Clauses
 pub mod Memory
 pub mod Outcome
-pub mod Output
 pub mod Outside
+pub mod PartView
 pub mod Words

@@ -1,14 +1,15 @@
 -- What a command comes to: the text that it writes, or the line by which an input is refused.
 use Rattle.std.specs.Prelude.{ℕ, ◌≡◌, List, [], ◌∷◌, ◌++◌, codes, Option, Some, None, Result, Ok, Err}
-use Rattle.plan_reader.specs.Grammar.{plan_fault}
+use Rattle.plan_reader.specs.Messages.{plan_fault}
 use Rattle.plan_reader.specs.Plan.{plan_of}
 use Rattle.plan_reader.specs.PlanView.{PlanView}
-use Rattle.plan_reader.specs.declared.plan.PlanError.{PlanError}
+use Rattle.plan_reader.specs.declared.error.PlanError.{PlanError}
 use Rattle.ingress_egress.specs.Text.{text}
-use Rattle.ingress_egress.specs.Trades.{trades_fault, trades_of}
+use Rattle.ingress_egress.specs.Messages.{trades_fault}
+use Rattle.ingress_egress.specs.Trades.{trades_of}
 use Rattle.ingress_egress.specs.TradesView.{TradesView}
-use Rattle.ingress_egress.specs.declared.trades.TradeError.{TradeError}
-use Rattle.flux_top.specs.Output.{output}
+use Rattle.ingress_egress.specs.declared.error.TradeError.{TradeError}
+use Rattle.pair_machine.specs.Output.{output}
 use Rattle.flux_top.specs.Outside.{IsHeld, Names}
 use Rattle.flux_top.specs.Words.{Eval, Request, form, inputs_of}
 

@@ -1,5 +1,5 @@
 -- What calls to files and sinks do, and what of it is told.
-use Rattle.std.specs.Prelude.{Bool, true, false, Result, Ok, Err, ◌∷◌, if◌then◌else◌, ℕ, ◌≡◌, ◌≢◌, ◌+◌, ◌-◌, ◌^◌, ◌<◌, ◌≤◌, min, List, [], ◌++◌, take, length, Option, Some, None}
+use Rattle.std.specs.Prelude.{Bool, true, false, Result, Ok, Err, ◌∷◌, if◌then◌else◌, ℕ, ◌≡◌, ◌≢◌, ◌+◌, ◌-◌, ◌^◌, ◌<◌, ◌≤◌, min, List, [], ◌++◌, take, drop, length, Option, Some, None}
 use Rattle.flux_top.specs.declared.outside.FileStop.{FileStop}
 use Rattle.flux_top.specs.declared.outside.FileStop.TheVariants as stop
 use Rattle.flux_top.specs.declared.outside.Got.{Got}
@@ -83,6 +83,28 @@ AsksFor (Some old) None calls = ⊥
 AsksFor (Some old) (Some new) calls = AddsFront old new calls
 
 -- ---- sinks
+
+-- a piece joins the list of those that were offered, where it is told
+abbrev pub IsOffered : Option (List (List ℕ)) → Option (List (List ℕ)) → List ℕ → Type 0
+IsOffered None new piece = Unit {0}
+IsOffered (Some old) new piece = new ≡ Some (old ++ piece ∷ [])
+
+-- each of these pieces of a text is all that was left of it: the first is the text, and each other one is the piece before it without some bytes in front
+abbrev pub AreRests : List ℕ → List (List ℕ) → Type 0
+AreRests text [] = Unit {0}
+AreRests text (piece ∷ pieces) = (piece ≡ text) × ((n : ℕ) × AreRests (drop n text) pieces)
+
+-- the pieces that were offered since then are rests of a text
+pub record AddsRests (old new : List (List ℕ)) (text : List ℕ) : Type 0 where
+  pub pieces : List (List ℕ)
+  pub added : new ≡ old ++ pieces
+  pub rests : AreRests text pieces
+
+-- the same, where pieces are told
+abbrev pub OffersRests : Option (List (List ℕ)) → Option (List (List ℕ)) → List ℕ → Type 0
+OffersRests None new text = Unit {0}
+OffersRests (Some old) None text = ⊥
+OffersRests (Some old) (Some new) text = AddsRests old new text
 
 -- these bytes were taken, where it is told what is taken
 abbrev pub Takes : Option (List ℕ) → Option (List ℕ) → List ℕ → Type 0

@@ -3,7 +3,7 @@ ghost use Rattle.std.specs.Prelude.{◌≡◌, ◌≢◌, ◌↔◌, ◌⊎◌, 
 ghost use Rattle.flux_top.specs.Clauses.{Accepts, HasCause, HasReadCause, IsQuiet, IsStatus, Rejects, SaysRefusal, SaysUnread, StopsOf, StopsTo, Tells, WritesPart, WritesWhole};
 ghost use Rattle.flux_top.specs.Outcome.{ComesOf, Writes, cannot_write_line, memory_line, usage_line};
 ghost use Rattle.flux_top.specs.Outside.{AsksFor, Read, Rose};
-ghost use Rattle.flux_top.specs.Output.{output};
+ghost use Rattle.pair_machine.specs.Output.{output};
 ghost use Rattle.flux_top.specs.Words.{Eval, form, reads_of, request_of};
 ghost use Rattle.flux_top.specs.declared.stop.Stop.TheVariants.{Usage};
 ghost use Rattle.ingress_egress.specs.Text.{text};
@@ -31,7 +31,7 @@ pub fn flux<F: Files, S: Sink, E: Sink>(
     err: &mut E,
 ) -> u8
     // 0: the text of the command was written whole, and nothing is said.
-    ensures done { result ≡ 0 → WritesWhole (F.contents files.old) (map string_bytes words.now) (S.taken out.old) (S.taken out.new) }
+    ensures done { result ≡ 0 → WritesWhole (F.contents files.old) (map string_bytes words.now) (S.taken out.old, S.offered out.old) (S.taken out.new, S.offered out.new) }
     ensures silent { result ≡ 0 → err.new ≡ err.old }
 
     // 2: the words have no form.
@@ -46,7 +46,7 @@ pub fn flux<F: Files, S: Sink, E: Sink>(
     ensures unread_cause { result ≡ 4 → Rose (F.read_faults files.old) (F.read_faults files.new) }
 
     // 5: a proper prefix of the text was written, only where the count of faults of `out` rose.
-    ensures unwritten { result ≡ 5 → WritesPart (F.contents files.old) (map string_bytes words.now) (S.taken out.old) (S.taken out.new) }
+    ensures unwritten { result ≡ 5 → WritesPart (F.contents files.old) (map string_bytes words.now) (S.taken out.old, S.offered out.old) (S.taken out.new, S.offered out.new) }
     ensures unwritten_cause { result ≡ 5 → Rose (S.faults out.old) (S.faults out.new) }
     ensures unwritten_line { result ≡ 5 → Tells (E.taken err.old) (E.taken err.new) (E.faults err.old) (E.faults err.new) cannot_write_line }
 
@@ -110,9 +110,9 @@ fn run<F: Files, S: Sink>(
     files: &mut F,
     out: &mut S,
 ) -> Result<(), Stop>
-    ensures done { OnOk result (WritesWhole (F.contents files.old) (map string_bytes words.now) (S.taken out.old) (S.taken out.new)) }
+    ensures done { OnOk result (WritesWhole (F.contents files.old) (map string_bytes words.now) (S.taken out.old, S.offered out.old) (S.taken out.new, S.offered out.new)) }
     ensures usage { (result ≡ Err Usage) ↔ (form (map string_bytes words.now) ≡ None) }
-    ensures stops { IfErr result (λ stop. StopsTo (F.contents files.old) (map string_bytes words.now) (S.taken out.old) (S.taken out.new) stop) }
+    ensures stops { IfErr result (λ stop. StopsTo (F.contents files.old) (map string_bytes words.now) (S.taken out.old, S.offered out.old) (S.taken out.new, S.offered out.new) stop) }
     ensures cause { IfErr result (λ stop. HasCause (F.read_faults files.old) (F.read_faults files.new) (S.faults out.old) (S.faults out.new) stop) }
     ensures quiet { IfErr result (λ stop. IsQuiet out.old out.new stop) }
     ensures asks { AsksFor (F.calls files.old) (F.calls files.new) (reads_of (form (map string_bytes words.now))) }

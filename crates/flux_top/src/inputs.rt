@@ -1,10 +1,10 @@
 // The inputs of a command: each is read and checked before the next one is read.
-ghost use Rattle.std.specs.Prelude.{◌≡◌, ◌≤◌, ◌∷◌, [], ◌≢◌, true, IfErr, IfOk, OnOk, string_bytes};
-ghost use Rattle.flux_top.specs.Clauses.{Gives, HasReadCause, IsRefusedBy, IsUnreadBy, StopsAt};
+ghost use Rattle.std.specs.Prelude.{◌≡◌, ◌≤◌, ◌∷◌, [], ◌≢◌, true, IfErr, IfOk, Ok, OnOk, string_bytes};
+ghost use Rattle.flux_top.specs.Clauses.{Gives, HasReadCause, IsRefusedBy, IsUnreadBy, StopsAt, StopsOn};
 ghost use Rattle.flux_top.specs.Outcome.{cannot_read_line, line_of, plan_from, trades_from};
 ghost use Rattle.flux_top.specs.Outside.{AsksFor, Joins, Read};
-ghost use Rattle.plan_reader.specs.Grammar.{plan_fault};
-ghost use Rattle.ingress_egress.specs.Trades.{trades_fault};
+ghost use Rattle.plan_reader.specs.Messages.{plan_fault};
+ghost use Rattle.ingress_egress.specs.Messages.{trades_fault};
 
 use crate::stop::Stop;
 use crate::{FileStop, Files, Got};
@@ -27,11 +27,22 @@ pub(crate) fn plan_at<F: Files>(alloc: Global, files: &mut F, name: &str) -> Res
     match files.read(name, MAX_PLAN_BYTES, &mut bytes) {
         Err(FileStop::Failed) => Err(unread(alloc, name)),
         Err(FileStop::OutOfMemory) => Err(Stop::OutOfMemory),
-        Ok(Got::TooLong { .. }) => Err(refused_plan(alloc, name, PlanError::NotBuilt)),
-        Ok(Got::Whole) => match read_plan(alloc, &bytes) {
-            Ok(plan) => Ok(plan),
-            Err(error) => Err(refused_plan(alloc, name, error)),
-        },
+        Ok(Got::TooLong { seen }) => {
+            Err(refused_plan(alloc, name, PlanError::TooLong { bytes: seen }))
+        }
+        Ok(Got::Whole) => plan_in(alloc, name, &bytes),
+    }
+}
+
+// The plan that the bytes of a file say.
+#[tactic(auto, using(crate::proofs::Refusals::plan_refused))]
+fn plan_in(alloc: Global, name: &str, bytes: &[u8]) -> Result<Plan, Stop>
+    ensures gives { IfOk result (λ plan. plan_from name.now bytes.now ≡ Ok plan) }
+    ensures stops { IfErr result (λ stop. StopsOn (plan_from name.now bytes.now) stop) }
+{
+    match read_plan(alloc, bytes) {
+        Ok(plan) => Ok(plan),
+        Err(error) => Err(refused_plan(alloc, name, error)),
     }
 }
 
@@ -49,11 +60,22 @@ pub(crate) fn trades_at<F: Files>(alloc: Global, files: &mut F, name: &str) -> R
     match files.read(name, MAX_TRADES_BYTES, &mut bytes) {
         Err(FileStop::Failed) => Err(unread(alloc, name)),
         Err(FileStop::OutOfMemory) => Err(Stop::OutOfMemory),
-        Ok(Got::TooLong { .. }) => Err(refused_trades(alloc, name, TradeError::NotBuilt)),
-        Ok(Got::Whole) => match read_trades(alloc, &bytes) {
-            Ok(trades) => Ok(trades),
-            Err(error) => Err(refused_trades(alloc, name, error)),
-        },
+        Ok(Got::TooLong { seen }) => {
+            Err(refused_trades(alloc, name, TradeError::TooLong { bytes: seen }))
+        }
+        Ok(Got::Whole) => trades_in(alloc, name, &bytes),
+    }
+}
+
+// The trades that the bytes of a file say.
+#[tactic(auto, using(crate::proofs::Refusals::trades_refused))]
+fn trades_in(alloc: Global, name: &str, bytes: &[u8]) -> Result<Trades, Stop>
+    ensures gives { IfOk result (λ trades. trades_from name.now bytes.now ≡ Ok trades) }
+    ensures stops { IfErr result (λ stop. StopsOn (trades_from name.now bytes.now) stop) }
+{
+    match read_trades(alloc, bytes) {
+        Ok(trades) => Ok(trades),
+        Err(error) => Err(refused_trades(alloc, name, error)),
     }
 }
 

@@ -1,7 +1,7 @@
 // A sink in memory, which fails where it is told to.
-ghost use Rattle.std.specs.Prelude.{◌≡◌, ◌<◌, ◌≤◌, [], IfOk, OnErr, OnOk, Some, length, take};
+ghost use Rattle.std.specs.Prelude.{◌≡◌, ◌<◌, ◌≤◌, [], None, IfOk, OnErr, OnOk, Some, length, take};
 ghost use Rattle.flux_top.specs.Memory.{MemSinkView, after_put, put_answer, put_fails};
-ghost use Rattle.flux_top.specs.Outside.{Rose, Takes, TakesPart};
+ghost use Rattle.flux_top.specs.Outside.{IsOffered, Rose, Takes, TakesPart};
 
 use crate::{Failed, Sink};
 use std::alloc::Global;
@@ -62,10 +62,13 @@ impl MemSink {
 impl Sink for MemSink {
     ghost taken = { λ s. Some s.taken };
 
+    ghost offered = { λ _. None };
+
     ghost faults = { λ s. s.faults };
 
     fn put(&mut self, bytes: &[u8]) -> Result<usize, Failed>
         requires { 0 < length bytes.now }
+        ensures given { IsOffered None None bytes.now }
         ensures within { IfOk result (λ count. count ≤ length bytes.now) }
         ensures ok { IfOk result (λ count. Takes (Some self.old.taken) (Some self.new.taken) (take count bytes.now)) }
         ensures failed { OnErr result (TakesPart (Some self.old.taken) (Some self.new.taken) bytes.now) }

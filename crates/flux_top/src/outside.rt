@@ -4,7 +4,7 @@
 // always there: it never falls, and a call may answer a fault only where the count rose.
 ghost use Rattle.std.specs.Prelude.{◌≡◌, ◌≤◌, ◌<◌, ℕ, List, Option, length, take, IfErr, IfOk, OnErr, OnOk};
 ghost use Rattle.flux_top.specs.declared.outside.FileStop.TheVariants.{OutOfMemory};
-ghost use Rattle.flux_top.specs.Outside.{Call, Explains, IsRead, Joins, KeepsFront, Read, Rose, Save, Saves, Takes, TakesPart, is_counted};
+ghost use Rattle.flux_top.specs.Outside.{Call, Explains, IsOffered, IsRead, Joins, KeepsFront, Read, Rose, Save, Saves, Takes, TakesPart, is_counted};
 
 use std::alloc::AllocError;
 use tuple_edge::OutOfMemory;
@@ -86,6 +86,9 @@ pub trait Sink {
     /// The bytes that were taken, where the sink tells them.
     ghost taken: { Self → Option (List ℕ) };
 
+    /// The pieces that puts were given, in order, where the sink tells them.
+    ghost offered: { Self → Option (List (List ℕ)) };
+
     /// How often a call has failed, as far as it is counted.
     ghost faults: { Self → ℕ };
 
@@ -93,6 +96,7 @@ pub trait Sink {
     /// fails has taken a proper prefix, which may be empty.
     fn put(&mut self, bytes: &[u8]) -> Result<usize, Failed>
         requires { 0 < length bytes.now }
+        ensures given { IsOffered (offered self.old) (offered self.new) bytes.now }
         ensures within { IfOk result (λ count. count ≤ length bytes.now) }
         ensures ok { IfOk result (λ count. Takes (taken self.old) (taken self.new) (take count bytes.now)) }
         ensures failed { OnErr result (TakesPart (taken self.old) (taken self.new) bytes.now) }

@@ -23,6 +23,8 @@ impl<W: Write + Drop> StdSink<W> {
 impl<W: Write + Drop> Sink for StdSink<W> {
     ghost taken = { λ _. None };
 
+    ghost offered = { λ _. None };
+
     ghost faults = { λ s. s.faults };
 
     fn put(&mut self, bytes: &[u8]) -> Result<usize, Failed> {
