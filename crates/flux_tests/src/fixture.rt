@@ -11,36 +11,37 @@ pub(crate) struct Seen {
     pub(crate) err: MemSink,
 }
 
-/// Calls `flux` with these words, divided by blanks, over the files `p.txt` and `t.csv`. The calls of
-/// files whose numbers are in `fails` fail.
+/// Calls `flux` with the words of a line over the files `p.txt` and `t.csv`. The calls of files whose
+/// numbers are in `fails` fail.
 pub(crate) fn call(
     alloc: Global,
     line: &str,
     plan: &str,
-    trades: &str,
+    trades: &[u8],
     fails: &[u64],
 ) -> Result<Seen, Fail> {
     let out = MemSink::new(alloc, Vec::new(alloc), usize::MAX, 10_000)?;
-    call_into(alloc, line, plan, trades, fails, out)
+    let err = MemSink::new(alloc, Vec::new(alloc), usize::MAX, 1_000)?;
+    call_into(alloc, line, plan, trades, fails, out, err)
 }
 
-/// The same into a sink that is handed in.
+/// The same into sinks that are handed in.
 pub(crate) fn call_into(
     alloc: Global,
     line: &str,
     plan: &str,
-    trades: &str,
+    trades: &[u8],
     fails: &[u64],
     mut out: MemSink,
+    mut err: MemSink,
 ) -> Result<Seen, Fail> {
     let mut files = MemFiles::new(alloc, fails.to_vec(alloc)?);
     files.put_file("p.txt", plan.as_bytes())?;
-    files.put_file("t.csv", trades.as_bytes())?;
+    files.put_file("t.csv", trades)?;
     let mut words = Vec::new(alloc);
     for word in line.split_whitespace() {
         words.push(String::from_str(alloc, word)?)?;
     }
-    let mut err = MemSink::new(alloc, Vec::new(alloc), usize::MAX, 1_000)?;
     let status = flux(alloc, &words, &mut files, &mut out, &mut err);
     Ok(Seen { status, out, err })
 }

@@ -3,6 +3,8 @@
 #![tactic(auto)]
 
 #[cfg(test)]
-mod eval;
+mod faults;
 #[cfg(test)]
 mod fixture;
+#[cfg(test)]
+mod plans;

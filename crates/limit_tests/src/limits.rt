@@ -1,0 +1,66 @@
+// As many trades and bytes as there may be, and one more.
+use flux_top::{MemFiles, MemSink, flux};
+use std::alloc::Global;
+use std::test::Fail;
+
+const TOTAL: &str = "flux 1\nstage 1 parts 1 by account total account\n";
+
+// Calls `flux eval` over a plan and trades in memory: the status, what was written and what was said.
+fn eval(alloc: Global, plan: &str, trades: &[u8]) -> Result<(u8, MemSink, MemSink), Fail> {
+    let mut files = MemFiles::new(alloc, Vec::new(alloc));
+    files.put_file("p.txt", plan.as_bytes())?;
+    files.put_file("t.csv", trades)?;
+    let mut words = Vec::new(alloc);
+    for word in ["eval", "p.txt", "t.csv"] {
+        words.push(String::from_str(alloc, word)?)?;
+    }
+    let mut out = MemSink::new(alloc, Vec::new(alloc), usize::MAX, 4_000_000)?;
+    let mut err = MemSink::new(alloc, Vec::new(alloc), usize::MAX, 1_000)?;
+    let status = flux(alloc, &words, &mut files, &mut out, &mut err);
+    Ok((status, out, err))
+}
+
+#[test]
+fn takes_100_000_trades(rt: HostRuntime) -> Result<(), Fail> {
+    let alloc = rt.alloc();
+    let trade = b"34200,7,A,B,1,1\n";
+    let mut trades = Vec::with_capacity(alloc, 1_700_000)?;
+    trades.extend_from_slice(b"time,account,symbol,side,qty,price\n")?;
+    for _trade in 0..100_000 {
+        trades.extend_from_slice(trade)?;
+    }
+    let (status, out, _) = eval(alloc, TOTAL, &trades)?;
+    assert_eq!(rt; status, 0);
+    assert!(rt;
+        out.taken()
+            .ends_with(b"\n34200,7,-,100000,10000000\nrows,100000\n")
+    );
+
+    trades.extend_from_slice(trade)?;
+    let (status, out, err) = eval(alloc, TOTAL, &trades)?;
+    assert_eq!(rt; status, 3);
+    assert_eq!(rt; out.taken(), b"".as_slice());
+    assert_eq!(rt; err.taken(), b"flux: t.csv: too many trades\n".as_slice());
+    Ok(())
+}
+
+#[test]
+fn refuses_what_is_too_long(rt: HostRuntime) -> Result<(), Fail> {
+    let alloc = rt.alloc();
+    let plan = "#".repeat(alloc, 65_537)?;
+    let (status, _, err) = eval(alloc, plan.as_str(), b"")?;
+    assert_eq!(rt; status, 3);
+    assert_eq!(rt; err.taken(), b"flux: p.txt: too long\n".as_slice());
+
+    // A plan of just as many bytes is read: it has no line that counts.
+    let plan = "#".repeat(alloc, 65_536)?;
+    let (status, _, err) = eval(alloc, plan.as_str(), b"")?;
+    assert_eq!(rt; status, 3);
+    assert_eq!(rt; err.taken(), b"flux: p.txt: line 1: grammar\n".as_slice());
+
+    let trades = vec![in alloc; b'#'; 16_777_217]?;
+    let (status, _, err) = eval(alloc, TOTAL, &trades)?;
+    assert_eq!(rt; status, 3);
+    assert_eq!(rt; err.taken(), b"flux: t.csv: too long\n".as_slice());
+    Ok(())
+}
