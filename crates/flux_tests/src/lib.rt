@@ -9,4 +9,6 @@ mod fixture;
 #[cfg(test)]
 mod memory;
 #[cfg(test)]
+mod outside;
+#[cfg(test)]
 mod plans;
