@@ -2,6 +2,7 @@
 ghost use Rattle.std.specs.Prelude.{◌<◌};
 
 use crate::{Due, Producer};
+use ack_buffer::AckBuffer;
 use std::process::Abort;
 use std::test::Fail;
 use tuple_edge::{Item, OutOfMemory};
@@ -39,6 +40,24 @@ fn sends_each_number_to_both_replicas(rt: HostRuntime) -> Result<(), Fail> {
     };
     assert_eq!(rt; producer.send_due(), Some((due, item(0, 2))));
     assert_eq!(rt; producer.term(), 2);
+    Ok(())
+}
+
+// A producer that starts over a buffer sends nothing until it leads, and then what isn't acknowledged.
+#[test]
+fn starts_after_what_is_acknowledged(rt: HostRuntime) -> Result<(), Fail> {
+    let mut buffer = AckBuffer::starting(rt.alloc(), 3, 3);
+    buffer.reserve(1)?;
+    assert_eq!(rt; buffer.produce(item(0, 4)), 4);
+    let mut producer = Producer::starting(rt.alloc(), 1, 0, 2, vec![in rt.alloc(); buffer]?)?;
+    assert_eq!(rt; producer.due(), None);
+    producer.lead(1);
+    let due = Due {
+        to: 0,
+        copy: 0,
+        number: 4,
+    };
+    assert_eq!(rt; producer.send_due(), Some((due, item(0, 4))));
     Ok(())
 }
 

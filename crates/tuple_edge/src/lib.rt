@@ -14,6 +14,7 @@ mod order;
 mod outbox;
 mod packet;
 mod row;
+mod status;
 mod sum;
 
 pub use event::{Drained, Event, History, Stamped, Worked};
@@ -23,6 +24,7 @@ pub use node::{EdgeId, LinkId, NodeId, Which};
 pub use outbox::Outbox;
 pub use packet::{Body, Entry, Packet};
 pub use row::{Column, Key, Row, route};
+pub use status::Status;
 pub use sum::{BIG, saturating_sum_of};
 
 #[cfg(test)]
