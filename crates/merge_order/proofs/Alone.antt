@@ -1,14 +1,13 @@
 -- The merged list of one edge alone is the edge.
-use Rattle.std.proofs.Common.{◌≡◌, ◌≤◌, ℕ, zero, suc, Bool, true, List, [], ◌∷◌, ◌++◌, ◌+◌, None, Some, refl, sym, ap, ◌∙◌, subst, arith, length}
-use Rattle.std.specs.Prelude.{◌==◌, if◌then◌else◌}
+use Rattle.std.proofs.Common.{◌≡◌, ℕ, List, [], ◌∷◌, refl, sym, ap, ◌∙◌, arith}
+use Rattle.std.specs.Prelude.{if◌then◌else◌}
 use Rattle.tuple_edge.specs.declared.item.Item.{Item}
 use Rattle.tuple_edge.specs.declared.item.Item.TheVariants as item
-use Rattle.merge_order.specs.Edges.{AreAlike, AreEdges, IsEdge}
-use Rattle.merge_order.specs.Merged.{Place, has_mark_at, items, merged, stamps_upto}
+use Rattle.merge_order.specs.Edges.{AreAlike, IsEdge}
+use Rattle.merge_order.specs.Merged.{has_mark_at, items, merged}
 use Rattle.merge_order.proofs.Choices.{nat_self}
-use Rattle.merge_order.proofs.Heads.{head_at}
 use Rattle.merge_order.proofs.Rest.{left_done}
-use Rattle.merge_order.proofs.Step.{left, place_from, step}
+use Rattle.merge_order.proofs.Step.{left, step}
 
 alone : (last : ℕ) (is : List Item) → IsEdge last is → AreAlike last (λ n. has_mark_at n is) (is ∷ [])
 alone last is e = (e, λ n. refl, tt)

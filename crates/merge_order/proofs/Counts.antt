@@ -1,10 +1,10 @@
 -- How many items of an edge are used, as long as the merged list goes on and where it ends.
-use Rattle.std.proofs.Common.{◌≡◌, ◌≤◌, ◌<◌, ℕ, zero, suc, Bool, List, [], ◌∷◌, ◌++◌, ◌+◌, sym, ap, ◌∙◌, subst, arith, length, take, get_or}
+use Rattle.std.proofs.Common.{◌≡◌, ◌<◌, ℕ, zero, suc, Bool, List, [], ◌∷◌, ◌++◌, ◌+◌, ap, ◌∙◌, subst, arith, length, take, get_or}
 use Rattle.std.proofs.lemmas.List.{length-append, length-take-le}
 use Rattle.tuple_edge.specs.declared.item.Item.{Item}
 use Rattle.merge_order.specs.Edges.{AreAlike, AreEdges}
 use Rattle.merge_order.specs.Merged.{Place, count_of, merged}
-use Rattle.merge_order.specs.Counts.{AllAreUsed, UsesAll}
+use Rattle.merge_order.specs.Counts.{AllAreUsed}
 use Rattle.merge_order.proofs.Step.{AllDone, Done, IsRest, More, left, step}
 use Rattle.merge_order.proofs.Rest.{EdgesLeft, LeftAt, has_least, left_at, left_done}
 

@@ -1,14 +1,13 @@
 -- A merged item leaves fewer items that wait.
-use Rattle.std.proofs.Common.{◌≡◌, ◌<◌, ◌≤◌, ℕ, zero, suc, Bool, true, false, List, [], ◌∷◌, ◌+◌, ◌⊎◌, inl, inr, Option, None, Some, refl, sym, ap, ◌∙◌, subst, arith, drop, get_or, length, map, set}
-use Rattle.std.specs.Prelude.{◌==◌, if◌then◌else◌, sum_by, OnSome}
-use Rattle.std.proofs.lemmas.Bool.{cases_lt}
+use Rattle.std.proofs.Common.{◌≡◌, ◌<◌, ◌≤◌, ℕ, zero, suc, Bool, true, false, List, [], ◌∷◌, ◌+◌, Option, None, Some, refl, sym, ap, ◌∙◌, subst, arith, drop, get_or, length, map, set}
+use Rattle.std.specs.Prelude.{if◌then◌else◌, sum_by, OnSome}
 use Rattle.std.proofs.lemmas.List.Sums.{sum_by-cons}
 use Rattle.tuple_edge.specs.declared.item.Item.{Item}
 use Rattle.tuple_edge.specs.declared.item.Item.TheVariants as item
 use Rattle.merge_order.specs.declared.head.Head.{Head}
 use Rattle.merge_order.specs.MergeView.{MergeView, after_head, all_wait, is_alike, item_of, least, taken_from, without}
 use Rattle.merge_order.proofs.Choices.{nat_self}
-use Rattle.merge_order.proofs.Heads.{Earlier, HeadsStand, head_at, heads_of, least_from, least_in, least_is}
+use Rattle.merge_order.proofs.Heads.{Earlier, HeadsStand, heads_of, least_from, least_in, least_is}
 
 -- how many items wait
 abbrev pub wait_count : List (List Item) → ℕ

@@ -1,14 +1,13 @@
 -- The merged list of edges has the form of an edge and their marks, and an edge of which some rows are left out keeps both.
-use Rattle.std.proofs.Common.{◌≡◌, ◌≢◌, ◌<◌, ◌≤◌, ℕ, zero, suc, Bool, true, false, List, [], ◌∷◌, ◌++◌, ◌+◌, ◌⊎◌, inl, inr, None, Some, length, map, refl, sym, ap, ◌∙◌, subst, arith, append_assoc}
+use Rattle.std.proofs.Common.{◌≡◌, ◌≢◌, ◌<◌, ◌≤◌, ℕ, zero, suc, Bool, true, false, List, [], ◌∷◌, ◌++◌, ◌+◌, ◌⊎◌, inl, inr, None, length, map, refl, sym, ap, ◌∙◌, subst, arith, append_assoc}
 use Rattle.std.specs.Prelude.{◌==◌, ◌||◌, if◌then◌else◌, filter}
-use Rattle.std.specs.List.{list_any}
 use Rattle.std.proofs.lemmas.List.{map-append, length-map}
 use Rattle.std.proofs.lemmas.List.Elements.{filter-append}
 use Rattle.std.proofs.lemmas.Bool.{cases_lt, eqb-true, eq-eqb}
 use Rattle.tuple_edge.specs.declared.item.Item.{Item}
 use Rattle.tuple_edge.specs.declared.item.Item.TheVariants as item
 use Rattle.merge_order.specs.Edges.{AllFrom, AreAlike, AreEdges, IsEdge}
-use Rattle.merge_order.specs.Merged.{Place, all_rows_at, has_mark_at, is_mark_at, is_row_at, items, mark_at, merged, rows_at, stamp_at, stamps_upto}
+use Rattle.merge_order.specs.Merged.{Place, all_rows_at, has_mark_at, is_row_at, items, mark_at, merged, rows_at, stamp_at, stamps_upto}
 use Rattle.merge_order.proofs.Choices.{if_elim, nat_self, nat_not}
 use Rattle.merge_order.proofs.Step.{weaken}
 use Rattle.merge_order.proofs.Taken.{mark_if, place, rows_cons, rows_if, some_mark_at}

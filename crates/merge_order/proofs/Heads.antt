@@ -1,6 +1,6 @@
 -- The least head, as the loop over the edges finds it: it is there, and it comes before the head of each other edge.
 use Rattle.std.proofs.Common.{◌≡◌, ◌≢◌, ◌<◌, ◌≤◌, ℕ, zero, suc, Bool, true, false, List, [], ◌∷◌, Option, None, Some, ◌+◌, ◌*◌, ◌⊎◌, inl, inr, refl, sym, ap, ◌∙◌, subst, arith, length}
-use Rattle.std.specs.Prelude.{◌==◌, nat_lt, if◌then◌else◌, fold, IfSome, IsSome, IsTrue, ◌↔◌, is_some, slice_get, slice_index_or}
+use Rattle.std.specs.Prelude.{◌==◌, nat_lt, if◌then◌else◌, fold, IfSome, IsTrue, is_some, slice_get, slice_index_or}
 use Rattle.std.proofs.lemmas.Bool.{cases_lt, eqb-true, eqb-false, ltb-true, ltb-false}
 use Rattle.tuple_edge.specs.declared.item.Item.{Item}
 use Rattle.tuple_edge.specs.declared.item.Item.TheVariants as item

@@ -1,6 +1,6 @@
 -- What is left of the edges after the first places of the merged list.
-use Rattle.std.proofs.Common.{◌≡◌, ◌≤◌, ℕ, zero, suc, Bool, true, false, List, [], ◌∷◌, ◌++◌, Option, None, Some, ◌+◌, refl, sym, ap, ◌∙◌, subst, arith, length, take, append_assoc}
-use Rattle.std.specs.Prelude.{if◌then◌else◌, count_by}
+use Rattle.std.proofs.Common.{◌≡◌, ◌≤◌, ℕ, zero, suc, Bool, true, false, List, [], ◌∷◌, ◌++◌, Option, Some, ◌+◌, refl, sym, ap, ◌∙◌, subst, arith, length, take, append_assoc}
+use Rattle.std.specs.Prelude.{if◌then◌else◌}
 use Rattle.std.proofs.lemmas.List.{length-append, length-take-le}
 use Rattle.std.proofs.lemmas.List.Sums.{sum_by_push}
 use Rattle.tuple_edge.specs.declared.item.Item.{Item}
@@ -8,7 +8,7 @@ use Rattle.tuple_edge.specs.Item.{comes_before}
 use Rattle.merge_order.specs.Edges.{AreAlike, AreEdges}
 use Rattle.merge_order.specs.Merged.{Place, count_of, is_from, merged, stamps_upto}
 use Rattle.merge_order.specs.declared.head.Head.{Head}
-use Rattle.merge_order.specs.MergeView.{least, lesser, taken_from}
+use Rattle.merge_order.specs.MergeView.{least, taken_from}
 use Rattle.merge_order.proofs.Heads.{head_at, least_from, least_is}
 use Rattle.merge_order.proofs.Taken.{TakesIf, EdgesTake, stamps_none}
 use Rattle.merge_order.proofs.Step.{AllDone, IsRest, More, Done, is_done, end_of, left, place_from, take_length, not_done, all_done, done_from, step}

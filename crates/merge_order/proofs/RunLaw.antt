@@ -1,7 +1,7 @@
 -- Any order of offers, and a merge that has taken all items of its edges.
-use Rattle.std.proofs.Common.{◌≡◌, ◌<◌, ℕ, zero, suc, List, [], ◌∷◌, ◌++◌, Option, None, Some, ◌+◌, refl, sym, ap, ◌∙◌, subst, arith, length, take, get_or, add-one, append_assoc, replicate}
+use Rattle.std.proofs.Common.{◌≡◌, ◌<◌, ℕ, suc, List, [], ◌∷◌, ◌++◌, Option, None, Some, ◌+◌, refl, sym, ap, ◌∙◌, arith, length, take, get_or, add-one, append_assoc, replicate}
 use Rattle.std.specs.Option.{option_to_list}
-use Rattle.std.specs.Prelude.{slice_get, ◌==◌}
+use Rattle.std.specs.Prelude.{◌==◌}
 use Rattle.std.proofs.lemmas.List.{append-nil, get_or-replicate, length-append, length-replicate, length-take-le, nil_from_length}
 use Rattle.tuple_edge.specs.declared.item.Item.{Item}
 use Rattle.merge_order.specs.declared.head.Head.{Head}

@@ -1,7 +1,7 @@
 -- A merge goes on standing for its marks and its count, and gives the items of the merged list in order.
-use Rattle.std.proofs.Common.{◌≡◌, ◌<◌, ◌≤◌, ℕ, zero, suc, Bool, true, false, List, [], ◌∷◌, ◌++◌, Option, None, Some, ◌+◌, ◌-◌, refl, sym, ap, ◌∙◌, subst, arith, drop, length, take, get_or, map, set, add-one, append_assoc, replicate}
+use Rattle.std.proofs.Common.{◌≡◌, ◌<◌, ◌≤◌, ℕ, zero, suc, Bool, true, false, List, [], ◌∷◌, ◌++◌, Option, None, Some, ◌+◌, ◌-◌, refl, sym, ap, ◌∙◌, subst, arith, drop, length, take, get_or, set, add-one, append_assoc, replicate}
 use Rattle.std.specs.Prelude.{if◌then◌else◌, IfSome, IsTrue, slice_get, ◌↔◌, ◌==◌}
-use Rattle.std.proofs.lemmas.List.{drop-drop, drop_at, length-append, length-drop, length-replicate, length-set, length-take-le, take-append-drop, take_at}
+use Rattle.std.proofs.lemmas.List.{drop-drop, drop_at, length-append, length-drop, length-take-le, take-append-drop, take_at}
 use Rattle.std.proofs.lemmas.Bool.{eqb-true}
 use Rattle.tuple_edge.specs.declared.item.Item.{Item}
 use Rattle.tuple_edge.specs.declared.item.Item.TheVariants as item
@@ -12,7 +12,7 @@ use Rattle.merge_order.specs.MergeView.{MergeView, after_head, after_next, after
 use Rattle.merge_order.specs.StandsFor.{AllBelow, StandsFor, WaitsBetween}
 use Rattle.merge_order.proofs.Choices.{if_elim, nat_self}
 use Rattle.merge_order.proofs.Heads.{head_at, heads_of, least_from, least_is}
-use Rattle.merge_order.proofs.Taken.{TakesIf, EdgesTake, place}
+use Rattle.merge_order.proofs.Taken.{TakesIf, EdgesTake}
 use Rattle.merge_order.proofs.Step.{AllDone, AllHead, IsRest, More, Done, left, place_from, row_takes, sign_takes, step}
 use Rattle.merge_order.proofs.Rest.{EdgesLeft, LeftAt, count-push, take_next, left_at}
 

@@ -1,5 +1,5 @@
 -- How the counts of a merged list run up to the lengths of its edges.
-use Rattle.std.specs.Prelude.{◌≡◌, ◌≤◌, ◌<◌, ℕ, List, length}
+use Rattle.std.specs.Prelude.{◌≡◌, ◌<◌, ℕ, List, length}
 use Rattle.tuple_edge.specs.declared.item.Item.{Item}
 use Rattle.merge_order.specs.Edges.{AreEdges, edge_of}
 use Rattle.merge_order.specs.Merged.{merged, used}

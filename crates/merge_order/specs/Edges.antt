@@ -1,5 +1,5 @@
 -- The form of the edges into a partition: stamps that do not fall, the same marks on each edge, and one end, last.
-use Rattle.std.specs.Prelude.{◌≡◌, ◌≤◌, ℕ, Bool, List, [], ◌∷◌, ◌+◌, Option, None, Some, zero, suc, length, slice_get, slice_index_or}
+use Rattle.std.specs.Prelude.{◌≡◌, ◌≤◌, ℕ, Bool, List, [], ◌∷◌, ◌+◌, Option, None, zero, suc, length, slice_get, slice_index_or}
 use Rattle.tuple_edge.specs.declared.item.Item.{Item}
 use Rattle.tuple_edge.specs.declared.item.Item.TheVariants as item
 use Rattle.tuple_edge.specs.Item.{stamp_of}

@@ -1,18 +1,14 @@
 -- The canonical text of a plan reads back as the plan.
-use Rattle.std.proofs.Common.{ℕ, suc, ℤ, pos, negsuc, ◌≡◌, ◌<◌, ◌≤◌, ◌+◌, ◌*◌, ◌==◌, ◌&&◌, nat_lt, Bool, true, false, List, [], ◌∷◌, ◌++◌, length, map, refl, sym, ap, ◌∙◌, arith, append_assoc, append-nil, length-append}
-use Rattle.std.specs.Prelude.{Option, Some, None, Result, Ok, Err, nat_le, All, codes}
-use Rattle.std.specs.Fmt.{decimal, signed_decimal}
-use Rattle.std.specs.List.{flat_map}
+use Rattle.std.proofs.Common.{ℕ, suc, ◌≡◌, ◌<◌, ◌≤◌, ◌+◌, ◌*◌, ◌==◌, nat_lt, true, false, List, [], ◌∷◌, ◌++◌, length, map, refl, sym, ap, ◌∙◌, arith, append_assoc, append-nil, length-append}
+use Rattle.std.specs.Prelude.{Option, Some, None, Ok, nat_le, All, codes}
+use Rattle.std.specs.Fmt.{decimal}
 use Rattle.std.proofs.lemmas.Bool.Decides.{nat_tests}
 use Rattle.std.proofs.lemmas.List.Elements.{All-head, All-tail}
-use Rattle.tuple_edge.specs.declared.row.Column.{Column}
-use Rattle.stream_ops.specs.declared.spec.OpSpec.{OpSpec}
-use Rattle.plan_reader.specs.Grammar.{column_at, fixed_at, number_at, number_within, op_at}
-use Rattle.plan_reader.specs.Lines.{LineView, Word, counting_lines}
-use Rattle.plan_reader.specs.Plan.{Said, at_line, body_of, hold_at, hold_in, mark_at, mark_in, next_stage_at, plan_of, plan_of_lines, plan_said, said_in, setting_at, stage_at, stage_number_at, stages_in, statement_at, statements_of, version_at, whole}
+use Rattle.plan_reader.specs.Grammar.{fixed_at, number_at, number_within}
+use Rattle.plan_reader.specs.Lines.{Word, counting_lines}
+use Rattle.plan_reader.specs.Plan.{Said, body_of, hold_at, mark_at, next_stage_at, plan_of, plan_of_lines, plan_said, said_in, setting_at, stage_at, stage_number_at, stages_in, statement_at, statements_of, version_at, whole}
 use Rattle.plan_reader.specs.PlanView.{IsPlan, IsStage, PlanView, edges}
-use Rattle.plan_reader.specs.Text.{column_name, line_text, op_words, plan_lines, plan_text, stage_lines, stage_words}
-use Rattle.plan_reader.specs.declared.error.PlanError.{PlanError}
+use Rattle.plan_reader.specs.Text.{column_name, op_words, plan_lines, plan_text, stage_lines, stage_words}
 use Rattle.plan_reader.specs.declared.limits.TheConstants.{EDGES_PER_MARK, MAX_HOLD, MAX_MARK, MAX_PARTS, MAX_PLAN_BYTES, MAX_STAGES, MIN_HOLD}
 use Rattle.plan_reader.specs.declared.stage.Stage.{Stage}
 use Rattle.plan_reader.specs.declared.statement.Statement.{Statement}

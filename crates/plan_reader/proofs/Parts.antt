@@ -3,7 +3,7 @@ use Rattle.std.proofs.Common.{ℕ, suc, ◌≡◌, ◌≤◌, ◌<◌, ◌+◌, 
 use Rattle.std.specs.Prelude.{nat_le}
 use Rattle.std.proofs.lemmas.Bool.Decides.{nat_tests}
 use Rattle.std.proofs.lemmas.List.{get_or-map, get_or_append_left, length-map}
-use Rattle.plan_reader.specs.Nodes.{has_pair, parts_of, sources_of}
+use Rattle.plan_reader.specs.Nodes.{has_pair, sources_of}
 use Rattle.plan_reader.specs.PlanView.{PlanView, partitions}
 use Rattle.plan_reader.specs.declared.stage.Stage.{Stage}
 

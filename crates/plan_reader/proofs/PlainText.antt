@@ -1,5 +1,5 @@
 -- The canonical words of a plan are plain, and so each is read as it was written.
-use Rattle.std.proofs.Common.{ℕ, suc, ℤ, pos, negsuc, ◌≡◌, ◌<◌, ◌≤◌, ◌+◌, ◌==◌, ◌&&◌, not, Bool, true, false, List, [], ◌∷◌, length, refl, sym, ap, ◌∙◌, arith}
+use Rattle.std.proofs.Common.{ℕ, suc, ℤ, pos, negsuc, ◌≡◌, ◌<◌, ◌≤◌, ◌+◌, true, List, [], ◌∷◌, length, refl, arith}
 use Rattle.std.specs.Prelude.{All, codes, unsigned_abs}
 use Rattle.std.specs.Char.{is_ascii_digit}
 use Rattle.std.specs.Fmt.{decimal, signed_decimal}
@@ -14,14 +14,12 @@ use Rattle.stream_ops.specs.declared.spec.Compare.{Compare}
 use Rattle.stream_ops.specs.declared.spec.Compare.TheVariants as compare
 use Rattle.stream_ops.specs.declared.spec.OpSpec.{OpSpec}
 use Rattle.stream_ops.specs.declared.spec.OpSpec.TheVariants as op
-use Rattle.stream_ops.specs.declared.spec.TheConstants.{MAX_LAST_ROWS, MAX_WINDOW_SECONDS}
-use Rattle.tuple_edge.specs.Sum.{IsWithin, big}
+use Rattle.tuple_edge.specs.Sum.{IsWithin}
 use Rattle.tuple_edge.specs.declared.row.Column.{Column}
 use Rattle.tuple_edge.specs.declared.row.Column.TheVariants as column
-use Rattle.plan_reader.specs.Lines.{Word, counts, is_blank}
+use Rattle.plan_reader.specs.Lines.{Word, counts}
 use Rattle.plan_reader.specs.PlanView.{IsLimit, IsPlan, IsStage, PlanView}
 use Rattle.plan_reader.specs.Text.{by_name, column_name, compare_name, op_words, plan_lines, stage_lines, stage_words}
-use Rattle.plan_reader.specs.declared.limits.TheConstants.{MAX_HOLD, MAX_MARK, MAX_PARTS, MAX_STAGES}
 use Rattle.plan_reader.specs.declared.stage.Stage.{Stage}
 use Rattle.plan_reader.proofs.LineFacts.{both_true}
 use Rattle.plan_reader.proofs.NumberWords.{decimal_digits, decimal_few, decimal_some}

@@ -1,6 +1,6 @@
 -- The canonical words of a plan read back as the plan.
-use Rattle.std.proofs.Common.{ℕ, suc, ℤ, pos, negsuc, ◌≡◌, ◌<◌, ◌≤◌, ◌+◌, ◌*◌, ◌==◌, ◌&&◌, nat_lt, Bool, true, false, List, [], ◌∷◌, ◌++◌, length, map, refl, sym, ap, ◌∙◌, arith, append_assoc}
-use Rattle.std.specs.Prelude.{Option, Some, None, Result, Ok, Err, nat_le, unsigned_abs, ◌≤ℤ◌, All, codes}
+use Rattle.std.proofs.Common.{ℕ, ℤ, pos, negsuc, ◌≡◌, ◌<◌, ◌≤◌, true, List, [], ◌∷◌, refl, arith}
+use Rattle.std.specs.Prelude.{Ok, nat_le, unsigned_abs}
 use Rattle.std.specs.Fmt.{decimal, signed_decimal}
 use Rattle.std.proofs.lemmas.Bool.Decides.{nat_tests}
 use Rattle.std.proofs.lemmas.Int.{ints}
@@ -15,13 +15,10 @@ use Rattle.stream_ops.specs.declared.spec.TheConstants.{MAX_LAST_ROWS, MAX_WINDO
 use Rattle.tuple_edge.specs.Sum.{IsWithin, big}
 use Rattle.tuple_edge.specs.declared.row.Column.{Column}
 use Rattle.tuple_edge.specs.declared.row.Column.TheVariants as column
-use Rattle.plan_reader.specs.Grammar.{by_at, column_at, compare_at, crossing_at, fixed_at, keep_at, last_at, limit_at, number_at, number_within, op_at, total_at, window_at}
+use Rattle.plan_reader.specs.Grammar.{by_at, column_at, compare_at, crossing_at, keep_at, last_at, limit_at, number_at, number_within, op_at, total_at, window_at}
 use Rattle.plan_reader.specs.Lines.{Word}
-use Rattle.plan_reader.specs.Plan.{Said, stage_at, stage_number_at}
-use Rattle.plan_reader.specs.PlanView.{IsLimit, IsStage}
-use Rattle.plan_reader.specs.Text.{by_name, column_name, compare_name, op_words, stage_words}
-use Rattle.plan_reader.specs.declared.limits.TheConstants.{MAX_PARTS, MAX_STAGES}
-use Rattle.plan_reader.specs.declared.stage.Stage.{Stage}
+use Rattle.plan_reader.specs.PlanView.{IsLimit}
+use Rattle.plan_reader.specs.Text.{by_name, column_name, compare_name, op_words}
 use Rattle.plan_reader.proofs.NumberWords.{number_of_decimal, signed_number_of_decimal}
 
 -- ---- words

@@ -1,15 +1,13 @@
 -- What is kept of the lines so far is what their statements say.
 use Rattle.std.proofs.Common.{ℕ, ◌≡◌, ◌≤◌, false, nat_lt, length, arith, List, [], ◌∷◌, ◌++◌, refl, ap, ◌∙◌, sym}
-use Rattle.std.specs.Prelude.{Option, Result, Ok, Err}
+use Rattle.std.specs.Prelude.{Result, Ok, Err}
 use Rattle.std.proofs.lemmas.Bool.Decides.{nat_tests}
-use Rattle.plan_reader.specs.Draft.{drafted_plan, first_said, nothing_said, said_after, said_with, said_with_line}
+use Rattle.plan_reader.specs.Draft.{drafted_plan, nothing_said, said_after, said_with, said_with_line}
 use Rattle.plan_reader.specs.Lines.{LineView, counting_lines}
 use Rattle.plan_reader.specs.Plan.{Said, at_line, body_of, hold_in, mark_in, plan_of, plan_of_lines, plan_said, said_in, stages_in, statement_at, statements_of, whole}
-use Rattle.plan_reader.specs.PlanView.{PlanView}
 use Rattle.plan_reader.specs.Reading.{◌>>=◌}
 use Rattle.plan_reader.specs.declared.error.PlanError.{PlanError}
 use Rattle.plan_reader.specs.declared.limits.TheConstants.{MAX_PLAN_BYTES}
-use Rattle.plan_reader.specs.declared.stage.Stage.{Stage}
 use Rattle.plan_reader.specs.declared.statement.Statement.{Statement}
 use Rattle.plan_reader.specs.declared.statement.Statement.TheVariants as says
 

@@ -1,5 +1,5 @@
 -- The nodes of a plan, and the links between them.
-use Rattle.std.specs.Prelude.{ℕ, Bool, true, false, ◌+◌, ◌-◌, ◌==◌, ◌&&◌, ◌||◌, nat_lt, nat_le, List, length, slice_index}
+use Rattle.std.specs.Prelude.{ℕ, Bool, true, false, ◌+◌, ◌-◌, ◌==◌, ◌&&◌, ◌||◌, nat_lt, nat_le, length, slice_index}
 use Rattle.tuple_edge.specs.declared.node.LinkId.{LinkId}
 use Rattle.tuple_edge.specs.declared.node.NodeId.{NodeId}
 use Rattle.tuple_edge.specs.declared.node.NodeId.TheVariants as node

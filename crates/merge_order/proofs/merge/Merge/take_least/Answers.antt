@@ -1,7 +1,7 @@
-use Rattle.std.proofs.Common.{None, ◌∙◌, ◌<◌, ◌+◌, ℕ, Option, sym, subst, arith}
-use Rattle.std.specs.Prelude.{IfSome, length}
+use Rattle.std.proofs.Common.{None, ◌∙◌, ◌<◌, ◌+◌, Option, sym, subst, arith}
+use Rattle.std.specs.Prelude.{length}
 use Rattle.merge_order.specs.declared.head.Head.{Head}
-use Rattle.merge_order.proofs.Heads.{Earlier, least_from, least_in, least_is}
+use Rattle.merge_order.proofs.Heads.{Earlier, least_in, least_is}
 use Rattle.merge_order.proofs.merge.Merge.take_least.Goals as goal
 
 pub index_mut-requires : goal.index_mut-requires

@@ -1,5 +1,5 @@
 use Rattle.std.proofs.Common.{ℕ, ◌+◌, List, ◌∷◌, sym, ap, ◌∙◌, arith}
-use Rattle.plan_reader.specs.Lines.{LineView, counting_lines_from}
+use Rattle.plan_reader.specs.Lines.{counting_lines_from}
 use Rattle.plan_reader.proofs.CountingLines.{counting_first, counting_none, counting_skip}
 use Rattle.plan_reader.proofs.lines.Lines.next_line.Goals as goal
 

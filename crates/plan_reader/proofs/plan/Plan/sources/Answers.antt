@@ -1,4 +1,4 @@
-use Rattle.std.proofs.Common.{◌≤◌, ◌<◌, ◌+◌, length, arith, sym, subst}
+use Rattle.std.proofs.Common.{◌<◌, arith}
 use Rattle.plan_reader.proofs.Parts.{sources_of_later}
 use Rattle.plan_reader.proofs.plan.Plan.sources.Goals as goal
 
