@@ -19,10 +19,10 @@ use plan_reader::Plan;
 use std::alloc::Global;
 use tuple_edge::OutOfMemory;
 
-#[tactic(auto, using(crate::proofs::Completeness::accepted_unrefused, crate::proofs::Completeness::rejected_unwritten, crate::proofs::Completeness::rejected_without_part, crate::proofs::Completeness::accepted_formed, crate::proofs::Completeness::rejected_formed))]
 /// Does what the words after the program's name ask for, and gives the status: 0 where it is done, 2 where
 /// the words have no form, 3 where an input is refused, 4 where a file can't be read, 5 where `out` took
 /// not all, 8 where no memory was to be had. One line goes to `err` for each status but 0.
+#[tactic(auto, using(crate::proofs::Completeness::accepted_unrefused, crate::proofs::Completeness::rejected_unwritten, crate::proofs::Completeness::rejected_without_part, crate::proofs::Completeness::accepted_formed, crate::proofs::Completeness::rejected_formed))]
 pub fn flux<F: Files, S: Sink, E: Sink>(
     alloc: Global,
     words: &[String],

@@ -2,7 +2,8 @@
 //!
 //! It promises that `flux` writes exactly the text of the plan's output where it answers 0, and gives
 //! every other answer its cause; `evaluate` gives the output as a list. It stands on plan_reader,
-//! ingress_egress and stream_ops. The adapters over std (`StdFiles`, `StdSink`) are its trusted edge.
+//! ingress_egress, stream_ops and merge_order, and on the definitions of pair_machine. The adapters over
+//! std (`StdFiles`, `StdSink`) are its trusted edge.
 #![tactic(auto)]
 
 mod command;

@@ -4,8 +4,8 @@ ghost use Rattle.flux_top.specs.Outside.{OffersRests, Rose, Takes, TakesPart};
 
 use crate::{Failed, Sink};
 
-#[tactic(auto, using(crate::proofs::Sinks::offers_nothing, crate::proofs::Sinks::offers_last, crate::proofs::Sinks::offers_rests))]
 /// Puts all bytes in order: each put is given all that were not taken yet.
+#[tactic(auto, using(crate::proofs::Sinks::offers_nothing, crate::proofs::Sinks::offers_last, crate::proofs::Sinks::offers_rests))]
 pub(crate) fn write_all<S: Sink>(sink: &mut S, bytes: &[u8]) -> Result<(), Failed>
     ensures offers { OffersRests (S.offered sink.old) (S.offered sink.new) bytes.now }
     ensures ok { OnOk result (Takes (S.taken sink.old) (S.taken sink.new) bytes.now) }

@@ -1,5 +1,5 @@
 -- What comes to egress is all that the last stage sends.
-use Rattle.std.proofs.Common.{◌≡◌, ◌<◌, ℕ, zero, suc, List, [], ◌∷◌, ◌∙◌, Option, None, Some, ap, arith, get_or, length, map, refl}
+use Rattle.std.proofs.Common.{◌≡◌, ◌<◌, ℕ, zero, suc, List, [], ◌∷◌, ◌∙◌, None, Some, ap, arith, get_or, length, refl}
 use Rattle.std.specs.Prelude.{slice_get}
 use Rattle.tuple_edge.specs.declared.item.Item.{Item}
 use Rattle.tuple_edge.specs.declared.row.Row.{Row}

@@ -1,7 +1,7 @@
 -- What ingress sends, what an operator answers, and what goes to a partition have the form of an edge and the same marks.
-use Rattle.std.proofs.Common.{◌≡◌, ◌<◌, ◌≤◌, ℕ, zero, suc, Bool, true, false, List, [], ◌∷◌, ◌++◌, ◌+◌, Option, None, Some, length, map, refl, sym, ap, ◌∙◌, subst, arith, append_assoc}
-use Rattle.std.specs.Prelude.{◌==◌, ◌%◌, ◌||◌, if◌then◌else◌, filter}
-use Rattle.std.proofs.lemmas.List.{append-nil, length-map}
+use Rattle.std.proofs.Common.{◌≡◌, ◌≤◌, ℕ, Bool, List, [], ◌∷◌, ◌++◌, ◌+◌, Option, None, Some, length, refl, sym, ap, ◌∙◌, subst, arith, append_assoc}
+use Rattle.std.specs.Prelude.{◌==◌, ◌%◌, ◌||◌, filter}
+use Rattle.std.proofs.lemmas.List.{length-map}
 use Rattle.tuple_edge.specs.declared.item.Item.{Item}
 use Rattle.tuple_edge.specs.declared.item.Item.TheVariants as item
 use Rattle.tuple_edge.specs.declared.row.Row.{Row}
@@ -97,7 +97,7 @@ module _ (op : OpSpec) where
 
 -- what ingress sends ----------------------------------------------------------------------
 
-trades_from : (mark n : ℕ) (rows : List Row) → AllFrom n (sent_from mark n rows)
+pub trades_from : (mark n : ℕ) (rows : List Row) → AllFrom n (sent_from mark n rows)
 trades_from mark n [] = (omega arith, tt)
 trades_from mark n (r ∷ rows) =
     let later = weaken n (n + 1) (sent_from mark (n + 1) rows) (omega arith) (trades_from mark (n + 1) rows) in

@@ -1,5 +1,5 @@
 -- What the partitions of each stage send has the form of edges, and carries the marks that ingress sends.
-use Rattle.std.proofs.Common.{◌≡◌, ◌<◌, ◌≤◌, ℕ, zero, suc, Bool, List, [], ◌∷◌, ◌++◌, ◌+◌, Option, None, Some, get_or, length, map, refl, sym, ap, ◌∙◌, subst, arith, take}
+use Rattle.std.proofs.Common.{◌≡◌, ◌<◌, ◌≤◌, ℕ, zero, suc, Bool, List, [], ◌∷◌, ◌+◌, Some, get_or, length, map, refl, sym, ap, ◌∙◌, subst, arith, take}
 use Rattle.std.specs.Prelude.{All, fold, slice_get}
 use Rattle.std.specs.List.{range_with_len}
 use Rattle.std.proofs.lemmas.List.FromFn.{get_or-map-range_with_len, length-map-range_with_len}
@@ -13,7 +13,7 @@ use Rattle.merge_order.proofs.Forms.{merged_edge, merged_marks}
 use Rattle.plan_reader.specs.PlanView.{IsPlan, IsStage, PlanView}
 use Rattle.plan_reader.specs.declared.stage.Stage.{Stage}
 use Rattle.pair_machine.specs.Ingress.{last_stamp, sent_by_ingress}
-use Rattle.pair_machine.specs.Edges.{answered, edges_to, edge_to, merged_at, sent_by, sent_by_part, sent_by_stage}
+use Rattle.pair_machine.specs.Edges.{answered, edges_to, merged_at, sent_by, sent_by_part, sent_by_stage}
 use Rattle.pair_machine.proofs.Sending.{answered_edge, answered_marks, edges_to_edges, ingress_edge}
 
 -- a stage has a partition

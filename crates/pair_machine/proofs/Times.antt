@@ -1,6 +1,6 @@
 -- The times of rows stay within their limits on every edge.
-use Rattle.std.proofs.Common.{◌≡◌, ◌<◌, ◌≤◌, ℕ, zero, suc, Bool, true, false, List, [], ◌∷◌, ◌++◌, ◌+◌, Option, None, Some, get_or, length, map, refl, sym, ap, ◌∙◌, subst, arith, take}
-use Rattle.std.specs.Prelude.{All, filter, fold, if◌then◌else◌, ◌%◌, ◌==◌}
+use Rattle.std.proofs.Common.{ℕ, zero, suc, List, [], ◌∷◌, ◌++◌, ◌+◌, Option, None, Some, get_or, map, take}
+use Rattle.std.specs.Prelude.{All, filter, fold, ◌%◌, ◌==◌}
 use Rattle.std.specs.List.{range_with_len}
 use Rattle.std.proofs.lemmas.List.Elements.{All-append, All-cons, All-filter, All-head, All-map, All-nil, All-tail, All-take, All-weaker}
 use Rattle.tuple_edge.specs.declared.item.Item.{Item}
@@ -18,7 +18,7 @@ use Rattle.stream_ops.specs.declared.spec.OpSpec.{OpSpec}
 use Rattle.plan_reader.specs.PlanView.{IsPlan, IsStage, PlanView}
 use Rattle.plan_reader.specs.declared.stage.Stage.{Stage}
 use Rattle.pair_machine.specs.Ingress.{last_stamp, mark_after, sent_by_ingress, sent_from}
-use Rattle.pair_machine.specs.Edges.{answered, edge, edge_to, edges_to, goes_to, passed, sent_by, sent_by_part, sent_by_stage, stamped}
+use Rattle.pair_machine.specs.Edges.{answered, edge_to, edges_to, goes_to, passed, sent_by, sent_by_part, sent_by_stage, stamped}
 
 -- the items of each list are timely
 abbrev pub AreTimely : List (List Item) → Type 0

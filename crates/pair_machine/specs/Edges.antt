@@ -1,5 +1,5 @@
 -- The edges of a plan: what each partition sends, what of it goes to which partition of the next stage, and what a partition merges.
-use Rattle.std.specs.Prelude.{ℕ, zero, suc, Bool, true, List, [], ◌∷◌, ◌++◌, Option, None, Some, ◌==◌, filter, fold, length, map, slice_get, slice_index_or, take}
+use Rattle.std.specs.Prelude.{ℕ, zero, suc, Bool, true, List, [], ◌∷◌, ◌++◌, Option, None, Some, ◌==◌, filter, fold, map, slice_get, slice_index_or, take}
 use Rattle.std.specs.List.{range_with_len}
 use Rattle.tuple_edge.specs.declared.item.Item.{Item}
 use Rattle.tuple_edge.specs.declared.item.Item.TheVariants as item

@@ -1,5 +1,5 @@
 -- What holds of the edges of every plan, whatever the trades.
-use Rattle.std.specs.Prelude.{◌≡◌, ◌≤◌, ◌<◌, ◌+◌, ◌*◌, ℕ, suc, All, List, Option, Some, length, slice_get, []}
+use Rattle.std.specs.Prelude.{◌≡◌, ◌≤◌, ◌<◌, ◌+◌, ◌*◌, ℕ, suc, All, List, Some, length, slice_get, []}
 use Rattle.tuple_edge.specs.declared.row.Row.{Row}
 use Rattle.merge_order.specs.Edges.{AreEdges}
 use Rattle.merge_order.specs.Merged.{has_mark_at, items}

@@ -5,7 +5,7 @@ use Rattle.merge_order.specs.Edges.{AreEdges, IsEdge}
 use Rattle.merge_order.specs.Merged.{items, merged}
 use Rattle.merge_order.proofs.Forms.{merged_edge}
 use Rattle.pair_machine.specs.Edges.{sent_by_stage}
-use Rattle.pair_machine.proofs.Lengths.{stage_shorter}
+use Rattle.pair_machine.proofs.EdgeLengths.{stage_shorter}
 use Rattle.pair_machine.proofs.Stages.{Send, send_edges, stage_sends}
 use Rattle.flux_top.specs.PartView.{sent_lists}
 use Rattle.flux_top.proofs.Parts.{sent_are}

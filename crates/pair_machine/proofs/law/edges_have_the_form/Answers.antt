@@ -1,4 +1,4 @@
-use Rattle.pair_machine.proofs.PlanLaws.{have_the_form}
+use Rattle.pair_machine.proofs.EdgeLaws.{have_the_form}
 use Rattle.pair_machine.proofs.law.edges_have_the_form.Goals as goal
 
 pub returns : goal.returns

@@ -1,4 +1,4 @@
-use Rattle.pair_machine.proofs.PlanLaws.{times_stay}
+use Rattle.pair_machine.proofs.EdgeLaws.{times_stay}
 use Rattle.pair_machine.proofs.law.times_stay.Goals as goal
 
 pub returns : goal.returns

@@ -1,23 +1,22 @@
 -- What holds of the edges of every plan.
 use Rattle.std.proofs.Common.{◌≡◌, ◌<◌, ◌≤◌, ◌*◌, ℕ, zero, suc, List, [], ◌∷◌, ◌++◌, ◌+◌, ◌⊎◌, inl, inr, Option, None, Some, get_or, length, map, refl, sym, ap, ◌∙◌, arith}
-use Rattle.std.specs.Prelude.{All, slice_get}
+use Rattle.std.specs.Prelude.{slice_get}
 use Rattle.std.proofs.lemmas.Bool.{cases_lt}
-use Rattle.std.proofs.lemmas.List.{get_or_append_left, get_or_default, length-append, length-map, take_all}
+use Rattle.std.proofs.lemmas.List.{length-map}
 use Rattle.std.proofs.lemmas.List.FromFn.{length-map-range_with_len}
 use Rattle.tuple_edge.specs.declared.item.Item.{Item}
 use Rattle.tuple_edge.specs.declared.row.Row.{Row}
-use Rattle.merge_order.specs.Edges.{AreEdges, IsEdge}
-use Rattle.merge_order.specs.Merged.{Place, has_mark_at, items, merged}
+use Rattle.merge_order.specs.Merged.{Place, items, merged}
 use Rattle.merge_order.proofs.Forms.{merged_edge}
 use Rattle.plan_reader.specs.Nodes.{parts_of}
-use Rattle.plan_reader.specs.PlanView.{IsPlan, PlanView}
+use Rattle.plan_reader.specs.PlanView.{PlanView}
 use Rattle.plan_reader.specs.declared.stage.Stage.{Stage}
-use Rattle.pair_machine.specs.Ingress.{last_stamp, sent_by_ingress}
+use Rattle.pair_machine.specs.Ingress.{last_stamp}
 use Rattle.pair_machine.specs.Edges.{edge, edge_to, edges_into, edges_to, merged_at, sent_by, sent_by_part}
-use Rattle.pair_machine.specs.Laws.{AreShort, AreTimely, EachPartSends, EdgesAreShort, EdgesHaveTheForm, MarksAreShared, StagesAnswer, TimesStay}
-use Rattle.pair_machine.proofs.Lengths.{all_row_count, count_at, edge_length, edge_to_count, merged_count, row_count, sent_count}
+use Rattle.pair_machine.specs.Laws.{EachPartSends, EdgesAreShort, EdgesHaveTheForm, MarksAreShared, StagesAnswer, TimesStay}
+use Rattle.pair_machine.proofs.EdgeLengths.{all_row_count, count_at, edge_length, edge_to_count, merged_count, sent_count}
 use Rattle.pair_machine.proofs.Sending.{edge_to_edge, edge_to_marks, edges_to_edges}
-use Rattle.pair_machine.proofs.Stages.{alike_at, get_is, ingress_marks, send_edges, sends, sent_by-next, sent_by_part_is}
+use Rattle.pair_machine.proofs.Stages.{alike_at, ingress_marks, send_edges, sends, sent_by-next, sent_by_part_is}
 use Rattle.pair_machine.proofs.Times.{edge_to_timely, edges_to_timely, merged_timely, sent_timely, timely_at}
 
 pub have_the_form : EdgesHaveTheForm
@@ -34,17 +33,17 @@ marks_are_shared plan rows p s q t n l =
 
 -- how many partitions send ---------------------------------------------------------------
 
-get_of : (stages : List Stage) (s : ℕ) → s < length stages → (stage : Stage) × (slice_get stages s ≡ Some stage)
+pub get_of : (stages : List Stage) (s : ℕ) → s < length stages → (stage : Stage) × (slice_get stages s ≡ Some stage)
 get_of [] s l = absurd (omega arith)
 get_of (x ∷ stages) zero l = (x, refl)
 get_of (x ∷ stages) (suc s) l = get_of stages s (omega arith)
 
-parts_at : (stages : List Stage) (s : ℕ) (stage : Stage) → slice_get stages s ≡ Some stage → get_or (map (λ s. s.parts) stages ++ 1 ∷ []) s 0 ≡ stage.parts
+pub parts_at : (stages : List Stage) (s : ℕ) (stage : Stage) → slice_get stages s ≡ Some stage → get_or (map (λ s. s.parts) stages ++ 1 ∷ []) s 0 ≡ stage.parts
 parts_at [] s stage e = let z : ⊥ = cc e in absurd z
 parts_at (x ∷ stages) zero stage e = let same : x ≡ stage = cc e in ap (λ y. y.parts) same
 parts_at (x ∷ stages) (suc s) stage e = parts_at stages s stage e
 
-sent_length : (plan : PlanView) (rows : List Row) (s : ℕ) → s ≤ length plan.stages → length (sent_by plan rows s) ≡ parts_of plan s
+pub sent_length : (plan : PlanView) (rows : List Row) (s : ℕ) → s ≤ length plan.stages → length (sent_by plan rows s) ≡ parts_of plan s
 sent_length plan rows zero l = refl
 sent_length plan rows (suc s) l =
     let h = get_of plan.stages s (omega arith) in
@@ -56,7 +55,7 @@ each_part_sends plan rows s q l = length-map (sent_by plan rows s) (edge_to (sli
 
 -- lengths ----------------------------------------------------------------------------------
 
-items-length : (ps : List Place) → length (items ps) ≡ length ps
+pub items-length : (ps : List Place) → length (items ps) ≡ length ps
 items-length ps = length-map ps (λ p. p.item)
 
 all_edges_count : (stage : Option Stage) (t : ℕ) (es : List (List Item)) → all_row_count (edges_to stage t es) ≤ all_row_count es

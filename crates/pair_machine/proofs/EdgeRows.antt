@@ -1,6 +1,5 @@
 -- The definitions on small dataflows whose edges and output are worked out by hand.
 use Rattle.std.proofs.Common.{◌≡◌, ℕ, ℤ, pos, negsuc, List, [], ◌∷◌, refl}
-use Rattle.tuple_edge.specs.declared.item.Item.{Item}
 use Rattle.tuple_edge.specs.declared.item.Item.TheVariants as item
 use Rattle.tuple_edge.specs.declared.row.Column.TheVariants as column
 use Rattle.tuple_edge.specs.declared.row.Row.{Row}

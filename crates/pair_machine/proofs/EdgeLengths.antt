@@ -1,5 +1,5 @@
 -- No stage sends more rows than there are trades, so each edge is short.
-use Rattle.std.proofs.Common.{◌≡◌, ◌<◌, ◌≤◌, ◌*◌, ℕ, zero, suc, Bool, true, false, List, [], ◌∷◌, ◌++◌, ◌+◌, Option, None, Some, get_or, length, map, refl, sym, ap, ◌∙◌, subst, arith, take, append_assoc}
+use Rattle.std.proofs.Common.{◌≡◌, ◌<◌, ◌≤◌, ℕ, zero, suc, Bool, true, false, List, [], ◌∷◌, ◌++◌, ◌+◌, Option, None, Some, get_or, length, map, refl, sym, ap, ◌∙◌, subst, arith, take, append_assoc}
 use Rattle.std.specs.Prelude.{All, filter, fold, if◌then◌else◌, ◌==◌, ◌||◌, ◌%◌}
 use Rattle.std.specs.List.{range_with_len}
 use Rattle.std.proofs.lemmas.Bool.{eqb-true, eqb-false}
@@ -10,11 +10,11 @@ use Rattle.tuple_edge.specs.declared.item.Item.TheVariants as item
 use Rattle.tuple_edge.specs.declared.row.Row.{Row}
 use Rattle.tuple_edge.specs.Row.{route_of}
 use Rattle.tuple_edge.specs.Item.{stamp_of}
-use Rattle.merge_order.specs.Edges.{AllFrom, AreAlike, AreEdges, IsEdge}
+use Rattle.merge_order.specs.Edges.{AllFrom, IsEdge}
 use Rattle.merge_order.specs.Merged.{Place, all_rows_at, has_mark_at, is_row_at, items, mark_at, merged, rows_at, stamp_at, stamps_upto}
 use Rattle.merge_order.proofs.Choices.{if_elim}
 use Rattle.merge_order.proofs.Forms.{items-append, merged_edge, merged_marks}
-use Rattle.merge_order.proofs.Taken.{mark_none, place, rows_cons, rows_if, some_mark_at}
+use Rattle.merge_order.proofs.Taken.{mark_none, rows_cons, rows_if, some_mark_at}
 use Rattle.stream_ops.proofs.AnswerLaws.{length-answers}
 use Rattle.stream_ops.proofs.Counts.{rows_of-append}
 use Rattle.stream_ops.specs.Answers.{IsOpen, answer, answers, end_answer, rows_of}
@@ -22,9 +22,9 @@ use Rattle.stream_ops.specs.declared.spec.OpSpec.{OpSpec}
 use Rattle.plan_reader.specs.PlanView.{IsPlan, PlanView}
 use Rattle.plan_reader.specs.declared.stage.Stage.{Stage}
 use Rattle.pair_machine.specs.Ingress.{last_stamp, mark_after, sent_by_ingress, sent_from}
-use Rattle.pair_machine.specs.Edges.{answered, edge, edge_to, edges_to, goes_to, merged_at, passed, sent_by, sent_by_part, sent_by_stage, stamped}
+use Rattle.pair_machine.specs.Edges.{answered, edge_to, edges_to, goes_to, passed, sent_by, sent_by_part, sent_by_stage, stamped}
 use Rattle.pair_machine.proofs.Sending.{edges_to_edges, merged_part}
-use Rattle.pair_machine.proofs.Stages.{HasPart, Send, ingress_marks, ingress_sends, send_edges, sends, stage_sends, stages_have_parts}
+use Rattle.pair_machine.proofs.Stages.{HasPart, Send, ingress_marks, ingress_sends, send_edges, stage_sends, stages_have_parts}
 
 -- how many rows are among these items
 abbrev pub row_count : List Item → ℕ
@@ -276,7 +276,7 @@ signs_from last k (item.Row s r ∷ is) l e f = omega (arith, signs_from last k 
 signs_from last k (item.Mark s ∷ is) l e f = omega (arith, signs_from last s is e.1 e.3 e.2, f.0)
 signs_from last k (item.End s ∷ is) l e f = omega (arith, ap length e.2, f.0, e.1)
 
-from_one : (last : ℕ) (e : List Item) → IsEdge last e → AllFrom 1 e
+pub from_one : (last : ℕ) (e : List Item) → IsEdge last e → AllFrom 1 e
 from_one last [] e = absurd e
 from_one last (item.Row s r ∷ is) e = (e.0, from_one last is e.3)
 from_one last (item.Mark s ∷ is) e = (e.0, from_one last is e.3)
