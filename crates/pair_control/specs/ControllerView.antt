@@ -1,0 +1,73 @@
+-- What contracts see of a controller, and the machine's numbers that it has.
+use Rattle.std.specs.Prelude.{◌≡◌, ◌≢◌, ◌⊎◌, ℕ, Bool, List, Option, None, max, slice_index}
+use Rattle.tuple_edge.specs.declared.node.Which.{Which}
+use Rattle.tuple_edge.specs.declared.node.Which.TheVariants.{A, B}
+use Rattle.tuple_edge.specs.declared.status.Status.{Status}
+use Rattle.tuple_edge.specs.declared.status.Status.TheVariants as status
+use Rattle.pair_machine.specs.Consumers.{with_at}
+use Rattle.pair_machine.specs.Numbers.{Controller, Partition, Watched}
+
+-- what a controller knows of one replica: its status and incarnation, what it reported of each in-edge, and whether it is to be
+-- stopped or brought back
+pub record WatchedView : Type 0 where
+  pub status : Status
+  pub inc : ℕ
+  pub reports : List ℕ
+  pub stop : Bool
+  pub back : Bool
+
+-- the controller of a partition's pair: what it knows of both replicas, up to which number it acknowledged each in-edge, its term, and
+-- who leads
+pub record ControllerView : Type 0 where
+  pub stage : ℕ
+  pub part : ℕ
+  pub a : WatchedView
+  pub b : WatchedView
+  pub acked : List ℕ
+  pub term : ℕ
+  pub leader : Option Which
+
+-- one of two, by the replica that it is of
+abbrev pub by_which : {X : Type 0} → X → X → Which → X
+by_which a b A = a
+by_which a b B = b
+
+-- what is known of a replica
+abbrev pub watched_of : ControllerView → Which → WatchedView
+watched_of c w = by_which c.a c.b w
+
+-- where nobody leads, neither replica is up
+abbrev pub IsLed : Option Which → Status → Status → Type 0
+IsLed leader a b = leader ≡ None → (a ≢ status.Up) × (b ≢ status.Up)
+
+-- not both replicas are up
+abbrev pub IsOneAway : ControllerView → Type 0
+IsOneAway c = (c.a.status ≢ status.Up) ⊎ (c.b.status ≢ status.Up)
+
+-- one of the replicas is catching up
+abbrev pub IsOneCatching : ControllerView → Type 0
+IsOneCatching c = (c.a.status ≡ status.Catching) ⊎ (c.b.status ≡ status.Catching)
+
+-- ---- the machine's numbers
+
+abbrev pub partition_at : ℕ → ℕ → Partition
+partition_at stage part = record { stage = stage; part = part }
+
+-- the partition that the pair runs
+abbrev pub partition_of : ControllerView → Partition
+partition_of c = partition_at c.stage c.part
+
+-- the number at each place of a list
+abbrev pub numbers_in : List ℕ → ℕ → ℕ
+numbers_in xs q = slice_index xs q
+
+abbrev pub watched_numbers : WatchedView → Watched
+watched_numbers h = record { status = h.status; inc = h.inc; reports = numbers_in h.reports; stop = h.stop; back = h.back }
+
+-- what is known of a replica that reported an in-edge up to a number: what was reported never falls
+abbrev pub reported : Watched → ℕ → ℕ → Watched
+reported h edge upto = record h { reports = with_at h.reports edge (max (h.reports edge) upto) }
+
+-- the numbers that the machine has of this controller
+abbrev pub numbers_of : ControllerView → Controller
+numbers_of c = record { watched = by_which (watched_numbers c.a) (watched_numbers c.b); acked = numbers_in c.acked; term = c.term; leader = c.leader }

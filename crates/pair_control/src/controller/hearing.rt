@@ -1,0 +1,141 @@
+// What a replica's packet says to the controller, before anything follows from it.
+ghost use Rattle.pair_control.specs.Admitted.{IsCarried};
+ghost use Rattle.pair_control.specs.ControllerView.{IsOneAway, IsOneCatching, numbers_of, partition_of, watched_of};
+ghost use Rattle.pair_control.specs.Packets.{IsDone, SendsAtMost, message_of, packets_of};
+ghost use Rattle.pair_machine.specs.Controllers.{controller_hears, goes_down, named};
+ghost use Rattle.pair_machine.specs.Messages.{Caught};
+ghost use Rattle.pair_machine.specs.Numbers.{other, replica_at};
+ghost use Rattle.std.specs.Prelude.{◌≡◌, ◌<◌, ◌≤◌, ◌+◌, ◌^◌, ◌++◌, ◌∷◌, ◌⊎◌, [], Some};
+ghost use Rattle.tuple_edge.specs.declared.status.Status.TheVariants as status;
+
+use crate::PairControl;
+use tuple_edge::{Body, NodeId, Outbox, Status, Which};
+
+// The other replica of a pair.
+pub(crate) fn partner_of(which: Which) -> Which
+    ensures { result ≡ other which }
+{
+    match which {
+        Which::A => Which::B,
+        Which::B => Which::A,
+    }
+}
+
+impl PairControl {
+    // What the packet itself changes; what isn't carried to a controller changes nothing.
+    pub(crate) fn hear(&mut self, which: Which, body: &Body, out: &mut Outbox)
+        requires carried { IsCarried self.old body.now }
+        requires term { self.old.term + 1 < 2 ^ 64 }
+        requires room { 1 ≤ out.old.spare }
+        ensures does { IsDone self.old self.new out.old out.new
+            (controller_hears (partition_of self.old) which (message_of body.now) (numbers_of self.old)) }
+        ensures acked { self.new.acked ≡ self.old.acked }
+        ensures sends { SendsAtMost 1 out.old out.new }
+        ensures term { self.new.term ≤ self.old.term + 1 }
+        ensures incs { (self.new.a.inc ≡ self.old.a.inc) × (self.new.b.inc ≡ self.old.b.inc) }
+        // Who is named leader here stands beside a partner that isn't up.
+        ensures alone { (self.new.term ≡ self.old.term) ⊎ IsOneAway self.new }
+    {
+        match *body {
+            Body::Report { inc, edge, upto } => match which {
+                Which::A => self.a.hear_report(inc, edge.from as usize, upto),
+                Which::B => self.b.hear_report(inc, edge.from as usize, upto),
+            },
+            Body::Down { inc } => {
+                if self.counts(which, inc) {
+                    self.go_down(which, out);
+                }
+            }
+            Body::AskStop { inc } => match which {
+                Which::A => self.a.want_stop(inc),
+                Which::B => self.b.want_stop(inc),
+            },
+            Body::AskBack => match which {
+                Which::A => self.b.want_back(),
+                Which::B => self.a.want_back(),
+            },
+            Body::Caught { inc } => {
+                if self.inc(which) == inc && self.status(which) == Status::Catching {
+                    self.come_up(which, out);
+                }
+            }
+            _ => {}
+        }
+    }
+
+    // A replica goes down, and no stop is wanted for it. Where it led, its partner leads if that is up.
+    pub(crate) fn go_down(&mut self, which: Which, out: &mut Outbox)
+        requires term { self.old.term + 1 < 2 ^ 64 }
+        requires room { 1 ≤ out.old.spare }
+        ensures does { IsDone self.old self.new out.old out.new
+            (goes_down (partition_of self.old) which (numbers_of self.old)) }
+        ensures acked { self.new.acked ≡ self.old.acked }
+        ensures sends { SendsAtMost 1 out.old out.new }
+        ensures term { self.new.term ≤ self.old.term + 1 }
+        ensures incs { (self.new.a.inc ≡ self.old.a.inc) × (self.new.b.inc ≡ self.old.b.inc) }
+        ensures down { (watched_of self.new which).status ≡ status.Down }
+    {
+        let led = self.leader == Some(which);
+        match which {
+            Which::A => self.a.go_down(),
+            Which::B => self.b.go_down(),
+        }
+        if led {
+            let partner = partner_of(which);
+            if self.status(partner) == Status::Up {
+                self.name_leader(partner, out);
+            } else {
+                self.leader = None;
+            }
+        }
+    }
+
+    // A replica that was catching up is up. Where nobody leads, it is named leader first, so that at no
+    // moment a replica is up in a pair without a leader.
+    fn come_up(&mut self, which: Which, out: &mut Outbox)
+        requires term { self.old.term + 1 < 2 ^ 64 }
+        requires room { 1 ≤ out.old.spare }
+        requires catching { (watched_of self.old which).status ≡ status.Catching }
+        ensures does { IsDone self.old self.new out.old out.new
+            (controller_hears (partition_of self.old) which (Caught (watched_of self.old which).inc) (numbers_of self.old)) }
+        ensures acked { self.new.acked ≡ self.old.acked }
+        ensures sends { SendsAtMost 1 out.old out.new }
+        ensures term { self.new.term ≤ self.old.term + 1 }
+        ensures incs { (self.new.a.inc ≡ self.old.a.inc) × (self.new.b.inc ≡ self.old.b.inc) }
+        ensures alone { (self.new.term ≡ self.old.term) ⊎ IsOneAway self.new }
+    {
+        if self.leader.is_none() {
+            self.name_leader(which, out);
+        }
+        match which {
+            Which::A => self.a.come_up(),
+            Which::B => self.b.come_up(),
+        }
+    }
+
+    // Names a replica leader in the next term, and tells it.
+    fn name_leader(&mut self, which: Which, out: &mut Outbox)
+        requires term { self.old.term + 1 < 2 ^ 64 }
+        requires room { 1 ≤ out.old.spare }
+        ensures does { IsDone self.old self.new out.old out.new
+            (named (partition_of self.old) which (numbers_of self.old)) }
+        ensures sends { SendsAtMost 1 out.old out.new }
+        ensures kept { self.new ≡ record self.old { term = self.old.term + 1; leader = Some which } }
+    {
+        self.term += 1;
+        self.leader = Some(which);
+        let (inc, term) = (self.inc(which), self.term);
+        self.send(which, Body::Lead { inc, term }, out);
+    }
+
+    // Sends a packet to one of the two replicas.
+    pub(crate) fn send(&self, which: Which, body: Body, out: &mut Outbox)
+        requires { 1 ≤ out.old.spare }
+        ensures packets { out.new.packets ≡ out.old.packets
+            ++ (replica_at (partition_of self.now) which, body) ∷ [] }
+        ensures sends { SendsAtMost 1 out.old out.new }
+    {
+        let (stage, part) = (self.stage, self.part);
+        out.push(NodeId::Replica { stage, part, which }, body);
+    }
+}
