@@ -1,0 +1,5 @@
+pub mod Coming
+pub mod Fronts
+pub mod Numbered
+pub mod Sent
+pub mod Treating

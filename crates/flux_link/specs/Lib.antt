@@ -1,0 +1,7 @@
+pub mod Arrivals
+pub mod Choices
+pub mod Identity
+pub mod LossyInlets
+pub mod MemLinkView
+pub mod RingViews
+pub mod Treating

@@ -1,0 +1,35 @@
+-- What contracts see of the two ends of a ring.
+use Rattle.flux_link.specs.Identity.{Identity}
+use Rattle.rtrb.specs.Ring.{sent, received, known_free, known_items}
+use Rattle.rtrb.specs.declared.consumer.Consumer.{Consumer}
+use Rattle.rtrb.specs.declared.producer.Producer.{Producer}
+use Rattle.std.specs.Prelude.{ℕ, List}
+use Rattle.std.specs.declared.alloc.Global.{Global}
+use Rattle.tuple_edge.specs.declared.packet.Packet.{Packet}
+
+-- the end that sends: the packets sent, how many free slots it knows of, and which link it is
+pub record RingOutView : Type 0 where
+  pub sent : List Packet
+  pub known_free : ℕ
+  pub identity : Identity
+
+-- the end that receives: the packets given, those that it knows to be waiting, and which link it is
+pub record RingInView : Type 0 where
+  pub given : List Packet
+  pub known_waiting : List Packet
+  pub identity : Identity
+
+module _ {P : Type 0} where
+  -- the ring that an end belongs to
+  abbrev pub producer_identity : Producer Packet Global P → Identity
+  producer_identity p = record { words = p.end.words; slots = p.end.slots; names = p.end.names; heap = p.end.heap }
+
+  abbrev pub consumer_identity : Consumer Packet Global P → Identity
+  consumer_identity c = record { words = c.end.words; slots = c.end.slots; names = c.end.names; heap = c.end.heap }
+
+  -- the ends by what they have sent, given and seen
+  abbrev pub ring_out_view : Producer Packet Global P → RingOutView
+  ring_out_view p = record { sent = sent p; known_free = known_free p; identity = producer_identity p }
+
+  abbrev pub ring_in_view : Consumer Packet Global P → RingInView
+  ring_in_view c = record { given = received c; known_waiting = known_items c; identity = consumer_identity c }
