@@ -1,0 +1,14 @@
+pub mod Lists
+pub mod Seats
+pub mod Places
+pub mod Moves
+pub mod Opening
+pub mod Splitting
+pub mod Joining
+pub mod Distinct
+pub mod Turning
+pub mod Gathering
+pub mod NewSeats
+pub mod ValuesBack
+pub mod Turns
+pub mod RuleLaws
