@@ -1,5 +1,6 @@
 -- A consumer: a merge, and for each in-edge the mark that was told last.
 use Rattle.std.specs.Prelude.{◌≡◌, ℕ, zero, suc, ◌<◌, ◌≤◌, List, length, Option, None, Some, nat_lt, if◌then◌else◌, slice_index, slice_set, replicate}
+use Rattle.std.specs.Option.{option_or}
 use Rattle.merge_order.specs.MergeView.{MergeView, mark_of}
 
 pub record ConsumerView : Type 0 where
@@ -37,15 +38,10 @@ pub record IsFirstUntold (c : ConsumerView) (edge mark : ℕ) : Type 0 where
 abbrev pub report_at : ConsumerView → ℕ → Option (ℕ × ℕ)
 report_at c edge = if nat_lt (told_of c edge) (mark_of c.merge edge) then Some (edge, mark_of c.merge edge) else None
 
--- the former, where there is one
-abbrev pub former_or : {A : Type 0} → Option A → Option A → Option A
-former_or None y = y
-former_or (Some x) y = Some x
-
 -- what is to be told of the first n edges: of the first of them of which there is anything
 abbrev pub report_below : ConsumerView → ℕ → Option (ℕ × ℕ)
 report_below c zero = None
-report_below c (suc n) = former_or (report_below c n) (report_at c n)
+report_below c (suc n) = option_or (report_below c n) (report_at c n)
 
 -- what is to be told: an edge with its mark
 abbrev pub report_of : ConsumerView → Option (ℕ × ℕ)

@@ -7,7 +7,8 @@ use Rattle.tuple_edge.specs.declared.packet.Body.{Body}
 use Rattle.tuple_edge.specs.declared.packet.Body.TheVariants as body
 use Rattle.tuple_edge.specs.declared.status.Status.{Status}
 use Rattle.tuple_edge.specs.declared.status.Status.TheVariants as status
-use Rattle.pair_machine.specs.Controllers.{acks, backs, controller_hears, controller_takes, counts, goes_down, is_catching, is_down, is_none, is_up, leads_now, least_of, stops, with_watched}
+use Rattle.std.specs.Option.{is_none}
+use Rattle.pair_machine.specs.Controllers.{acks, backs, controller_hears, controller_takes, counts, goes_down, is_catching, is_down, is_up, leads_now, least_of, stops, with_watched}
 use Rattle.pair_machine.specs.Messages.{AskBack, AskStop, Caught, Down, Envelope, Message, Report}
 use Rattle.pair_machine.specs.Numbers.{Controller, Partition, Watched, other}
 use Rattle.pair_machine.proofs.Tests.{if_elim}

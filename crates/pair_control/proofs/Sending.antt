@@ -7,7 +7,8 @@ use Rattle.tuple_edge.specs.declared.node.Which.TheVariants.{A, B}
 use Rattle.tuple_edge.specs.declared.row.Row.{Row}
 use Rattle.plan_reader.specs.PlanView.{PlanView}
 use Rattle.pair_machine.specs.Contents.{BodyStands}
-use Rattle.pair_machine.specs.Controllers.{acks, acks_from, backs, controller_hears, controller_takes, counts, goes_down, is_catching, is_down, is_none, is_up, leads_now, least, stops, then_do}
+use Rattle.std.specs.Option.{is_none}
+use Rattle.pair_machine.specs.Controllers.{acks, acks_from, backs, controller_hears, controller_takes, counts, goes_down, is_catching, is_down, is_up, leads_now, least, stops, then_do}
 use Rattle.pair_machine.specs.Links.{link}
 use Rattle.pair_machine.specs.Lists.{Each}
 use Rattle.pair_machine.specs.Messages.{Ack, AskBack, AskStop, Caught, Down, Envelope, Message, Report}

@@ -7,7 +7,8 @@ use Rattle.tuple_edge.specs.declared.status.Status.TheVariants as status
 use Rattle.pair_machine.specs.Acknowledged.{ChunkLows, ControllerAcks, IsAckedAtMostReported, MessageLows, MoveLows, MovedLows, NodeLows, ReplicaLows, acked_of}
 use Rattle.pair_machine.specs.Boundary.{egress_does, egress_partition, egress_takes, egress_tells, ingress_does, ingress_partition, ingress_sends, ingress_takes}
 use Rattle.pair_machine.specs.Consumers.{is_ready, merged_one, offered, pulled, untold, with_at}
-use Rattle.pair_machine.specs.Controllers.{acks, acks_from, backs, controller_hears, controller_takes, counts, downed, goes_down, is_catching, is_down, is_none, is_up, leads_now, least, least_of, named, stops, then_do, with_which}
+use Rattle.std.specs.Option.{is_none}
+use Rattle.pair_machine.specs.Controllers.{acks, acks_from, backs, controller_hears, controller_takes, counts, downed, goes_down, is_catching, is_down, is_up, leads_now, least, least_of, named, stops, then_do, with_which}
 use Rattle.pair_machine.specs.Flow.{Flow}
 use Rattle.pair_machine.specs.Links.{AreOnTheirLinks, Carries, HasStage, IsAcross, IsThere, link}
 use Rattle.pair_machine.specs.Machine.{State, after, as_egress, as_ingress, as_replica, at_node, changed, controller_does, controller_in, does, egress_in, ingress_in, posted, replica_in, step}

@@ -5,7 +5,8 @@ use Rattle.std.proofs.lemmas.Bool.{eqb-true}
 use Rattle.std.proofs.lemmas.List.{append-nil}
 use Rattle.tuple_edge.specs.declared.status.Status.TheVariants as status
 use Rattle.pair_machine.specs.Consumers.{with_at}
-use Rattle.pair_machine.specs.Controllers.{acks, acks_from, backs as backs_of, controller_hears, controller_takes, counts, downed, goes_down, is_catching, is_down, is_none, is_up, leads_now, least, named, stops as stops_of, then_do, with_which}
+use Rattle.std.specs.Option.{is_none}
+use Rattle.pair_machine.specs.Controllers.{acks, acks_from, backs as backs_of, controller_hears, controller_takes, counts, downed, goes_down, is_catching, is_down, is_up, leads_now, least, named, stops as stops_of, then_do, with_which}
 use Rattle.pair_machine.specs.Flow.{Flow}
 use Rattle.pair_machine.specs.Lists.{Among}
 use Rattle.pair_machine.specs.Machine.{messages_to}

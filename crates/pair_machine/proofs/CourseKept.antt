@@ -1,10 +1,11 @@
 -- What a node keeps is a true course, one more event keeps it, and links that give each packet under its index make courses agree.
-use Rattle.std.proofs.Common.{◌≡◌, ◌≢◌, ◌<◌, ℕ, Bool, true, false, List, [], ◌∷◌, ◌++◌, Option, None, Some, Result, Ok, Err, ◌-◌, refl, sym, ap, ◌∙◌, subst, arith, append_assoc}
+use Rattle.std.proofs.Common.{◌≡◌, ◌≢◌, ◌<◌, ℕ, zero, suc, Bool, true, false, List, [], ◌∷◌, ◌++◌, Option, None, Some, Result, Ok, Err, ◌-◌, refl, sym, ap, ◌∙◌, subst, arith, append_assoc}
 use Rattle.std.specs.Prelude.{◌==◌, if◌then◌else◌}
 use Rattle.std.proofs.lemmas.Bool.{eqb-true, eq-eqb}
 use Rattle.std.proofs.lemmas.List.{append-nil}
+use mathlib.Core.List.{IsPrefix}
 use Rattle.tuple_edge.specs.declared.event.Event.TheVariants as event
-use Rattle.pair_machine.specs.Courses.{ActFor, ActsFor, Agree, AllAsked, Arrivals, AskedAt, Extends, IsPrefix, IsSentAtItsIndex, IsStep, IsTrueCourse, IsTrueHistory, IsTrueNode, Moment, Pairwise, Replayed, StandsAt, TookBefore, TookSent, acted_on, also, course_of, given, given_back, moment_of, onto, replay, sent_at, taken_at}
+use Rattle.pair_machine.specs.Courses.{ActFor, ActsFor, Agree, AllAsked, Arrivals, AskedAt, Extends, IsSentAtItsIndex, IsStep, IsTrueCourse, IsTrueHistory, IsTrueNode, Moment, Pairwise, Replayed, StandsAt, TookBefore, TookSent, acted_on, also, course_of, given, given_back, moment_of, onto, replay, sent_at, taken_at}
 use Rattle.pair_machine.specs.Flow.{Flow}
 use Rattle.pair_machine.specs.Links.{IsThere, link}
 use Rattle.pair_machine.specs.Lists.{Each}
@@ -24,12 +25,10 @@ use Rattle.pair_machine.proofs.Tests.{nat_not}
 -- agreement -------------------------------------------------------------------
 
 nth_prefix : {X : Type 0} (v : X) (xs ys : List X) (k : ℕ) → nth_from_one xs k ≡ Some v → nth_from_one (xs ++ ys) k ≡ Some v
-nth_prefix v [] ys k e = cc
-nth_prefix v (x ∷ xs) ys k e = go (k == 1) (nth_prefix v xs ys (k - 1)) e
-  where
-    go : (c : Bool) → (nth_from_one xs (k - 1) ≡ Some v → nth_from_one (xs ++ ys) (k - 1) ≡ Some v) → (if c then Some x else nth_from_one xs (k - 1)) ≡ Some v → (if c then Some x else nth_from_one (xs ++ ys) (k - 1)) ≡ Some v
-    go true old e = e
-    go false old e = old e
+nth_prefix v xs ys zero e = cc
+nth_prefix v [] ys (suc k) e = cc
+nth_prefix v (x ∷ xs) ys (suc zero) e = e
+nth_prefix v (x ∷ xs) ys (suc (suc k)) e = nth_prefix v xs ys (suc k) e
 
 -- a front of what was sent has each packet at its place
 pub prefix_at_places : (xs ys : List Packet) → IsPrefix xs ys → IsSentAtItsIndex (nth_from_one xs) ys

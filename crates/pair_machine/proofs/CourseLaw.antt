@@ -1,5 +1,5 @@
 -- The law of courses: where all courses are true and agree, the joint course is legal, and every node stands for its numbers.
-use Rattle.std.proofs.Common.{◌≡◌, ◌⊎◌, inl, inr, ⊎_elim, ◌<◌, ◌≤◌, ℕ, Bool, true, false, List, [], ◌∷◌, ◌++◌, Option, None, Some, Result, Ok, Err, ◌-◌, refl, sym, ap, ◌∙◌, subst, arith, append_assoc}
+use Rattle.std.proofs.Common.{◌≡◌, ◌⊎◌, inl, inr, ⊎_elim, ◌<◌, ◌≤◌, ℕ, zero, suc, Bool, true, false, List, [], ◌∷◌, ◌++◌, Option, None, Some, Result, Ok, Err, ◌-◌, refl, sym, ap, ◌∙◌, subst, arith, append_assoc}
 use Rattle.std.specs.Prelude.{◌==◌, if◌then◌else◌}
 use Rattle.tuple_edge.specs.declared.event.Event.TheVariants as event
 use Rattle.pair_machine.specs.Courses.{ActFor, ActsFor, Agree, AllAsked, AskedAt, IsTrueCourse, Moment, Pairwise, Replayed, TookSent, acted_on, also, given, given_back, onto, replay}
@@ -25,31 +25,23 @@ use Rattle.pair_machine.proofs.Names.{is_node-true, node_self}
 -- lists -----------------------------------------------------------------------
 
 nth_later : {X : Type 0} (v : X) (zs : List X) (j : ℕ) → nth_from_one zs j ≡ Some v → Among v zs
-nth_later v [] j e = cc
-nth_later v (z ∷ zs) j e = go (j == 1) (nth_later v zs (j - 1)) e
-  where
-    go : (c : Bool) → (nth_from_one zs (j - 1) ≡ Some v → Among v zs) → (if c then Some z else nth_from_one zs (j - 1)) ≡ Some v → (v ≡ z) ⊎ Among v zs
-    go true old e = inl (let y : z ≡ v = cc e in sym y)
-    go false old e = inr (old e)
+nth_later v zs zero e = cc
+nth_later v [] (suc j) e = cc
+nth_later v (z ∷ zs) (suc zero) e = inl (let y : z ≡ v = cc e in sym y)
+nth_later v (z ∷ zs) (suc (suc j)) e = inr (nth_later v zs (suc j) e)
 
 nth_append : {X : Type 0} (v : X) (xs ys : List X) (k : ℕ) → nth_from_one (xs ++ ys) k ≡ Some v → (nth_from_one xs k ≡ Some v) ⊎ Among v ys
-nth_append v [] ys k e = inr (nth_later v ys k e)
-nth_append v (x ∷ xs) ys k e = go (k == 1) (nth_append v xs ys (k - 1)) e
-  where
-    go : (c : Bool) → (nth_from_one (xs ++ ys) (k - 1) ≡ Some v → (nth_from_one xs (k - 1) ≡ Some v) ⊎ Among v ys) →
-        (if c then Some x else nth_from_one (xs ++ ys) (k - 1)) ≡ Some v → ((if c then Some x else nth_from_one xs (k - 1)) ≡ Some v) ⊎ Among v ys
-    go true old e = inl e
-    go false old e = old e
+nth_append v xs ys zero e = cc
+nth_append v [] ys (suc k) e = inr (nth_later v ys (suc k) e)
+nth_append v (x ∷ xs) ys (suc zero) e = inl e
+nth_append v (x ∷ xs) ys (suc (suc k)) e = nth_append v xs ys (suc k) e
 
 pairwise_nth : {X Y : Type 0} (R : X → Y → Type 0) (xs : List X) (ys : List Y) (k : ℕ) (v : X) → Pairwise R xs ys → nth_from_one xs k ≡ Some v → (m : Y) × (nth_from_one ys k ≡ Some m) × R v m
-pairwise_nth R [] ys k v h e = cc
-pairwise_nth R (x ∷ xs) [] k v h e = absurd h
-pairwise_nth R (x ∷ xs) (y ∷ ys) k v h e = go (k == 1) (pairwise_nth R xs ys (k - 1) v h.1) e
-  where
-    go : (c : Bool) → (nth_from_one xs (k - 1) ≡ Some v → (m : _) × (nth_from_one ys (k - 1) ≡ Some m) × R v m) → (if c then Some x else nth_from_one xs (k - 1)) ≡ Some v →
-        (m : _) × ((if c then Some y else nth_from_one ys (k - 1)) ≡ Some m) × R v m
-    go true old e = let same : x ≡ v = cc e in (y, refl, subst (λ z. R z y) same h.0)
-    go false old e = old e
+pairwise_nth R xs ys zero v h e = cc
+pairwise_nth R [] ys (suc k) v h e = cc
+pairwise_nth R (x ∷ xs) [] (suc k) v h e = absurd h
+pairwise_nth R (x ∷ xs) (y ∷ ys) (suc zero) v h e = let same : x ≡ v = cc e in (y, refl, subst (λ z. R z y) same h.0)
+pairwise_nth R (x ∷ xs) (y ∷ ys) (suc (suc k)) v h e = pairwise_nth R xs ys (suc k) v h.1 e
 
 given_split : (to : NodeId) (pre post : List Moment) → given to (onto pre post) ≡ given_back to pre ++ given to post
 given_split to [] post = refl

@@ -1,8 +1,9 @@
 -- What the finite searches find.
 use Rattle.std.proofs.Common.{◌≡◌, ◌<◌, ◌≤◌, ℕ, zero, suc, Bool, true, List, [], ◌∷◌, Option, None, Some, refl, arith}
 use Rattle.std.specs.Prelude.{if◌then◌else◌, nat_le}
+use Rattle.std.specs.Option.{option_or}
 use Rattle.std.proofs.lemmas.Bool.{leb-true}
-use Rattle.pair_machine.specs.Consumers.{first_below, former_or}
+use Rattle.pair_machine.specs.Consumers.{first_below}
 use Rattle.pair_machine.specs.Flow.{Flow}
 use Rattle.pair_machine.specs.Numbers.{Partition, Producer}
 use Rattle.pair_machine.specs.Producers.{Due, copies, due, due_below, due_copies, due_copy, sooner}
@@ -17,7 +18,7 @@ pub first_found : (n : ℕ) (p : ℕ → Bool) → FoundIn p n (first_below p n)
 first_found zero p = tt
 first_found (suc n) p = go (first_below p n) (first_found n p)
   where
-    go : (o : Option ℕ) → FoundIn p n o → FoundIn p (suc n) (former_or o (if p n then Some n else None))
+    go : (o : Option ℕ) → FoundIn p n o → FoundIn p (suc n) (option_or o (if p n then Some n else None))
     go None h = if_elim (FoundIn p (suc n)) (p n) (Some n) None (λ e. (e, omega arith)) (λ e. tt)
     go (Some q) h = (h.0, omega arith)
 

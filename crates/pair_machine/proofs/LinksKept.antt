@@ -5,7 +5,8 @@ use Rattle.std.proofs.lemmas.Bool.{eqb-true, eq-eqb, leb-true}
 use Rattle.tuple_edge.specs.declared.node.NodeId.TheVariants as node
 use Rattle.pair_machine.specs.Boundary.{egress_does, egress_partition, egress_tells, ingress_does, ingress_partition, ingress_sends}
 use Rattle.pair_machine.specs.Consumers.{is_ready, untold}
-use Rattle.pair_machine.specs.Controllers.{acks, acks_from, backs, controller_hears, controller_takes, counts, goes_down, is_catching, is_down, is_none, is_up, leads_now, least, stops, then_do}
+use Rattle.std.specs.Option.{is_none}
+use Rattle.pair_machine.specs.Controllers.{acks, acks_from, backs, controller_hears, controller_takes, counts, goes_down, is_catching, is_down, is_up, leads_now, least, stops, then_do}
 use Rattle.pair_machine.specs.Flow.{Flow, IsFlow}
 use Rattle.pair_machine.specs.Links.{AreOnTheirLinks, Carries, HasStage, IsProducer, IsThere, link}
 use Rattle.pair_machine.specs.Machine.{State, after, as_egress, as_ingress, as_replica, at_node, changed, controller_does, controller_in, does, egress_in, ingress_in, posted, replica_in, step}

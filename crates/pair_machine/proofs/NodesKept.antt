@@ -10,7 +10,8 @@ use Rattle.tuple_edge.specs.declared.node.Which.{Which}
 use Rattle.tuple_edge.specs.declared.node.Which.TheVariants.{A, B}
 use Rattle.pair_machine.specs.Boundary.{egress_does, egress_partition, egress_tells, ingress_does, ingress_partition, ingress_sends}
 use Rattle.pair_machine.specs.Consumers.{is_ready, untold}
-use Rattle.pair_machine.specs.Controllers.{acks, acks_from, backs, controller_hears, controller_takes, counts, goes_down, is_catching, is_down, is_none, is_up, leads_now, least, stops, then_do}
+use Rattle.std.specs.Option.{is_none}
+use Rattle.pair_machine.specs.Controllers.{acks, acks_from, backs, controller_hears, controller_takes, counts, goes_down, is_catching, is_down, is_up, leads_now, least, stops, then_do}
 use Rattle.pair_machine.specs.Flow.{Flow, IsFlow}
 use Rattle.pair_machine.specs.Links.{AreBetweenNodes, HasNode, IsThere, link}
 use Rattle.pair_machine.specs.Lists.{Each}

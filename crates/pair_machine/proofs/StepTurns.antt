@@ -1,5 +1,5 @@
 -- A step of the machine is some turns of each pair.
-use Rattle.std.proofs.Common.{◌≡◌, inl, inr, ◌<◌, ◌≤◌, ℕ, Bool, true, false, List, [], ◌∷◌, Option, None, Some, Result, Ok, Err, ◌-◌, ◌&&◌, refl, sym, subst, subst₂}
+use Rattle.std.proofs.Common.{◌≡◌, inl, inr, ◌<◌, ◌≤◌, ℕ, Bool, true, false, List, [], ◌∷◌, Option, None, Some, Result, Ok, Err, ◌-◌, ◌&&◌, refl, sym, subst, subst₂, zero, suc}
 use Rattle.std.specs.Prelude.{◌==◌, nat_lt, nat_le}
 use Rattle.std.proofs.lemmas.Bool.{eqb-true, ltb-true, leb-true}
 use Rattle.tuple_edge.specs.declared.event.Event.TheVariants as event
@@ -10,7 +10,8 @@ use Rattle.pair_machine.specs.Controllers.{controller_takes}
 use Rattle.pair_machine.specs.Flow.{Flow}
 use Rattle.pair_machine.specs.Links.{AreOnTheirLinks, Carries, HasEdge, HasNode, HasStage, IsAcross, IsConsumer, IsProducer, IsThere, IsUp, link}
 use Rattle.pair_machine.specs.Lists.{Among}
-use Rattle.pair_machine.specs.Machine.{Buffer, State, act_of, acted, after, as_egress, as_ingress, as_replica, at_node, buffer_of, changed, controller_does, controller_in, does, egress_in, ingress_in, mark_of, nth_from_one, part_of, partner_node, posted, pull_of, replica_in, step, taking_of}
+use Rattle.tuple_edge.specs.Node.{part_of}
+use Rattle.pair_machine.specs.Machine.{Buffer, State, act_of, acted, after, as_egress, as_ingress, as_replica, at_node, buffer_of, changed, controller_does, controller_in, does, egress_in, ingress_in, mark_of, nth_from_one, partner_node, posted, pull_of, replica_in, step, taking_of}
 use Rattle.pair_machine.specs.Messages.{Ack, Act, AskBack, AskStop, AsksBack, AsksStop, Begin, Caught, Chunk, ChunkEnd, Dies, Down, Envelope, Lead, Makes, Message, Pulls, Refusal, Report, Serve, Stop, Takes, Tuple, Want, Works}
 use Rattle.pair_machine.specs.Numbers.{Consumer, Controller, ControllerNode, Ingress, Node, Partition, Replica, ReplicaNode, control_at, other, replica_at}
 use Rattle.pair_machine.specs.Pairs.{side_of}
@@ -230,9 +231,10 @@ ActSent f s n (Ok a) = WasSent f s n a
 ActSent f s n (Err e) = Unit {0}
 
 nth_among : (f : Flow) (l : LinkId) (k j : ℕ) (s : State) (all xs : List Message) → ((m : Message) → Among m xs → Among m (s.sent l)) → ActSent f s l.to (taking_of l k all (nth_from_one xs j))
-nth_among f l k j s all [] h = tt
-nth_among f l k j s all (x ∷ xs) h = if_elim (λ o. ActSent f s l.to (taking_of l k all o)) (j == 1) (Some x) (nth_from_one xs (j - 1))
-    (λ e. h x (inl refl)) (λ e. nth_among f l k (j - 1) s all xs (λ m c. h m (inr c)))
+nth_among f l k zero s all xs h = tt
+nth_among f l k (suc j) s all [] h = tt
+nth_among f l k (suc zero) s all (x ∷ xs) h = h x (inl refl)
+nth_among f l k (suc (suc j)) s all (x ∷ xs) h = nth_among f l k (suc j) s all xs (λ m c. h m (inr c))
 
 part_of_producer : (e : EdgeId) (n : NodeId) → IsProducer e n → e.from ≡ part_of n
 part_of_producer e node.Ingress h = h.1

@@ -1,6 +1,7 @@
 -- What a consumer does, in numbers: it takes an item of an edge, merges the next one, and tells its marks. A replica that runs and
 -- egress are consumers.
 use Rattle.std.specs.Prelude.{ℕ, zero, suc, Bool, true, Option, None, Some, ◌+◌, ◌==◌, ◌&&◌, if◌then◌else◌, nat_lt}
+use Rattle.std.specs.Option.{option_or}
 use Rattle.pair_machine.specs.Numbers.{Consumer, Partition}
 use Rattle.pair_machine.specs.Flow.{Flow}
 
@@ -11,15 +12,10 @@ abbrev pub all_below : ℕ → (ℕ → Bool) → Bool
 all_below zero test = true
 all_below (suc n) test = all_below n test && test n
 
--- the former, where there is one
-abbrev pub former_or : {A : Type 0} → Option A → Option A → Option A
-former_or None y = y
-former_or (Some x) y = Some x
-
 -- the first number below n of which a test holds
 abbrev pub first_below : (ℕ → Bool) → ℕ → Option ℕ
 first_below test zero = None
-first_below test (suc n) = former_or (first_below test n) (if test n then Some n else None)
+first_below test (suc n) = option_or (first_below test n) (if test n then Some n else None)
 
 -- numbers of edges, with another number for edge k
 abbrev pub with_at : (ℕ → ℕ) → ℕ → ℕ → ℕ → ℕ

@@ -10,6 +10,7 @@ use Rattle.tuple_edge.specs.declared.packet.Body.TheVariants as body
 use Rattle.tuple_edge.specs.declared.packet.Entry.{Entry}
 use Rattle.tuple_edge.specs.declared.packet.Entry.TheVariants as entry
 use Rattle.tuple_edge.specs.declared.row.Row.{Row}
+use Rattle.merge_order.specs.Edges.{item_at}
 use Rattle.plan_reader.specs.Nodes.{parts_of, sources_of}
 use Rattle.plan_reader.specs.PlanView.{PlanView}
 use Rattle.pair_machine.specs.Counts.{entries_after, items_on, made_on, used_of}
@@ -55,6 +56,7 @@ move_list plan rows p m =
 
 -- ---- what a packet carries
 
+-- the partition of a replica or a controller; the other nodes send no chunk
 abbrev pub partition_of : NodeId → Partition
 partition_of node.Ingress = record { stage = 0; part = 0 }
 partition_of (node.Replica s p w) = record { stage = s; part = p }
@@ -64,7 +66,7 @@ partition_of node.Egress = record { stage = 0; part = 0 }
 -- A packet's body stands for a message on a link: it has its numbers, a tuple carries the item of its number, and a chunk the entry at
 -- its place in the list of its move.
 abbrev pub BodyStands : PlanView → List Row → LinkId → Body → Message → Type 0
-BodyStands plan rows l (body.Tuple e n item) (Tuple edge number) = (e ≡ edge) × (n ≡ number) × (nth_from_one (items_on plan rows edge) number ≡ Some item)
+BodyStands plan rows l (body.Tuple e n item) (Tuple edge number) = (e ≡ edge) × (n ≡ number) × (item_at (items_on plan rows edge) number ≡ Some item)
 BodyStands plan rows l (body.Chunk i n entry) (Chunk inc number m) = (i ≡ inc) × (n ≡ number) × (nth_from_one (move_list plan rows (partition_of l.from) m) number ≡ Some entry)
 BodyStands plan rows l (body.ChunkEnd i c) (ChunkEnd inc count m) = (i ≡ inc) × (c ≡ count)
 BodyStands plan rows l (body.Ack e k) (Ack edge upto) = (e ≡ edge) × (k ≡ upto)

@@ -1,7 +1,7 @@
 -- What the controller of a pair does, in numbers. It hears its two replicas, brings back one that is down and stops one that asks for
 -- it where the partner is up, and acknowledges each in-edge up to the least report of those that aren't down. It does all of this
 -- after each message, whatever the message was.
-use Rattle.std.specs.Prelude.{ℕ, zero, suc, Bool, true, false, List, [], ◌∷◌, ◌++◌, Option, None, Some, ◌+◌, ◌==◌, ◌&&◌, if◌then◌else◌, nat_lt, min, max}
+use Rattle.std.specs.Prelude.{ℕ, zero, suc, Bool, true, false, List, [], ◌∷◌, ◌++◌, Option, None, Some, ◌+◌, ◌==◌, ◌&&◌, if◌then◌else◌, is_none, nat_lt, min, max}
 use Rattle.tuple_edge.specs.declared.node.Which.{Which}
 use Rattle.tuple_edge.specs.declared.node.Which.TheVariants.{A, B}
 use Rattle.tuple_edge.specs.declared.status.Status.{Status}
@@ -41,10 +41,6 @@ abbrev pub counts : Watched → ℕ → Bool
 counts h i = if is_down h.status then false else i == h.inc
 
 -- ---- leaders
-
-abbrev pub is_none : Option Which → Bool
-is_none None = true
-is_none (Some w) = false
 
 abbrev pub leads_now : Option Which → Which → Bool
 leads_now None w = false

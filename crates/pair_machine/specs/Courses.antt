@@ -189,7 +189,3 @@ IsSentAtItsIndex arrived sent = (k : ℕ) (p : Packet) → arrived k ≡ Some p 
 -- what came stays
 abbrev pub Extends : Arrivals → Arrivals → Type 0
 Extends arrived arrived_after = (from : NodeId) (k : ℕ) (p : Packet) → arrived from k ≡ Some p → arrived_after from k ≡ Some p
-
--- what came on an exact link is a front of what was sent
-abbrev pub IsPrefix : List Packet → List Packet → Type 0
-IsPrefix xs ys = (rest : List Packet) × (xs ++ rest ≡ ys)

@@ -1,7 +1,7 @@
 -- The pair machine: the numbers of all nodes and every message ever sent, how it opens, what a step is, and which lists of events are
 -- legal. Nothing is ever removed from a link, so a message may be taken again, and in any order. A step is at one node: it changes
 -- that node's numbers, and appends what the node sends to its links.
-use Rattle.std.specs.Prelude.{◌≡◌, ℕ, Bool, true, false, List, [], ◌∷◌, ◌++◌, Option, None, Some, Result, Ok, Err, ◌-◌, ◌==◌, ◌&&◌, if◌then◌else◌, nat_lt, nat_le, length}
+use Rattle.std.specs.Prelude.{◌≡◌, ℕ, zero, suc, Bool, true, false, List, [], ◌∷◌, ◌++◌, Option, None, Some, Result, Ok, Err, ◌&&◌, if◌then◌else◌, nat_lt, nat_le, length, slice_get}
 use Rattle.tuple_edge.specs.declared.event.Event.{Event}
 use Rattle.tuple_edge.specs.declared.event.Event.TheVariants as event
 use Rattle.tuple_edge.specs.declared.node.LinkId.{LinkId}
@@ -10,6 +10,7 @@ use Rattle.tuple_edge.specs.declared.node.NodeId.TheVariants as node
 use Rattle.tuple_edge.specs.declared.node.Which.{Which}
 use Rattle.tuple_edge.specs.declared.node.Which.TheVariants.{A, B}
 use Rattle.tuple_edge.specs.declared.status.Status.TheVariants as status
+use Rattle.tuple_edge.specs.Node.{part_of}
 use Rattle.pair_machine.specs.Numbers.{Producer, Consumer, RunningNumbers, Replica, Gone, Running, Gathering, Watched, Controller, Ingress, Node, IngressNode, ReplicaNode, ControllerNode, EgressNode, Partition, is_node, other}
 use Rattle.pair_machine.specs.Messages.{Message, Envelope, Act, Takes, Works, Makes, Dies, AsksStop, AsksBack, Pulls, Refusal, NotSent, NothingDue, NotRunning, NotHeld}
 use Rattle.pair_machine.specs.Flow.{Flow}
@@ -127,8 +128,8 @@ at_node (event.Pull from to) = to
 
 -- what stands at a place, from 1
 abbrev pub nth_from_one : {X : Type 0} → List X → ℕ → Option X
-nth_from_one [] k = None
-nth_from_one (x ∷ xs) k = if k == 1 then Some x else nth_from_one xs (k - 1)
+nth_from_one xs zero = None
+nth_from_one xs (suc k) = slice_get xs k
 
 abbrev pub taking_of : LinkId → ℕ → List Message → Option Message → Result Act Refusal
 taking_of l k sent None = Err (NotSent l k (length sent))
@@ -162,12 +163,6 @@ mark_of q node.Ingress n = None
 mark_of q (node.Replica s p w) n = mark_in q (replica_in n)
 mark_of q (node.Control s p) n = None
 mark_of q node.Egress n = Some ((egress_in n).marks q)
-
-abbrev pub part_of : NodeId → ℕ
-part_of node.Ingress = 0
-part_of (node.Replica s p w) = p
-part_of (node.Control s p) = p
-part_of node.Egress = 0
 
 -- a pull is one where both ends run, and the item after the mark is kept
 abbrev pub pull_of : ℕ → Option Buffer → Option ℕ → Result Act Refusal
