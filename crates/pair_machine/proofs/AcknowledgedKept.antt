@@ -40,12 +40,7 @@ TakenLows j m = Unit {0}
 
 abbrev ActLows : (ℕ → ℕ) → Act → Type 0
 ActLows j (Takes from m) = TakenLows j m
-ActLows j Works = Unit {0}
-ActLows j Makes = Unit {0}
-ActLows j Dies = Unit {0}
-ActLows j AsksStop = Unit {0}
-ActLows j AsksBack = Unit {0}
-ActLows j (Pulls q) = Unit {0}
+ActLows j act = Unit {0}
 
 -- what a producer does keeps its lows at most those numbers
 acked_lows : (j : ℕ → ℕ) (x : Producer) (t u : ℕ) → u ≤ j t → ((i : ℕ) → x.lows i ≤ j i) → (i : ℕ) → (acked_to x t u).lows i ≤ j i
@@ -100,11 +95,7 @@ module _ (f : Flow) (k : EdgeId → ℕ) (p : Partition) (w : Which) where
   takes_lows from (Want e n) (Gone i) h c = (tt, tt)
   takes_lows from (Want e n) (Running x) h c = ((wanted_lows lows_at x.producer e.to (which_of from) n c.0, c.1), tt)
   takes_lows from (Want e n) (Gathering g) h c = (c, tt)
-  takes_lows from (Report i e n) r h c = (c, tt)
-  takes_lows from (Caught i) r h c = (c, tt)
-  takes_lows from (Down i) r h c = (c, tt)
-  takes_lows from (AskStop i) r h c = (c, tt)
-  takes_lows from AskBack r h c = (c, tt)
+  takes_lows from message r h c = (c, tt)
 
   reports_lows : (x : RunningNumbers) (q : Option ℕ) → ReplicaLows lows_at (Running x) → LowsIfOk (reports f p x q)
   reports_lows x None c = tt
@@ -212,15 +203,7 @@ module _ (k : EdgeId → ℕ) (p : Partition) where
       let up = with_acks c w (record (c.watched w) { status = status.Up }) (λ q e. old q w (catching_not_down (c.watched w).status z.1)) old in
       if_elim (Quiet k (control_at p) c) (is_none c.leader) _ _ (λ e. (refl, up, (tt, tt))) (λ e. (refl, up, tt)))
       (λ t. same_quiet c old)
-  takes_quiet w (Tuple e n) c old = same_quiet c old
-  takes_quiet w (Ack e n) c old = same_quiet c old
-  takes_quiet w (Lead i t) c old = same_quiet c old
-  takes_quiet w (Serve i t) c old = same_quiet c old
-  takes_quiet w (Begin i) c old = same_quiet c old
-  takes_quiet w (Chunk i n m) c old = same_quiet c old
-  takes_quiet w (ChunkEnd i n m) c old = same_quiet c old
-  takes_quiet w (Want e n) c old = same_quiet c old
-  takes_quiet w (Stop i) c old = same_quiet c old
+  takes_quiet w message c old = same_quiet c old
 
   backs_quiet : (w : Which) (c : Controller) → ControllerAcks c → Quiet k (control_at p) c (backs p w c)
   backs_quiet w c old = if_elim (Quiet k (control_at p) c) ((c.watched w).back && (is_down (c.watched w).status && is_up (c.watched (other w)).status)) _ _
@@ -308,18 +291,7 @@ IngressIfOk k j (Err e) = Unit {0}
 ingress_takes_lows : (j : ℕ → ℕ) (from : NodeId) (m : Message) (x : Ingress) → TakenLows j m → IngressLows j x → IngressLows j (ingress_takes from m x)
 ingress_takes_lows j from (Ack e u) x h c = acked_lows j x.producer e.to u h c
 ingress_takes_lows j from (Want e n) x h c = wanted_lows j x.producer e.to (which_of from) n c
-ingress_takes_lows j from (Tuple e n) x h c = c
-ingress_takes_lows j from (Report i e n) x h c = c
-ingress_takes_lows j from (Lead i t) x h c = c
-ingress_takes_lows j from (Serve i t) x h c = c
-ingress_takes_lows j from (Begin i) x h c = c
-ingress_takes_lows j from (Chunk i n m) x h c = c
-ingress_takes_lows j from (ChunkEnd i n m) x h c = c
-ingress_takes_lows j from (Caught i) x h c = c
-ingress_takes_lows j from (Down i) x h c = c
-ingress_takes_lows j from (Stop i) x h c = c
-ingress_takes_lows j from (AskStop i) x h c = c
-ingress_takes_lows j from AskBack x h c = c
+ingress_takes_lows j from message x h c = c
 
 ingress_sends_lows : (f : Flow) (k : EdgeId → ℕ) (j : ℕ → ℕ) (x : Ingress) (d : Option Due) → IngressLows j x → IngressIfOk k j (ingress_sends f x d)
 ingress_sends_lows f k j x None c = tt
@@ -329,10 +301,7 @@ ingress_lows : (f : Flow) (k : EdgeId → ℕ) (j : ℕ → ℕ) (a : Act) (x : 
 ingress_lows f k j (Takes from m) x h c = (ingress_takes_lows j from m x h c, tt)
 ingress_lows f k j Works x h c = ingress_sends_lows f k j x (due f ingress_partition (made_by f ingress_partition x.makes) x.producer) c
 ingress_lows f k j Makes x h c = if_elim (IngressIfOk k j) (nat_lt x.makes f.makes) _ _ (λ e. (c, tt)) (λ e. tt)
-ingress_lows f k j Dies x h c = tt
-ingress_lows f k j AsksStop x h c = tt
-ingress_lows f k j AsksBack x h c = tt
-ingress_lows f k j (Pulls q) x h c = tt
+ingress_lows f k j act x h c = tt
 
 -- egress --------------------------------------------------------------------
 
@@ -349,19 +318,7 @@ offered_told t q n = if_elim (λ (u : Consumer). t.told ≡ u.told) (n == t.mark
 
 egress_takes_acks : (f : Flow) (k : EdgeId → ℕ) (m : Message) (x : Consumer) → EgressAcks f k x (Ok (egress_takes m x, []))
 egress_takes_acks f k (Tuple e n) x = egress_same f k x (offered x e.from n) (offered_told x e.from n)
-egress_takes_acks f k (Ack e n) x = egress_same f k x x refl
-egress_takes_acks f k (Want e n) x = egress_same f k x x refl
-egress_takes_acks f k (Report i e n) x = egress_same f k x x refl
-egress_takes_acks f k (Lead i t) x = egress_same f k x x refl
-egress_takes_acks f k (Serve i t) x = egress_same f k x x refl
-egress_takes_acks f k (Begin i) x = egress_same f k x x refl
-egress_takes_acks f k (Chunk i n m) x = egress_same f k x x refl
-egress_takes_acks f k (ChunkEnd i n m) x = egress_same f k x x refl
-egress_takes_acks f k (Caught i) x = egress_same f k x x refl
-egress_takes_acks f k (Down i) x = egress_same f k x x refl
-egress_takes_acks f k (Stop i) x = egress_same f k x x refl
-egress_takes_acks f k (AskStop i) x = egress_same f k x x refl
-egress_takes_acks f k AskBack x = egress_same f k x x refl
+egress_takes_acks f k message x = egress_same f k x x refl
 
 egress_tells_acks : (f : Flow) (k : EdgeId → ℕ) (x : Consumer) (n : ℕ) (o : Option ℕ) → FoundIn (λ q. nat_lt (x.told q) (x.marks q)) n o → EgressAcks f k x (egress_tells f x o)
 egress_tells_acks f k x n None h = tt
@@ -445,17 +402,7 @@ module _ (k k_after : EdgeId → ℕ) (up : (e : EdgeId) → k e ≤ k_after e) 
   message_wider l (Ack e u) h = let z = up e in omega arith
   message_wider l (Chunk i n m) h = chunk_wider l.from m h
   message_wider l (ChunkEnd i n m) h = chunk_wider l.from m h
-  message_wider l (Tuple e n) h = tt
-  message_wider l (Want e n) h = tt
-  message_wider l (Report i e n) h = tt
-  message_wider l (Lead i t) h = tt
-  message_wider l (Serve i t) h = tt
-  message_wider l (Begin i) h = tt
-  message_wider l (Stop i) h = tt
-  message_wider l (Caught i) h = tt
-  message_wider l (Down i) h = tt
-  message_wider l (AskStop i) h = tt
-  message_wider l AskBack h = tt
+  message_wider l message h = tt
 
 replica_sends_messages : (f : Flow) (k : EdgeId → ℕ) (t q : ℕ) (w : Which) (from : NodeId) (m : MoveNumbers) → IsAcross from (node.Replica t q w) → ChunkLows k from m → (i : ℕ) → m.lows i ≤ k (record { stage = t; from = q; to = i })
 replica_sends_messages f k t q w node.Ingress m h c i = absurd h
@@ -468,17 +415,7 @@ replica_messages : (f : Flow) (k : EdgeId → ℕ) (t q : ℕ) (w : Which) (from
 replica_messages f k t q w from (Ack e u) h l = let same : e ≡ record { stage = t; from = q; to = e.to } = λ i. record { stage = h.1.1 i; from = h.1.2 i; to = e.to } in let at = ap k same in omega arith
 replica_messages f k t q w from (Chunk i n m) h l = replica_sends_messages f k t q w from m h l
 replica_messages f k t q w from (ChunkEnd i n m) h l = replica_sends_messages f k t q w from m h l
-replica_messages f k t q w from (Tuple e n) h l = tt
-replica_messages f k t q w from (Want e n) h l = tt
-replica_messages f k t q w from (Report i e n) h l = tt
-replica_messages f k t q w from (Lead i n) h l = tt
-replica_messages f k t q w from (Serve i n) h l = tt
-replica_messages f k t q w from (Begin i) h l = tt
-replica_messages f k t q w from (Stop i) h l = tt
-replica_messages f k t q w from (Caught i) h l = tt
-replica_messages f k t q w from (Down i) h l = tt
-replica_messages f k t q w from (AskStop i) h l = tt
-replica_messages f k t q w from AskBack h l = tt
+replica_messages f k t q w from message h l = tt
 
 no_across : (from : NodeId) → IsAcross from node.Ingress → ⊥
 no_across node.Ingress h = h
@@ -490,17 +427,7 @@ ingress_messages : (f : Flow) (k : EdgeId → ℕ) (from : NodeId) (m : Message)
 ingress_messages f k from (Ack e u) h l = let same : e ≡ record { stage = 0; from = 0; to = e.to } = λ i. record { stage = h.1.0 i; from = h.1.1 i; to = e.to } in let at = ap k same in omega arith
 ingress_messages f k from (Chunk i n m) h l = absurd (no_across from h)
 ingress_messages f k from (ChunkEnd i n m) h l = absurd (no_across from h)
-ingress_messages f k from (Tuple e n) h l = tt
-ingress_messages f k from (Want e n) h l = tt
-ingress_messages f k from (Report i e n) h l = tt
-ingress_messages f k from (Lead i n) h l = tt
-ingress_messages f k from (Serve i n) h l = tt
-ingress_messages f k from (Begin i) h l = tt
-ingress_messages f k from (Stop i) h l = tt
-ingress_messages f k from (Caught i) h l = tt
-ingress_messages f k from (Down i) h l = tt
-ingress_messages f k from (AskStop i) h l = tt
-ingress_messages f k from AskBack h l = tt
+ingress_messages f k from message h l = tt
 
 module _ (f : Flow) (s : State) (all : AreOnTheirLinks f s) (old : IsAckedAtMostReported f s) where
   abbrev here : EdgeId → ℕ
@@ -546,34 +473,19 @@ module _ (f : Flow) (s : State) (all : AreOnTheirLinks f s) (old : IsAckedAtMost
       let d = controller_takes (f.sources t) (record { stage = t; part = q }) (which_of from) m c in
       let g = controller_acks (acked_of f (put (node.Control t q) s (ControllerNode d.0) d.1)) (record { stage = t; part = q }) f (which_of from) m c (old.nodes (node.Control t q)) in
       acked_by (node.Control t q) (ControllerNode d.0) d.1 g.0 g.1 (λ rise. g.2 (controller_top t q d.0 d.1 h h_after))
-  controller_acked t q Works h h_after = tt
-  controller_acked t q Makes h h_after = tt
-  controller_acked t q Dies h h_after = tt
-  controller_acked t q AsksStop h h_after = tt
-  controller_acked t q AsksBack h h_after = tt
-  controller_acked t q (Pulls i) h h_after = tt
+  controller_acked t q act h h_after = tt
 
   replica_act : (t q : ℕ) (w : Which) (a : Act) → WasSent f s (node.Replica t q w) a → ActLows (λ i. here (record { stage = t; from = q; to = i })) a
   replica_act t q w (Takes from m) c =
       let l = link from (node.Replica t q w) in
       replica_messages f here t q w from m (each_at (Carries f l) m (s.sent l) c (all l)) (each_at (MessageLows here l) m (s.sent l) c (old.sent l))
-  replica_act t q w Works c = tt
-  replica_act t q w Makes c = tt
-  replica_act t q w Dies c = tt
-  replica_act t q w AsksStop c = tt
-  replica_act t q w AsksBack c = tt
-  replica_act t q w (Pulls i) c = tt
+  replica_act t q w act c = tt
 
   ingress_act : (a : Act) → WasSent f s node.Ingress a → ActLows (λ i. here (record { stage = 0; from = 0; to = i })) a
   ingress_act (Takes from m) c =
       let l = link from node.Ingress in
       ingress_messages f here from m (each_at (Carries f l) m (s.sent l) c (all l)) (each_at (MessageLows here l) m (s.sent l) c (old.sent l))
-  ingress_act Works c = tt
-  ingress_act Makes c = tt
-  ingress_act Dies c = tt
-  ingress_act AsksStop c = tt
-  ingress_act AsksBack c = tt
-  ingress_act (Pulls i) c = tt
+  ingress_act act c = tt
 
   node_acked : (n : NodeId) (a : Act) → HasStage f n → WasSent f s n a → HoldsOnOk (IsAckedAtMostReported f) (after n s (does f n a (s.nodes n)))
   node_acked node.Ingress a h c = ingress_acked (ingress_does f a (ingress_in (s.nodes node.Ingress))) (ingress_lows f here (λ i. here (record { stage = 0; from = 0; to = i })) a (ingress_in (s.nodes node.Ingress)) (ingress_act a c) (old.nodes node.Ingress))

@@ -10,7 +10,7 @@ use Rattle.pair_machine.specs.Controllers.{acks, acks_from, backs as backs_of, c
 use Rattle.pair_machine.specs.Flow.{Flow}
 use Rattle.pair_machine.specs.Lists.{Among}
 use Rattle.pair_machine.specs.Machine.{messages_to}
-use Rattle.pair_machine.specs.Messages.{Ack, AskBack, AskStop, Begin, Caught, Chunk, ChunkEnd, Down, Envelope, Lead, Message, Report, Serve, Stop, Tuple, Want, envelope}
+use Rattle.pair_machine.specs.Messages.{Ack, AskBack, AskStop, Caught, Down, Envelope, Lead, Message, Report, Stop, envelope}
 use Rattle.pair_machine.specs.Numbers.{Controller, Partition, Replica, Watched, in_edge, is_node, is_which, other, replica_at}
 use Rattle.pair_machine.specs.Pairs.{Side}
 use Rattle.pair_machine.specs.Producers.{to_producers}
@@ -158,16 +158,7 @@ module _ (f : Flow) (p : Partition) (ka sa kb sb : Bool) (copies : Which → Rep
   HeardUp w (Caught i) = Among (Caught i) (ups w)
   HeardUp w (Down i) = Among (Down i) (ups w)
   HeardUp w (AskStop i) = Among (AskStop i) (ups w)
-  HeardUp w (Tuple e k) = Unit {0}
-  HeardUp w (Ack e k) = Unit {0}
-  HeardUp w (Lead i t) = Unit {0}
-  HeardUp w (Serve i t) = Unit {0}
-  HeardUp w (Begin i) = Unit {0}
-  HeardUp w (Chunk i k m) = Unit {0}
-  HeardUp w (ChunkEnd i k m) = Unit {0}
-  HeardUp w (Want e k) = Unit {0}
-  HeardUp w (Stop i) = Unit {0}
-  HeardUp w AskBack = Unit {0}
+  HeardUp w message = Unit {0}
 
   controller_hears_done : (w : Which) (m : Message) (c : Controller) (d : Which → List Message) → HeardUp w m → PairDone c d (controller_hears p w m c)
   controller_hears_done w (Report i e k) c d o = hears_done w i e k c d o
@@ -175,15 +166,7 @@ module _ (f : Flow) (p : Partition) (ka sa kb sb : Bool) (copies : Which → Rep
   controller_hears_done w (AskStop i) c d o = if_elim (PairDone c d) (counts (c.watched w) i) _ _ (λ t. silent c d (flag_by w true (c.watched w).back c) (flagged w c d true (c.watched w).back (λ e. let z = counts_both (c.watched w) i t in inr (subst (λ j. Among (AskStop j) (ups w)) z.1 o)))) (λ t. nothing c d)
   controller_hears_done w AskBack c d o = silent c d (flag_by (other w) (c.watched (other w)).stop true c) (flagged (other w) c d (c.watched (other w)).stop true (λ e. inl e))
   controller_hears_done w (Caught i) c d o = caught_done w i c d o
-  controller_hears_done w (Tuple e k) c d o = nothing c d
-  controller_hears_done w (Ack e k) c d o = nothing c d
-  controller_hears_done w (Lead i t) c d o = nothing c d
-  controller_hears_done w (Serve i t) c d o = nothing c d
-  controller_hears_done w (Begin i) c d o = nothing c d
-  controller_hears_done w (Chunk i k m) c d o = nothing c d
-  controller_hears_done w (ChunkEnd i k m) c d o = nothing c d
-  controller_hears_done w (Want e k) c d o = nothing c d
-  controller_hears_done w (Stop i) c d o = nothing c d
+  controller_hears_done w message c d o = nothing c d
 
   backs_done : (w : Which) (c : Controller) (d : Which → List Message) → PairDone c d (backs_of p w c)
   backs_done A c d = if_elim (PairDone c d) ((c.watched A).back && (is_down (c.watched A).status && is_up (c.watched B).status)) _ _

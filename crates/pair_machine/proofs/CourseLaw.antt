@@ -1,6 +1,6 @@
 -- The law of courses: where all courses are true and agree, the joint course is legal, and every node stands for its numbers.
-use Rattle.std.proofs.Common.{◌≡◌, ◌⊎◌, inl, inr, ⊎_elim, ◌<◌, ◌≤◌, ℕ, zero, suc, Bool, true, false, List, [], ◌∷◌, ◌++◌, Option, None, Some, Result, Ok, Err, ◌-◌, refl, sym, ap, ◌∙◌, subst, arith, append_assoc}
-use Rattle.std.specs.Prelude.{◌==◌, if◌then◌else◌}
+use Rattle.std.proofs.Common.{◌≡◌, ◌⊎◌, inl, inr, ⊎_elim, ◌<◌, ◌≤◌, ℕ, zero, suc, Bool, true, false, List, [], ◌∷◌, ◌++◌, Option, None, Some, Result, Ok, Err, refl, sym, ap, ◌∙◌, subst, arith, append_assoc}
+use Rattle.std.specs.Prelude.{if◌then◌else◌}
 use Rattle.tuple_edge.specs.declared.event.Event.TheVariants as event
 use Rattle.pair_machine.specs.Courses.{ActFor, ActsFor, Agree, AllAsked, AskedAt, IsTrueCourse, Moment, Pairwise, Replayed, TookSent, acted_on, also, given, given_back, onto, replay}
 use Rattle.pair_machine.specs.Flow.{Flow, IsFlow}

@@ -28,36 +28,13 @@ names_more i j h AskBack n = tt
 
 pub serve_more : (P Q : ℕ → ℕ → Type 0) → ((i t : ℕ) → P i t → Q i t) → (m : Message) → OfServe P m → OfServe Q m
 serve_more P Q g (Serve i t) n = g i t n
-serve_more P Q g (Tuple e k) n = tt
-serve_more P Q g (Ack e k) n = tt
-serve_more P Q g (Report a e k) n = tt
-serve_more P Q g (Lead a t) n = tt
-serve_more P Q g (Begin a) n = tt
-serve_more P Q g (Chunk a k m) n = tt
-serve_more P Q g (ChunkEnd a k m) n = tt
-serve_more P Q g (Caught a) n = tt
-serve_more P Q g (Want e k) n = tt
-serve_more P Q g (Down a) n = tt
-serve_more P Q g (Stop a) n = tt
-serve_more P Q g (AskStop a) n = tt
-serve_more P Q g AskBack n = tt
+serve_more P Q g message n = tt
 
 -- a message to the controller that names at most i binds no later incarnation
 binds_up : (i j : ℕ) → i < j → (m : Message) → NamesAtMost i m → DoesNotName j m
 binds_up i j h (Report a e k) n = omega arith
 binds_up i j h (Caught a) n = omega arith
-binds_up i j h (Serve a t) n = tt
-binds_up i j h (Tuple e k) n = tt
-binds_up i j h (Ack e k) n = tt
-binds_up i j h (Lead a t) n = tt
-binds_up i j h (Begin a) n = tt
-binds_up i j h (Chunk a k m) n = tt
-binds_up i j h (ChunkEnd a k m) n = tt
-binds_up i j h (Want e k) n = tt
-binds_up i j h (Down a) n = tt
-binds_up i j h (Stop a) n = tt
-binds_up i j h (AskStop a) n = tt
-binds_up i j h AskBack n = tt
+binds_up i j h message n = tt
 
 all_free : (r : Replica) → IsSettled r → (m : Message) → Free r m
 all_free (Gone i) s m = tt

@@ -11,7 +11,7 @@ use Rattle.pair_machine.specs.Lengths.{ChunkBound, ConsumerBound, EndBound, IsWi
 use Rattle.pair_machine.specs.Links.{AreOnTheirLinks, Carries, HasNode, IsAcross, IsProducer, IsThere, link}
 use Rattle.pair_machine.specs.Lists.{Each}
 use Rattle.pair_machine.specs.Machine.{Buffer, State, after, as_egress, as_ingress, as_replica, at_node, buffer_in, buffer_of, changed, controller_does, controller_in, does, egress_in, ingress_in, mark_in, posted, replica_in, step}
-use Rattle.pair_machine.specs.Messages.{Ack, Act, AskBack, AskStop, AsksBack, AsksStop, Begin, Caught, Chunk, ChunkEnd, Dies, Down, Envelope, Lead, Makes, Message, Pulls, Refusal, Report, Serve, Stop, Takes, Tuple, Want, Works}
+use Rattle.pair_machine.specs.Messages.{Ack, Act, AsksBack, AsksStop, Begin, Chunk, ChunkEnd, Dies, Envelope, Lead, Makes, Message, Pulls, Refusal, Serve, Stop, Takes, Tuple, Want, Works}
 use Rattle.pair_machine.specs.Numbers.{Consumer, Controller, ControllerNode, EgressNode, Gathering, Gone, Ingress, IngressNode, Move, MoveNumbers, Node, Partition, Producer, Replica, ReplicaNode, Running, RunningNumbers, in_edge, is_which, other, out_edge, replica_at}
 use Rattle.pair_machine.specs.Producers.{Due, acked_to, due, leading, rewound, sends_due, sent_on, to_producers, wanted}
 use Rattle.pair_machine.specs.Replicas.{caught_up, contains, inc_of, insert_in, made_by, moves_or_sends, replica_does, replica_takes, replica_works, reports, run_up, sends_or_reports, size, which_of}
@@ -176,11 +176,7 @@ module _ (f : Flow) (ok : IsFlow f) where
     takes_bound from (Want e n) (Gone i) h c = (tt, tt)
     takes_bound from (Want e n) (Running x) h c = ((c.0, wanted_bound x.producer e.to (which_of from) n c.1, c.2), tt)
     takes_bound from (Want e n) (Gathering g) h c = (c, tt)
-    takes_bound from (Report i e n) r h c = (c, tt)
-    takes_bound from (Caught i) r h c = (c, tt)
-    takes_bound from (Down i) r h c = (c, tt)
-    takes_bound from (AskStop i) r h c = (c, tt)
-    takes_bound from AskBack r h c = (c, tt)
+    takes_bound from message r h c = (c, tt)
 
     abbrev BoundIfOk : Result (Replica × List Envelope) Refusal → Type 0
     BoundIfOk (Ok d) = BoundDone d
@@ -215,11 +211,7 @@ module _ (f : Flow) (ok : IsFlow f) where
     abbrev ActBound : Act → Replica → Type 0
     ActBound (Takes from m) r = TakenBound p m
     ActBound (Pulls q) r = (x : RunningNumbers) → r ≡ Running x → x.consumer.marks q + 1 ≤ f.length (in_edge p q)
-    ActBound Works r = Unit {0}
-    ActBound Makes r = Unit {0}
-    ActBound Dies r = Unit {0}
-    ActBound AsksStop r = Unit {0}
-    ActBound AsksBack r = Unit {0}
+    ActBound act r = Unit {0}
 
     does_bound : (a : Act) (r : Replica) → ActBound a r → ReplicaBound f p r → BoundIfOk (replica_does f p w a r)
     does_bound (Takes from m) r h c = takes_bound from m r h c
@@ -246,18 +238,7 @@ module _ (f : Flow) (ok : IsFlow f) where
   ingress_takes_bound : (from : NodeId) (m : Message) (x : Ingress) → (x.makes ≤ f.makes) × ProducerBound x.producer → ((ingress_takes from m x).makes ≤ f.makes) × ProducerBound (ingress_takes from m x).producer
   ingress_takes_bound from (Ack e u) x c = (c.0, acked_bound x.producer e.to u c.1)
   ingress_takes_bound from (Want e n) x c = (c.0, wanted_bound x.producer e.to (which_of from) n c.1)
-  ingress_takes_bound from (Tuple e n) x c = c
-  ingress_takes_bound from (Report i e n) x c = c
-  ingress_takes_bound from (Lead i t) x c = c
-  ingress_takes_bound from (Serve i t) x c = c
-  ingress_takes_bound from (Begin i) x c = c
-  ingress_takes_bound from (Chunk i n m) x c = c
-  ingress_takes_bound from (ChunkEnd i n m) x c = c
-  ingress_takes_bound from (Caught i) x c = c
-  ingress_takes_bound from (Down i) x c = c
-  ingress_takes_bound from (Stop i) x c = c
-  ingress_takes_bound from (AskStop i) x c = c
-  ingress_takes_bound from AskBack x c = c
+  ingress_takes_bound from message x c = c
 
   ingress_sends_bound : (x : Ingress) (d : Option Due) → IsDue (made_by f ingress_partition x.makes) x.producer (f.targets 0) d → (x.makes ≤ f.makes) × ProducerBound x.producer → IngressBoundOk (ingress_sends f x d)
   ingress_sends_bound x None h c = tt
@@ -269,10 +250,7 @@ module _ (f : Flow) (ok : IsFlow f) where
   ingress_bound (Takes from m) x c = (ingress_takes_bound from m x c, tt)
   ingress_bound Works x c = ingress_sends_bound x (due f ingress_partition (made_by f ingress_partition x.makes) x.producer) (is_due f ingress_partition (made_by f ingress_partition x.makes) x.producer) c
   ingress_bound Makes x c = if_elim IngressBoundOk (nat_lt x.makes f.makes) _ _ (λ e. let l = ltb-true x.makes f.makes e in ((omega arith, c.1), tt)) (λ e. tt)
-  ingress_bound Dies x c = tt
-  ingress_bound AsksStop x c = tt
-  ingress_bound AsksBack x c = tt
-  ingress_bound (Pulls q) x c = tt
+  ingress_bound act x c = tt
 
   abbrev EgressBoundOk : Result (Consumer × List Envelope) Refusal → Type 0
   EgressBoundOk (Ok d) = ConsumerBound f (egress_partition f) d.0 × EnvelopesMeet (MessageBound f) node.Egress d.1
@@ -283,19 +261,7 @@ module _ (f : Flow) (ok : IsFlow f) where
 
   egress_takes_bound : (m : Message) (x : Consumer) → EgressMessage m → ConsumerBound f (egress_partition f) x → ConsumerBound f (egress_partition f) (egress_takes m x)
   egress_takes_bound (Tuple e n) x h c = offered_bound (egress_partition f) (omega arith) (omega arith) x e.from n h.1 c
-  egress_takes_bound (Ack e n) x h c = c
-  egress_takes_bound (Want e n) x h c = c
-  egress_takes_bound (Report i e n) x h c = c
-  egress_takes_bound (Lead i t) x h c = c
-  egress_takes_bound (Serve i t) x h c = c
-  egress_takes_bound (Begin i) x h c = c
-  egress_takes_bound (Chunk i n m) x h c = c
-  egress_takes_bound (ChunkEnd i n m) x h c = c
-  egress_takes_bound (Caught i) x h c = c
-  egress_takes_bound (Down i) x h c = c
-  egress_takes_bound (Stop i) x h c = c
-  egress_takes_bound (AskStop i) x h c = c
-  egress_takes_bound AskBack x h c = c
+  egress_takes_bound message x h c = c
 
   egress_tells_bound : (x : Consumer) (o : Option ℕ) → ConsumerBound f (egress_partition f) x → EgressBoundOk (egress_tells f x o)
   egress_tells_bound x None c = tt
@@ -307,11 +273,7 @@ module _ (f : Flow) (ok : IsFlow f) where
   abbrev EgressAct : Act → Consumer → Type 0
   EgressAct (Takes from m) x = EgressMessage m
   EgressAct (Pulls q) x = x.marks q + 1 ≤ f.length (in_edge (egress_partition f) q)
-  EgressAct Works x = Unit {0}
-  EgressAct Makes x = Unit {0}
-  EgressAct Dies x = Unit {0}
-  EgressAct AsksStop x = Unit {0}
-  EgressAct AsksBack x = Unit {0}
+  EgressAct act x = Unit {0}
 
   egress_bound : (a : Act) (x : Consumer) → EgressAct a x → ConsumerBound f (egress_partition f) x → EgressBoundOk (egress_does f a x)
   egress_bound (Takes from m) x h c = (egress_takes_bound m x h c, tt)
@@ -386,17 +348,7 @@ module _ (f : Flow) (ok : IsFlow f) where
         let same = ap f.length (edge_as e (t - 1) e.from q stage refl h.1.1) in (l.0, omega (arith, l.1))
     replica_message t q w from (Chunk i n m) h l = replica_chunk t q w from n m h l
     replica_message t q w from (ChunkEnd i n m) h l = replica_end t q w from m h l
-    replica_message t q w from (Ack e u) h l = tt
-    replica_message t q w from (Want e n) h l = tt
-    replica_message t q w from (Report i e n) h l = tt
-    replica_message t q w from (Lead i n) h l = tt
-    replica_message t q w from (Serve i n) h l = tt
-    replica_message t q w from (Begin i) h l = tt
-    replica_message t q w from (Stop i) h l = tt
-    replica_message t q w from (Caught i) h l = tt
-    replica_message t q w from (Down i) h l = tt
-    replica_message t q w from (AskStop i) h l = tt
-    replica_message t q w from AskBack h l = tt
+    replica_message t q w from message h l = tt
 
     across_egress : (from : NodeId) → IsAcross from node.Egress → ⊥
     across_egress node.Ingress h = h
@@ -410,35 +362,17 @@ module _ (f : Flow) (ok : IsFlow f) where
         let same = ap f.length (edge_as e (f.stages + 1 - 1) e.from 0 stage refl h.1.1) in (l.0, omega (arith, l.1))
     egress_message from (Chunk i n m) h l = absurd (across_egress from h)
     egress_message from (ChunkEnd i n m) h l = absurd (across_egress from h)
-    egress_message from (Ack e u) h l = tt
-    egress_message from (Want e n) h l = tt
-    egress_message from (Report i e n) h l = tt
-    egress_message from (Lead i n) h l = tt
-    egress_message from (Serve i n) h l = tt
-    egress_message from (Begin i) h l = tt
-    egress_message from (Stop i) h l = tt
-    egress_message from (Caught i) h l = tt
-    egress_message from (Down i) h l = tt
-    egress_message from (AskStop i) h l = tt
-    egress_message from AskBack h l = tt
+    egress_message from message h l = tt
 
     replica_was_given : (t q : ℕ) (w : Which) (h : 1 ≤ t) (h_after : t ≤ f.stages) (few : q < f.sources (t + 1)) (a : Act) → WasSent f s (node.Replica t q w) a → ActBound (record { stage = t; part = q }) w h h_after few a (replica_in (s.nodes (node.Replica t q w)))
     replica_was_given t q w h h_after few (Takes from m) c = let l = link from (node.Replica t q w) in replica_message t q w from m (each_at (Carries f l) m (s.sent l) c (all l)) (each_at (MessageBound f l) m (s.sent l) c (old.sent l))
     replica_was_given t q w h h_after few (Pulls i) c = replica_pulled t q w i (replica_in (s.nodes (node.Replica t q w))) c c.marks
-    replica_was_given t q w h h_after few Works c = tt
-    replica_was_given t q w h h_after few Makes c = tt
-    replica_was_given t q w h h_after few Dies c = tt
-    replica_was_given t q w h h_after few AsksStop c = tt
-    replica_was_given t q w h h_after few AsksBack c = tt
+    replica_was_given t q w h h_after few act c = tt
 
     egress_act : (a : Act) → WasSent f s node.Egress a → EgressAct a (egress_in (s.nodes node.Egress))
     egress_act (Takes from m) c = let l = link from node.Egress in egress_message from m (each_at (Carries f l) m (s.sent l) c (all l)) (each_at (MessageBound f l) m (s.sent l) c (old.sent l))
     egress_act (Pulls i) c = egress_pulled i (egress_in (s.nodes node.Egress)) c c.marks
-    egress_act Works c = tt
-    egress_act Makes c = tt
-    egress_act Dies c = tt
-    egress_act AsksStop c = tt
-    egress_act AsksBack c = tt
+    egress_act act c = tt
 
     bound_by : (n : NodeId) (x : Node) (out : List Envelope) → NodeBound f n x → EnvelopesMeet (MessageBound f) n out → IsWithinLengths f (record { nodes = changed n x s.nodes; sent = posted n out s.sent })
     bound_by n x out at h = framed (NodeBound f) (NodeBound f) (MessageBound f) (MessageBound f) s n x out (λ m y z. z) (λ l m z. z) old at h
@@ -465,19 +399,7 @@ module _ (f : Flow) (ok : IsFlow f) where
 
     ruled : (t q : ℕ) (to : NodeId) (m : Message) → Carries f (link (node.Control t q) to) m → MessageBound f (link (node.Control t q) to) m
     ruled t q to (Tuple e n) h = absurd h.0
-    ruled t q to (Chunk i n m) h = tt
-    ruled t q to (ChunkEnd i n m) h = tt
-    ruled t q to (Ack e u) h = tt
-    ruled t q to (Want e n) h = tt
-    ruled t q to (Report i e n) h = tt
-    ruled t q to (Lead i n) h = tt
-    ruled t q to (Serve i n) h = tt
-    ruled t q to (Begin i) h = tt
-    ruled t q to (Stop i) h = tt
-    ruled t q to (Caught i) h = tt
-    ruled t q to (Down i) h = tt
-    ruled t q to (AskStop i) h = tt
-    ruled t q to AskBack h = tt
+    ruled t q to message h = tt
 
     controller_bounded : (t q : ℕ) (a : Act) (c : Controller) → 1 ≤ t → t ≤ f.stages → HoldsOnOk (IsWithinLengths f) (after (node.Control t q) s (controller_does f (record { stage = t; part = q }) a c))
     controller_bounded t q (Takes from m) c h h_after =
@@ -485,12 +407,7 @@ module _ (f : Flow) (ok : IsFlow f) where
         bound_by (node.Control t q) (ControllerNode d.0) d.1 tt
         (each_map (λ (l : Envelope). Carries f (link (node.Control t q) l.to) l.message) (λ (l : Envelope). MessageBound f (link (node.Control t q) l.to) l.message) (λ l. ruled t q l.to l.message) d.1
         (controller_fit f ok (record { stage = t; part = q }) h h_after (which_of from) m c))
-    controller_bounded t q Works c h h_after = tt
-    controller_bounded t q Makes c h h_after = tt
-    controller_bounded t q Dies c h h_after = tt
-    controller_bounded t q AsksStop c h h_after = tt
-    controller_bounded t q AsksBack c h h_after = tt
-    controller_bounded t q (Pulls i) c h h_after = tt
+    controller_bounded t q act c h h_after = tt
 
     node_bound : (n : NodeId) (a : Act) → HasNode f n → WasSent f s n a → HoldsOnOk (IsWithinLengths f) (after n s (does f n a (s.nodes n)))
     node_bound node.Ingress a h c = ingress_bounded (ingress_does f a (ingress_in (s.nodes node.Ingress))) (ingress_bound a (ingress_in (s.nodes node.Ingress)) (old.nodes node.Ingress))

@@ -10,7 +10,7 @@ use Rattle.pair_machine.specs.Controllers.{acks, acks_from, backs, controller_he
 use Rattle.pair_machine.specs.Flow.{Flow, IsFlow}
 use Rattle.pair_machine.specs.Links.{AreOnTheirLinks, Carries, HasStage, IsProducer, IsThere, link}
 use Rattle.pair_machine.specs.Machine.{State, after, as_egress, as_ingress, as_replica, at_node, changed, controller_does, controller_in, does, egress_in, ingress_in, posted, replica_in, step}
-use Rattle.pair_machine.specs.Messages.{Ack, Act, AskBack, AskStop, AsksBack, AsksStop, Begin, Caught, Chunk, ChunkEnd, Dies, Down, Envelope, Lead, Makes, Message, Pulls, Refusal, Report, Serve, Stop, Takes, Tuple, Want, Works, envelope}
+use Rattle.pair_machine.specs.Messages.{Ack, Act, AskBack, AskStop, AsksBack, AsksStop, Caught, Chunk, ChunkEnd, Dies, Down, Envelope, Makes, Message, Pulls, Refusal, Report, Takes, Tuple, Want, Works, envelope}
 use Rattle.pair_machine.specs.Numbers.{Consumer, Controller, ControllerNode, EgressNode, Gathering, Gone, Ingress, IngressNode, Move, MoveNumbers, Node, Partition, Producer, Replica, ReplicaNode, Running, RunningNumbers, control_at, in_edge, other, out_edge, replica_at}
 use Rattle.pair_machine.specs.Producers.{Due, due, sends_due, to_producers}
 use Rattle.pair_machine.specs.Replicas.{chunk_wants, made_by, moves_or_sends, replica_does, replica_takes, replica_works, reports, sends_or_reports, size, which_of}
@@ -73,18 +73,7 @@ module _ (f : Flow) (ok : IsFlow f) where
     takes_fit from (ChunkEnd i n m) (Gone j) = tt
     takes_fit from (ChunkEnd i n m) (Running x) = tt
     takes_fit from (ChunkEnd i n m) (Gathering g) = if_elim (λ (d : Replica × List Envelope). Fit me d.1) ((i == g.inc) && (n == g.taken)) _ _ (λ e. ((refl, refl), tt)) (λ e. tt)
-    takes_fit from (Tuple e n) r = tt
-    takes_fit from (Ack e n) r = tt
-    takes_fit from (Lead i t) r = tt
-    takes_fit from (Serve i t) r = tt
-    takes_fit from (Begin i) r = tt
-    takes_fit from (Stop i) r = tt
-    takes_fit from (Want e n) r = tt
-    takes_fit from (Report i e n) r = tt
-    takes_fit from (Caught i) r = tt
-    takes_fit from (Down i) r = tt
-    takes_fit from (AskStop i) r = tt
-    takes_fit from AskBack r = tt
+    takes_fit from message r = tt
 
     reports_fit : (x : RunningNumbers) (q : Option ℕ) → FoundIn (λ q. nat_lt (x.consumer.told q) (x.consumer.marks q)) (f.sources p.stage) q → FitIfOk (reports f p x q)
     reports_fit x None h = tt
@@ -136,15 +125,7 @@ module _ (f : Flow) (ok : IsFlow f) where
     controller_hears_fit w AskBack c = tt
     controller_hears_fit w (Caught i) c = if_elim (λ (d : Controller × List Envelope). Fit ctl d.1) ((i == (c.watched w).inc) && is_catching (c.watched w).status) _ _
         (λ t. if_elim (λ (d : Controller × List Envelope). Fit ctl d.1) (is_none c.leader) _ _ (λ e. ((refl, refl), tt)) (λ e. tt)) (λ t. tt)
-    controller_hears_fit w (Tuple e n) c = tt
-    controller_hears_fit w (Ack e n) c = tt
-    controller_hears_fit w (Lead i t) c = tt
-    controller_hears_fit w (Serve i t) c = tt
-    controller_hears_fit w (Begin i) c = tt
-    controller_hears_fit w (Chunk i n m) c = tt
-    controller_hears_fit w (ChunkEnd i n m) c = tt
-    controller_hears_fit w (Want e n) c = tt
-    controller_hears_fit w (Stop i) c = tt
+    controller_hears_fit w message c = tt
 
     backs_fit : (w : Which) (c : Controller) → Fit ctl (backs p w c).1
     backs_fit w c = if_elim (λ (d : Controller × List Envelope). Fit ctl d.1) ((c.watched w).back && (is_down (c.watched w).status && is_up (c.watched (other w)).status)) _ _ (λ t. ((refl, refl), ((refl, refl), tt))) (λ t. tt)
@@ -185,10 +166,7 @@ module _ (f : Flow) (ok : IsFlow f) where
   ingress_fit (Takes from m) x = tt
   ingress_fit Works x = ingress_sends_fit x (made_by f ingress_partition x.makes) (due f ingress_partition (made_by f ingress_partition x.makes) x.producer) (is_due f ingress_partition (made_by f ingress_partition x.makes) x.producer)
   ingress_fit Makes x = if_elim IngressFits (nat_lt x.makes f.makes) _ _ (λ e. tt) (λ e. tt)
-  ingress_fit Dies x = tt
-  ingress_fit AsksStop x = tt
-  ingress_fit AsksBack x = tt
-  ingress_fit (Pulls q) x = tt
+  ingress_fit act x = tt
 
   abbrev EgressFits : Result (Consumer × List Envelope) Refusal → Type 0
   EgressFits (Ok d) = Fit node.Egress d.1
@@ -202,11 +180,7 @@ module _ (f : Flow) (ok : IsFlow f) where
   egress_fit (Takes from m) x = tt
   egress_fit Works x = if_elim EgressFits (is_ready f (egress_partition f) x) _ _ (λ e. tt)
       (λ e. egress_tells_fit x (untold f (egress_partition f) x) (first_found (f.sources (f.stages + 1)) (λ q. nat_lt (x.told q) (x.marks q))))
-  egress_fit Makes x = tt
-  egress_fit Dies x = tt
-  egress_fit AsksStop x = tt
-  egress_fit AsksBack x = tt
-  egress_fit (Pulls q) x = tt
+  egress_fit act x = tt
 
   -- a step
   abbrev put : NodeId → State → Node → List Envelope → State
@@ -231,12 +205,7 @@ module _ (f : Flow) (ok : IsFlow f) where
   controller_carried s t q (Takes from m) c h h_after old =
       let d = controller_takes (f.sources t) (record { stage = t; part = q }) (which_of from) m c in
       carried_by s (node.Control t q) (ControllerNode d.0) d.1 old (controller_fit (record { stage = t; part = q }) h h_after (which_of from) m c)
-  controller_carried s t q Works c h h_after old = tt
-  controller_carried s t q Makes c h h_after old = tt
-  controller_carried s t q Dies c h h_after old = tt
-  controller_carried s t q AsksStop c h h_after old = tt
-  controller_carried s t q AsksBack c h h_after old = tt
-  controller_carried s t q (Pulls i) c h h_after old = tt
+  controller_carried s t q act c h h_after old = tt
 
   node_carried : (s : State) (n : NodeId) (a : Act) → HasStage f n → AreOnTheirLinks f s → HoldsOnOk (AreOnTheirLinks f) (after n s (does f n a (s.nodes n)))
   node_carried s node.Ingress a h old = ingress_carried s (ingress_does f a (ingress_in (s.nodes node.Ingress))) old (ingress_fit a (ingress_in (s.nodes node.Ingress)))

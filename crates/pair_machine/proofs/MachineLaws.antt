@@ -16,7 +16,7 @@ use Rattle.pair_machine.specs.Links.{Carries, HasNode, IsThere, link}
 use Rattle.pair_machine.specs.Lists.{Among, Each}
 use Rattle.pair_machine.specs.MachineLaws.{GivesWhatIsAsked}
 use Rattle.pair_machine.specs.Machine.{Leads, State, opening, replica_in, step}
-use Rattle.pair_machine.specs.Messages.{Ack, Act, AskBack, AskStop, AsksBack, AsksStop, Begin, Caught, Chunk, ChunkEnd, Dies, Down, Lead, Makes, Message, Pulls, Report, Serve, Stop, Takes, Tuple, Want, Works}
+use Rattle.pair_machine.specs.Messages.{Act, Chunk, ChunkEnd, Message, Takes}
 use Rattle.pair_machine.specs.Numbers.{Gathering, Gone, Partition, Replica, Running, other}
 use Rattle.pair_machine.specs.Pairs.{IsOneMove, IsPairSound, Side, in_chunk, in_end, in_gatherer, side_of}
 use Rattle.pair_machine.specs.Sound.{IsOwed, IsServed, IsSound}
@@ -52,18 +52,7 @@ same_move f p (Gone i) b a e h m c = tt
 same_move f p (Running x) b a e h m c = tt
 same_move f p (Gathering g) b a e h (Chunk i k m) c = λ is m_other at. h.same i m m_other (in_chunk k c) (in_gatherer (rw e (sym is, at)))
 same_move f p (Gathering g) b a e h (ChunkEnd i k m) c = ((λ is m_other at. h.same i m m_other (in_end k c) (in_gatherer (rw e (sym is, at)))), h.whole i k m c)
-same_move f p (Gathering g) b a e h (Tuple x n) c = tt
-same_move f p (Gathering g) b a e h (Ack x n) c = tt
-same_move f p (Gathering g) b a e h (Want x n) c = tt
-same_move f p (Gathering g) b a e h (Report i x n) c = tt
-same_move f p (Gathering g) b a e h (Lead i n) c = tt
-same_move f p (Gathering g) b a e h (Serve i n) c = tt
-same_move f p (Gathering g) b a e h (Begin i) c = tt
-same_move f p (Gathering g) b a e h (Stop i) c = tt
-same_move f p (Gathering g) b a e h (Caught i) c = tt
-same_move f p (Gathering g) b a e h (Down i) c = tt
-same_move f p (Gathering g) b a e h (AskStop i) c = tt
-same_move f p (Gathering g) b a e h AskBack c = tt
+same_move f p (Gathering g) b a e h message c = tt
 
 pair_moved : (f : Flow) (s : State) (p : Partition) (w : Which) → IsPairSound f p (side_of s p A) (side_of s p B) → IsOneMove f p (side_of s p (other w)) (side_of s p w)
 pair_moved f s p A h = h.second.moves
@@ -72,18 +61,7 @@ pair_moved f s p B h = h.first.moves
 partly : (f : Flow) (s : State) (t q : ℕ) (w : Which) (from : NodeId) (m : Message) → Carries f (link from (node.Replica t q w)) m → Among m (s.sent (link from (node.Replica t q w))) → Partly (side_of s (record { stage = t; part = q }) (other w)) m
 partly f s t q w from (Chunk i k m) h c = across_heard s (Chunk i k m) t q w from h c
 partly f s t q w from (ChunkEnd i k m) h c = across_heard s (ChunkEnd i k m) t q w from h c
-partly f s t q w from (Tuple x n) h c = tt
-partly f s t q w from (Ack x n) h c = tt
-partly f s t q w from (Want x n) h c = tt
-partly f s t q w from (Report i x n) h c = tt
-partly f s t q w from (Lead i n) h c = tt
-partly f s t q w from (Serve i n) h c = tt
-partly f s t q w from (Begin i) h c = tt
-partly f s t q w from (Stop i) h c = tt
-partly f s t q w from (Caught i) h c = tt
-partly f s t q w from (Down i) h c = tt
-partly f s t q w from (AskStop i) h c = tt
-partly f s t q w from AskBack h c = tt
+partly f s t q w from message h c = tt
 
 move_at : (f : Flow) (s : State) (n from : NodeId) (m : Message) → HasNode f n → IsSound f s → Carries f (link from n) m → Among m (s.sent (link from n)) → IsOfSameMoveAt f n (s.nodes n) m
 move_at f s node.Ingress from m h sound car c = tt
@@ -107,12 +85,7 @@ taken_asks f s n from m h sound c =
 
 act_asks : (f : Flow) (s : State) (n : NodeId) (a : Act) → HasNode f n → IsSound f s → WasSent f s n a → ActAsks f n (s.nodes n) a
 act_asks f s n (Takes from m) h sound c = taken_asks f s n from m h sound c
-act_asks f s n Works h sound c = tt
-act_asks f s n Makes h sound c = tt
-act_asks f s n Dies h sound c = tt
-act_asks f s n AsksStop h sound c = tt
-act_asks f s n AsksBack h sound c = tt
-act_asks f s n (Pulls q) h sound c = tt
+act_asks f s n act h sound c = tt
 
 pub sound_asks : (f : Flow) (s : State) (n : NodeId) (a : Act) → HasNode f n → IsSound f s → WasSent f s n a → Asks f n (s.nodes n) a
 sound_asks f s n a h sound c = (sound.bound.nodes n, act_asks f s n a h sound c)

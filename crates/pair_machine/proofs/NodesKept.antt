@@ -16,7 +16,7 @@ use Rattle.pair_machine.specs.Flow.{Flow, IsFlow}
 use Rattle.pair_machine.specs.Links.{AreBetweenNodes, HasNode, IsThere, link}
 use Rattle.pair_machine.specs.Lists.{Each}
 use Rattle.pair_machine.specs.Machine.{State, after, as_egress, as_ingress, as_replica, at_node, changed, posted, controller_does, controller_in, does, egress_in, ingress_in, replica_in, step}
-use Rattle.pair_machine.specs.Messages.{Ack, Act, AskBack, AskStop, AsksBack, AsksStop, Begin, Caught, Chunk, ChunkEnd, Dies, Down, Envelope, Lead, Makes, Message, Pulls, Refusal, Report, Serve, Stop, Takes, Tuple, Want, Works, envelope}
+use Rattle.pair_machine.specs.Messages.{Ack, Act, AskBack, AskStop, AsksBack, AsksStop, Caught, Chunk, ChunkEnd, Dies, Down, Envelope, Makes, Message, Pulls, Refusal, Report, Takes, Tuple, Want, Works, envelope}
 use Rattle.pair_machine.specs.Numbers.{Consumer, Controller, ControllerNode, EgressNode, Gathering, Gone, Ingress, IngressNode, Move, MoveNumbers, Node, Partition, Producer, Replica, ReplicaNode, Running, RunningNumbers, in_edge, other, out_edge, replica_at}
 use Rattle.pair_machine.specs.Producers.{Due, due, sends_due, to_producers}
 use Rattle.pair_machine.specs.Replicas.{chunk_wants, made_by, moves_or_sends, replica_does, replica_takes, replica_works, reports, sends_or_reports, size, which_of}
@@ -73,18 +73,7 @@ module _ (f : Flow) (ok : IsFlow f) where
     takes_there from (ChunkEnd i n m) (Gone j) = tt
     takes_there from (ChunkEnd i n m) (Running x) = tt
     takes_there from (ChunkEnd i n m) (Gathering g) = if_elim (λ (d : Replica × List Envelope). AllThere d.1) ((i == g.inc) && (n == g.taken)) _ _ (λ e. (there, tt)) (λ e. tt)
-    takes_there from (Tuple e n) r = tt
-    takes_there from (Ack e n) r = tt
-    takes_there from (Lead i t) r = tt
-    takes_there from (Serve i t) r = tt
-    takes_there from (Begin i) r = tt
-    takes_there from (Stop i) r = tt
-    takes_there from (Want e n) r = tt
-    takes_there from (Report i e n) r = tt
-    takes_there from (Caught i) r = tt
-    takes_there from (Down i) r = tt
-    takes_there from (AskStop i) r = tt
-    takes_there from AskBack r = tt
+    takes_there from message r = tt
 
     reports_there : (x : RunningNumbers) (o : Option ℕ) → ThereOnOk (reports f p x o)
     reports_there x None = tt
@@ -132,15 +121,7 @@ module _ (f : Flow) (ok : IsFlow f) where
     hears_there v AskBack c = tt
     hears_there v (Caught i) c = if_elim (λ (d : Controller × List Envelope). AllThere d.1) ((i == (c.watched v).inc) && is_catching (c.watched v).status) _ _
         (λ t. if_elim (λ (d : Controller × List Envelope). AllThere d.1) (is_none c.leader) _ _ (λ e. (there, tt)) (λ e. tt)) (λ t. tt)
-    hears_there v (Tuple e n) c = tt
-    hears_there v (Ack e n) c = tt
-    hears_there v (Lead i t) c = tt
-    hears_there v (Serve i t) c = tt
-    hears_there v (Begin i) c = tt
-    hears_there v (Chunk i n m) c = tt
-    hears_there v (ChunkEnd i n m) c = tt
-    hears_there v (Want e n) c = tt
-    hears_there v (Stop i) c = tt
+    hears_there v message c = tt
 
     backs_there : (v : Which) (c : Controller) → AllThere (backs p v c).1
     backs_there v c = if_elim (λ (d : Controller × List Envelope). AllThere d.1) ((c.watched v).back && (is_down (c.watched v).status && is_up (c.watched (other v)).status)) _ _ (λ t. (there, (there, tt))) (λ t. tt)
@@ -178,10 +159,7 @@ module _ (f : Flow) (ok : IsFlow f) where
   ingress_there Works x =
       ingress_sends_there x (made_by f ingress_partition x.makes) (due f ingress_partition (made_by f ingress_partition x.makes) x.producer) (is_due f ingress_partition (made_by f ingress_partition x.makes) x.producer)
   ingress_there Makes x = if_elim (ThereOnOk {X = Ingress}) (nat_lt x.makes f.makes) _ _ (λ e. tt) (λ e. tt)
-  ingress_there Dies x = tt
-  ingress_there AsksStop x = tt
-  ingress_there AsksBack x = tt
-  ingress_there (Pulls q) x = tt
+  ingress_there act x = tt
 
   egress_tells_there : (x : Consumer) (o : Option ℕ) → FoundIn (λ q. nat_lt (x.told q) (x.marks q)) (f.sources (f.stages + 1)) o → ThereOnOk (egress_tells f x o)
   egress_tells_there x None h = tt
@@ -191,11 +169,7 @@ module _ (f : Flow) (ok : IsFlow f) where
   egress_there (Takes from m) x = tt
   egress_there Works x = if_elim (ThereOnOk {X = Consumer}) (is_ready f (egress_partition f) x) _ _ (λ e. tt)
       (λ e. egress_tells_there x (untold f (egress_partition f) x) (first_found (f.sources (f.stages + 1)) (λ q. nat_lt (x.told q) (x.marks q))))
-  egress_there Makes x = tt
-  egress_there Dies x = tt
-  egress_there AsksStop x = tt
-  egress_there AsksBack x = tt
-  egress_there (Pulls q) x = tt
+  egress_there act x = tt
 
   -- a step
   module _ (s : State) (n : NodeId) (at : HasNode f n) (old : AreBetweenNodes f s) where
@@ -223,12 +197,7 @@ module _ (f : Flow) (ok : IsFlow f) where
     controller_sends : (p : Partition) → 1 ≤ p.stage → p.stage ≤ f.stages → p.part < f.sources (p.stage + 1) → (a : Act) (c : Controller) → HoldsOnOk (AreBetweenNodes f) (after n s (controller_does f p a c))
     controller_sends p some within few (Takes from m) c =
         let d = controller_takes (f.sources p.stage) p (which_of from) m c in put_there (ControllerNode d.0) d.1 (controller_there p A some within few (which_of from) m c)
-    controller_sends p some within few Works c = tt
-    controller_sends p some within few Makes c = tt
-    controller_sends p some within few Dies c = tt
-    controller_sends p some within few AsksStop c = tt
-    controller_sends p some within few AsksBack c = tt
-    controller_sends p some within few (Pulls q) c = tt
+    controller_sends p some within few act c = tt
 
   node_sends : (s : State) (n : NodeId) (a : Act) → HasNode f n → AreBetweenNodes f s → HoldsOnOk (AreBetweenNodes f) (after n s (does f n a (s.nodes n)))
   node_sends s node.Ingress a h old = ingress_sends_on s node.Ingress h old (ingress_does f a (ingress_in (s.nodes node.Ingress))) (ingress_there a (ingress_in (s.nodes node.Ingress)))

@@ -83,12 +83,7 @@ Heard a b AskBack = Unit {0}
 
 abbrev pub HeardIn : Side → Side → Act → Type 0
 HeardIn a b (Takes from m) = Heard a b m
-HeardIn a b Works = Unit {0}
-HeardIn a b Makes = Unit {0}
-HeardIn a b Dies = Unit {0}
-HeardIn a b AsksStop = Unit {0}
-HeardIn a b AsksBack = Unit {0}
-HeardIn a b (Pulls q) = Unit {0}
+HeardIn a b act = Unit {0}
 
 -- what the orders for a replica allow
 abbrev pub Permits : Bool → Bool → Act → Type 0
@@ -212,11 +207,7 @@ module _ (f : Flow) (p : Partition) (w : Which) (ka sa kb sb : Bool) (h : Watche
   takes_done s from (Chunk i k m) r c = chunk_done s i k m r c
   takes_done s from (ChunkEnd i k m) r c = end_done i k m r c
   takes_done s from (Want e k) r c = want_done e.to (which_of from) k r
-  takes_done s from (Report i e k) r c = still r
-  takes_done s from (Caught i) r c = still r
-  takes_done s from (Down i) r c = still r
-  takes_done s from (AskStop i) r c = still r
-  takes_done s from AskBack r c = still r
+  takes_done s from message r c = still r
 
   reports_done : (x : RunningNumbers) (q : Option ℕ) → DoneIfOk f p w ka sa kb sb (side (Running x) h up down across) b (reports f p x q)
   reports_done x None = tt

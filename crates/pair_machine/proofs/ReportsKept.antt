@@ -1,7 +1,7 @@
 -- Each turn keeps what reports say of marks.
 use Rattle.std.proofs.Common.{◌≡◌, ◌≤◌, ℕ, Bool, arith}
 use Rattle.pair_machine.specs.Flow.{Flow}
-use Rattle.pair_machine.specs.Messages.{Ack, AskBack, AskStop, Begin, Caught, Chunk, ChunkEnd, Down, Lead, Message, Report, Serve, Stop, Tuple, Want}
+use Rattle.pair_machine.specs.Messages.{AskBack, AskStop, Caught, Message, Report}
 use Rattle.pair_machine.specs.Numbers.{Partition, Running}
 use Rattle.pair_machine.specs.Pairs.{AreIncarnationsInOrder, AreReportsTrue, DoesNotName, OfReport, ReportFits, Side}
 use Rattle.pair_machine.specs.Replicas.{folded}
@@ -11,36 +11,12 @@ use Rattle.pair_machine.proofs.Lists.{each_more, each_map, each_all}
 
 pub report_more : (P Q : ℕ → EdgeId → ℕ → Type 0) → ((i : ℕ) (e : EdgeId) (k : ℕ) → P i e k → Q i e k) → (m : Message) → OfReport P m → OfReport Q m
 report_more P Q g (Report i e k) n = g i e k n
-report_more P Q g (Serve i t) n = tt
-report_more P Q g (Tuple e k) n = tt
-report_more P Q g (Ack e k) n = tt
-report_more P Q g (Lead a t) n = tt
-report_more P Q g (Begin a) n = tt
-report_more P Q g (Chunk a k m) n = tt
-report_more P Q g (ChunkEnd a k m) n = tt
-report_more P Q g (Caught a) n = tt
-report_more P Q g (Want e k) n = tt
-report_more P Q g (Down a) n = tt
-report_more P Q g (Stop a) n = tt
-report_more P Q g (AskStop a) n = tt
-report_more P Q g AskBack n = tt
+report_more P Q g message n = tt
 
 -- no Report that binds is of the present incarnation
 unbound : (i : ℕ) (P : EdgeId → ℕ → Type 0) (m : Message) → DoesNotName i m → OfReport (λ j e k. j ≡ i → P e k) m
 unbound i P (Report j e k) n = λ same. absurd (n same)
-unbound i P (Serve a t) n = tt
-unbound i P (Tuple e k) n = tt
-unbound i P (Ack e k) n = tt
-unbound i P (Lead a t) n = tt
-unbound i P (Begin a) n = tt
-unbound i P (Chunk a k m) n = tt
-unbound i P (ChunkEnd a k m) n = tt
-unbound i P (Caught a) n = tt
-unbound i P (Want e k) n = tt
-unbound i P (Down a) n = tt
-unbound i P (Stop a) n = tt
-unbound i P (AskStop a) n = tt
-unbound i P AskBack n = tt
+unbound i P message n = tt
 
 pub keep_reports : {f : Flow} {p : Partition} {kill stop : Bool} {a b a_after b_after : Side} → Turn f p kill stop a b a_after b_after → AreIncarnationsInOrder a b → AreReportsTrue a b → AreReportsTrue a_after b_after
 keep_reports (runs x t s h up down across b m) n k =

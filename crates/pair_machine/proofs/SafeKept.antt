@@ -7,7 +7,7 @@ use Rattle.pair_machine.proofs.Orders.{AreSafe, IsKept, IsOrdered, OfAskStop, Of
 use Rattle.pair_machine.specs.Controllers.{is_down}
 use Rattle.pair_machine.specs.Flow.{Flow}
 use Rattle.pair_machine.specs.Lists.{Among, Each}
-use Rattle.pair_machine.specs.Messages.{Ack, AskBack, AskStop, Begin, Caught, Chunk, ChunkEnd, Down, Lead, Message, Report, Serve, Stop, Tuple, Want}
+use Rattle.pair_machine.specs.Messages.{AskBack, AskStop, Begin, Caught, Down, Lead, Message, Report, Serve, Stop}
 use Rattle.pair_machine.specs.Numbers.{Partition, Watched}
 use Rattle.pair_machine.specs.Pairs.{AreIncarnationsInOrder, IsPairSound, NamesAtMost, Side}
 use Rattle.pair_machine.specs.Replicas.{inc_of}
@@ -19,35 +19,11 @@ use Rattle.pair_machine.proofs.Lists.{each_more, each_map, each_at}
 
 stop_more : (P Q : ℕ → Type 0) → ((i : ℕ) → P i → Q i) → (m : Message) → OfStop P m → OfStop Q m
 stop_more P Q g (Stop i) n = g i n
-stop_more P Q g (Serve i t) n = tt
-stop_more P Q g (Tuple e k) n = tt
-stop_more P Q g (Ack e k) n = tt
-stop_more P Q g (Report a e k) n = tt
-stop_more P Q g (Lead a t) n = tt
-stop_more P Q g (Begin a) n = tt
-stop_more P Q g (Chunk a k m) n = tt
-stop_more P Q g (ChunkEnd a k m) n = tt
-stop_more P Q g (Caught a) n = tt
-stop_more P Q g (Want e k) n = tt
-stop_more P Q g (Down a) n = tt
-stop_more P Q g (AskStop a) n = tt
-stop_more P Q g AskBack n = tt
+stop_more P Q g message n = tt
 
 named_stop : (n j : ℕ) → n < j → (m : Message) → NamesAtMost n m → OfStop (λ i. false ≡ false → i ≢ j) m
 named_stop n j l (Stop i) h = λ e inner. omega arith
-named_stop n j l (Serve i t) h = tt
-named_stop n j l (Tuple e k) h = tt
-named_stop n j l (Ack e k) h = tt
-named_stop n j l (Report a e k) h = tt
-named_stop n j l (Lead a t) h = tt
-named_stop n j l (Begin a) h = tt
-named_stop n j l (Chunk a k m) h = tt
-named_stop n j l (ChunkEnd a k m) h = tt
-named_stop n j l (Caught a) h = tt
-named_stop n j l (Want e k) h = tt
-named_stop n j l (Down a) h = tt
-named_stop n j l (AskStop a) h = tt
-named_stop n j l AskBack h = tt
+named_stop n j l message h = tt
 
 absurd_up : {X : Type 0} → status.Catching ≡ status.Up → X
 absurd_up e = cc

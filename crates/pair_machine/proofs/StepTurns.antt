@@ -1,5 +1,5 @@
 -- A step of the machine is some turns of each pair.
-use Rattle.std.proofs.Common.{◌≡◌, inl, inr, ◌<◌, ◌≤◌, ℕ, Bool, true, false, List, [], ◌∷◌, Option, None, Some, Result, Ok, Err, ◌-◌, ◌&&◌, refl, sym, subst, subst₂, zero, suc}
+use Rattle.std.proofs.Common.{◌≡◌, inl, inr, ◌<◌, ◌≤◌, ℕ, Bool, true, false, List, [], ◌∷◌, Option, None, Some, Result, Ok, Err, ◌&&◌, refl, sym, subst, subst₂, zero, suc}
 use Rattle.std.specs.Prelude.{◌==◌, nat_lt, nat_le}
 use Rattle.std.proofs.lemmas.Bool.{eqb-true, ltb-true, leb-true}
 use Rattle.tuple_edge.specs.declared.event.Event.TheVariants as event
@@ -146,10 +146,7 @@ replica_heard f s t q w from (Begin i) h c = down_heard s (Begin i) t q w from h
 replica_heard f s t q w from (Stop i) h c = down_heard s (Stop i) t q w from h c
 replica_heard f s t q w from (Chunk i k m) h c = across_heard s (Chunk i k m) t q w from h c
 replica_heard f s t q w from (ChunkEnd i k m) h c = across_heard s (ChunkEnd i k m) t q w from h c
-replica_heard f s t q w from (Caught i) h c = tt
-replica_heard f s t q w from (Down i) h c = tt
-replica_heard f s t q w from (AskStop i) h c = tt
-replica_heard f s t q w from AskBack h c = tt
+replica_heard f s t q w from message h c = tt
 
 controller_heard : (f : Flow) (o : Orders) (s : State) (t q : ℕ) (from : NodeId) (m : Message) → Carries f (link from (node.Control t q)) m → Among m (s.sent (link from (node.Control t q))) →
     HeardUp f (place t q) (o.kill (node.Replica t q A)) (o.stop (node.Replica t q A)) (o.kill (node.Replica t q B)) (o.stop (node.Replica t q B)) (λ w. replica_in (s.nodes (node.Replica t q w))) (λ w. s.sent (link (node.Replica t q w) (node.Control t q))) (λ w. s.sent (link (node.Replica t q w) (node.Replica t q (other w)))) (which_of from) m
@@ -195,12 +192,7 @@ WasSent f s n (Pulls q) = IsPulled f s n q
 
 heard_in : (f : Flow) (s : State) (t q : ℕ) (w : Which) (a : Act) → AreOnTheirLinks f s → WasSent f s (node.Replica t q w) a → HeardIn (side_of s (place t q) w) (side_of s (place t q) (other w)) a
 heard_in f s t q w (Takes from m) all c = replica_heard f s t q w from m (each_at (Carries f (link from (node.Replica t q w))) m (s.sent (link from (node.Replica t q w))) c (all (link from (node.Replica t q w)))) c
-heard_in f s t q w Works all c = tt
-heard_in f s t q w Makes all c = tt
-heard_in f s t q w Dies all c = tt
-heard_in f s t q w AsksStop all c = tt
-heard_in f s t q w AsksBack all c = tt
-heard_in f s t q w (Pulls k) all c = tt
+heard_in f s t q w act all c = tt
 
 controller_turn_goes : (f : Flow) (p : Partition) (o : Orders) (t q : ℕ) (s : State) (a : Act) → 1 ≤ t → AreOnTheirLinks f s → WasSent f s (node.Control t q) a → HoldsOnOk (Goes f p o s) (after (node.Control t q) s (controller_does f (place t q) a (controller_in (s.nodes (node.Control t q)))))
 controller_turn_goes f p o t q s (Takes from m) h all c =
@@ -208,12 +200,7 @@ controller_turn_goes f p o t q s (Takes from m) h all c =
     controller_goes f p o t q s (controller_takes (f.sources t) (place t q) (which_of from) m (controller_in (s.nodes (node.Control t q))))
     (controller_done f (place t q) (o.kill (node.Replica t q A)) (o.stop (node.Replica t q A)) (o.kill (node.Replica t q B)) (o.stop (node.Replica t q B)) (λ w. replica_in (s.nodes (node.Replica t q w))) (λ w. s.sent (link (node.Replica t q w) (node.Control t q))) (λ w. s.sent (link (node.Replica t q w) (node.Replica t q (other w)))) h (which_of from) m
     (controller_in (s.nodes (node.Control t q))) (λ w. s.sent (link (node.Control t q) (node.Replica t q w))) here)
-controller_turn_goes f p o t q s Works h all c = tt
-controller_turn_goes f p o t q s Makes h all c = tt
-controller_turn_goes f p o t q s Dies h all c = tt
-controller_turn_goes f p o t q s AsksStop h all c = tt
-controller_turn_goes f p o t q s AsksBack h all c = tt
-controller_turn_goes f p o t q s (Pulls k) h all c = tt
+controller_turn_goes f p o t q s act h all c = tt
 
 pub node_goes : (f : Flow) (p : Partition) (o : Orders) (n : NodeId) (s : State) (a : Act) → HasStage f n → AreOnTheirLinks f s → Permits (o.kill n) (o.stop n) a → WasSent f s n a → HoldsOnOk (Goes f p o s) (after n s (does f n a (s.nodes n)))
 node_goes f p o node.Ingress s a h all y c = ingress_goes f p o s (ingress_does f a (ingress_in (s.nodes node.Ingress)))
