@@ -1,7 +1,7 @@
 -- What a buffer holds of all that was produced on its edge, after each of its changes.
 use Rattle.std.proofs.Common.{ℕ, zero, suc, ◌≡◌, ◌+◌, ◌-◌, ◌<◌, ◌≤◌, Bool, true, false, List, [], ◌∷◌, ◌++◌, length, drop, max, refl, sym, ap, ◌∙◌, arith, length-append}
-use Rattle.std.specs.Prelude.{Option, None, nat_le, slice_get, if◌then◌else◌}
-use Rattle.std.proofs.lemmas.List.{append-nil, drop-append-le, drop-drop, drop_all}
+use Rattle.std.specs.Prelude.{None, nat_le, slice_get, if◌then◌else◌}
+use Rattle.std.proofs.lemmas.List.{drop-append-le, drop-drop, drop_all}
 use borrow.Author.Tests.{leb-true, leb-false}
 use Rattle.tuple_edge.specs.declared.item.Item.{Item}
 use Rattle.ack_buffer.specs.Buffer.{BufferView, StandsFor, item_at, produced_on, trimmed}

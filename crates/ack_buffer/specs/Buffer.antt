@@ -1,5 +1,6 @@
 -- What the buffer of an edge holds: the items numbered above low up to produced.
-use Rattle.std.specs.Prelude.{◌≡◌, ℕ, ◌+◌, ◌-◌, ◌<◌, ◌^◌, List, [], ◌∷◌, ◌++◌, length, Option, None, nat_le, if◌then◌else◌, slice_get, max, min, drop}
+use Rattle.std.specs.Prelude.{◌≡◌, ℕ, ◌+◌, ◌-◌, ◌<◌, List, [], ◌∷◌, ◌++◌, length, Option, None, nat_le, if◌then◌else◌, slice_get, max, min, drop}
+use Rattle.tuple_edge.specs.Limits.{number_limit}
 use Rattle.tuple_edge.specs.declared.item.Item.{Item}
 
 -- a buffer: the number up to which all is acknowledged, the number of the last item produced, the items between
@@ -13,8 +14,8 @@ pub record BufferView : Type 0 where
 -- so many items are those numbered above low up to produced, and both numbers are within their limit
 pub record IsNumbered (count low produced : ℕ) : Type 0 where
   pub exact : count ≡ produced - low
-  pub low_fits : low < 2 ^ 62
-  pub produced_fits : produced < 2 ^ 62
+  pub low_fits : low < number_limit
+  pub produced_fits : produced < number_limit
 
 -- where `all` was produced on the edge, the buffer holds what is numbered above low, in order, and no more
 pub record StandsFor (b : BufferView) (all : List Item) : Type 0 where

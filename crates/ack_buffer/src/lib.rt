@@ -8,6 +8,3 @@
 mod buffer;
 
 pub use buffer::AckBuffer;
-
-#[cfg(test)]
-mod tests;

@@ -2,9 +2,10 @@
 ghost use Rattle.flux_consumer.specs.ConsumerView.{AllTold, IsFirstUntold, over, report_of, telling, told_of, with_merge};
 ghost use Rattle.merge_order.specs.Edges.{AreEdges, edge_of, item_at};
 ghost use Rattle.merge_order.specs.Merged.{items, merged};
-ghost use Rattle.merge_order.specs.MergeView.{after_next, after_offer, all_wait, item_of, least, mark_of, offer_of, opening};
-ghost use Rattle.merge_order.specs.StandsFor.{AllTaken, StandsFor};
-ghost use Rattle.std.specs.Prelude.{◌≡◌, ◌≤◌, ◌<◌, ◌+◌, ◌^◌, ◌↔◌, ℕ, List, None, Some, IfOk, IfSome, IfNone, IsSome, IsTrue, OnErr, OnOk, length, slice_get};
+ghost use Rattle.merge_order.specs.MergeView.{ComesFirst, after_next, after_offer, all_wait, item_of, least, mark_of, offer_of, opening};
+ghost use Rattle.merge_order.specs.StandsFor.{AllBelow, AllTaken, StandsFor};
+ghost use Rattle.std.specs.Prelude.{◌≡◌, ◌≤◌, ◌<◌, ◌+◌, ◌↔◌, ℕ, List, None, Some, IfOk, IfSome, IfNone, IsSome, IsTrue, OnErr, OnOk, OnSome, length, slice_get, sum_by};
+ghost use Rattle.tuple_edge.specs.Limits.{number_limit};
 ghost use Rattle.tuple_edge.specs.declared.item.Item.{Item};
 
 use merge_order::{Merge, Offer};
@@ -35,7 +36,8 @@ impl Consumer {
     /// A consumer of so many in-edges that has taken and told nothing.
     pub fn new(alloc: Global, edges: u32) -> Result<Consumer, OutOfMemory>
         requires { 1 ≤ edges }
-        ensures { IfOk result (λ consumer. consumer ≡ over (opening edges)) }
+        ensures opening { IfOk result (λ consumer. consumer ≡ over (opening edges)) }
+        ensures stands { IfOk result (λ consumer. (last : ℕ) (es : List (List Item)) → AreEdges last es → length es ≡ edges → StandsFor last es consumer.merge) }
     {
         let merge = Merge::new(alloc, edges)?;
         Consumer::starting(alloc, merge)
@@ -50,7 +52,7 @@ impl Consumer {
     }
 
     /// Takes an item of an edge where its number follows the edge's mark, and says what became of it.
-    /// Only then is memory needed.
+    /// It can fail only then.
     pub fn tuple(&mut self, edge: u32, number: u64, item: Item) -> Result<Offer, OutOfMemory>
         requires { edge < length self.old.merge.marks }
         ensures answers { IfOk result (λ offer. offer ≡ offer_of self.old.merge edge number) }
@@ -66,17 +68,21 @@ impl Consumer {
 
     /// Whether each edge has an item that waits.
     pub fn ready(&self) -> bool
-        ensures { result ≡ all_wait self.now.merge.waiting }
+        ensures value { result ≡ all_wait self.now.merge.waiting }
+        // Over edges for which it stands.
+        ensures below { (last : ℕ) (edges : List (List Item)) → StandsFor last edges self.now.merge → IsTrue result ↔ AllBelow last edges self.now.merge }
     {
         self.merge.ready()
     }
 
-    /// The next item of the merged list. None exactly where it isn't ready. It takes no memory.
+    /// The next item of the merged list. None exactly where it isn't ready.
     pub fn next(&mut self) -> Option<Item>
-        requires room { IsTrue (all_wait self.old.merge.waiting) → self.old.merge.count + 1 < 2 ^ 62 }
+        requires room { IsTrue (all_wait self.old.merge.waiting) → self.old.merge.count + 1 < number_limit }
         ensures known { IsSome result ↔ IsTrue (all_wait self.old.merge.waiting) }
         ensures gives { result ≡ item_of (least self.old.merge.waiting) }
+        ensures first { IfSome (least self.old.merge.waiting) (ComesFirst self.old.merge.waiting) }
         ensures after { self.new ≡ with_merge self.old (after_next self.old.merge) }
+        ensures fewer { OnSome result (sum_by length self.new.merge.waiting < sum_by length self.old.merge.waiting) }
         // Over edges for which it stands.
         ensures stands { (last : ℕ) (edges : List (List Item)) → AreEdges last edges → StandsFor last edges self.old.merge
             → StandsFor last edges self.new.merge }
@@ -112,7 +118,7 @@ impl Consumer {
         None
     }
 
-    /// Notes that the mark of an edge was told. It takes no memory.
+    /// Notes that the mark of an edge was told.
     pub fn tell(&mut self, edge: u32)
         requires { edge < length self.old.merge.marks }
         ensures { self.new ≡ telling self.old edge }

@@ -8,6 +8,3 @@
 mod consumer;
 
 pub use consumer::Consumer;
-
-#[cfg(test)]
-mod tests;

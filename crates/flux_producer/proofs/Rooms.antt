@@ -1,54 +1,75 @@
--- Edges of which some were given more room.
-use Rattle.std.proofs.Common.{◌≡◌, ℕ, zero, suc, ◌+◌, ◌<◌, ◌≤◌, ◌⊎◌, inl, inr, refl, sym, ◌∙◌, ap, subst, arith}
-use Rattle.std.specs.Prelude.{List, [], ◌∷◌, length, map, slice_index_or, slice_set}
-use Rattle.std.proofs.Math.ListN.{length-set}
-use Rattle.std.proofs.Math.Seq.{map-set_same}
-use Rattle.std.proofs.lemmas.List.{get_or_default}
+-- Edges that were given more room.
+use Rattle.std.proofs.Common.{◌≡◌, ℕ, zero, suc, ◌+◌, ◌<◌, ◌≤◌, ◌⊎◌, inl, inr, refl, sym, ◌∙◌, ap, subst, arith, length-append}
+use Rattle.std.specs.Prelude.{List, [], ◌∷◌, ◌++◌, drop, length, map, take, slice_index_or}
+use Rattle.tuple_edge.specs.declared.item.Item.{Item}
+use Rattle.ack_buffer.specs.Buffer as buffer
 use Rattle.flux_producer.specs.OutEdge.{OutEdgeView, unused}
-use Rattle.flux_producer.specs.ProducerView.{KeepsRoom, without_room}
+use Rattle.flux_producer.specs.ProducerView.{HaveMoreRoom, without_room}
 
--- the first n edges have room for so many more items, and none has less than before
-pub record HasMore (old new : List OutEdgeView) (n items : ℕ) : Type 0 where
-  pub contents : map without_room new ≡ map without_room old
-  pub len : length new ≡ length old
-  pub room : (t : ℕ) → t < n → items ≤ (slice_index_or new t unused).buffer.spare
-  pub kept : KeepsRoom old new
+-- the first so many edges were given room for so many more items, and stand in `roomy`
+pub record HaveMore (edges roomy : List OutEdgeView) (count items : ℕ) : Type 0 where
+  pub len : length roomy ≡ count
+  pub contents : map without_room roomy ≡ map without_room (take count edges)
+  pub room : (t : ℕ) → t < count → items ≤ (slice_index_or roomy t unused).buffer.spare
+  pub kept : (t : ℕ) → t < count → (slice_index_or edges t unused).buffer.spare ≤ (slice_index_or roomy t unused).buffer.spare
 
--- what stands at a place of a list after a write
-at_set : {A : Type 0} (xs : List A) (i : ℕ) (x : A) (t : ℕ) (d : A) → i < length xs
-    → ((t ≡ i) × (slice_index_or (slice_set xs i x) t d ≡ x)) ⊎ ((t ≡ i → ⊥) × (slice_index_or (slice_set xs i x) t d ≡ slice_index_or xs t d))
-at_set [] i x t d h = absurd (omega arith)
-at_set (y ∷ xs) zero x zero d h = inl (refl, refl)
-at_set (y ∷ xs) zero x (suc t) d h = inr ((λ e. omega arith), refl)
-at_set (y ∷ xs) (suc i) x zero d h = inr ((λ e. omega arith), refl)
-at_set (y ∷ xs) (suc i) x (suc t) d h = elim (at_set xs i x t d (omega arith)) [ inl e ↦ inl (ap suc e.0, e.1) | inr e ↦ inr ((λ q. e.0 (omega arith)), e.1) ]
+-- what stands at a place of a list with one more
+at_end : {A : Type 0} (xs : List A) (x : A) (t : ℕ) (d : A) → t < length xs + 1
+    → ((t < length xs) × (slice_index_or (xs ++ x ∷ []) t d ≡ slice_index_or xs t d)) ⊎ ((t ≡ length xs) × (slice_index_or (xs ++ x ∷ []) t d ≡ x))
+at_end [] x zero d h = inr (refl, refl)
+at_end [] x (suc t) d h = absurd (omega arith)
+at_end (y ∷ xs) x zero d h = inl (omega arith, refl)
+at_end (y ∷ xs) x (suc t) d h = elim (at_end xs x t d (omega arith)) [ inl l ↦ inl (omega (arith, l.0), l.1) | inr e ↦ inr (ap suc e.0, e.1) ]
 
--- what the edges hold stays where one of them is given more room
-pub contents_stay : (old es : List OutEdgeView) (i : ℕ) (e roomy : OutEdgeView) → map without_room es ≡ map without_room old
-    → e ≡ slice_index_or es i e → without_room roomy ≡ without_room e → map without_room (slice_set es i roomy) ≡ map without_room old
-contents_stay old es i e roomy had found same = map-set_same without_room es i roomy e (same ∙ ap without_room found) ∙ had
+-- the front of a list with the next one
+front_next : {A : Type 0} (xs : List A) (n : ℕ) (d : A) → n < length xs → take (n + 1) xs ≡ take n xs ++ slice_index_or xs n d ∷ []
+front_next [] n d h = absurd (omega arith)
+front_next (x ∷ xs) zero d h = refl
+front_next (x ∷ xs) (suc n) d h =
+    ap (λ k. take k (x ∷ xs)) (let e : suc n + 1 ≡ suc (n + 1) = omega arith in e) ∙ ap (λ ys. x ∷ ys) (front_next xs n d (omega arith))
 
--- no edge has less room where one of them is given more
-pub room_stays : (old es : List OutEdgeView) (i : ℕ) (e roomy : OutEdgeView) → KeepsRoom old es → i < length es
-    → e ≡ slice_index_or es i e → e.buffer.spare ≤ roomy.buffer.spare → KeepsRoom old (slice_set es i roomy)
-room_stays old es i e roomy had inside found more = λ t below. elim (at_set es i roomy t unused inside) [
-  | inl here ↦ subst (λ (z : OutEdgeView). (slice_index_or old t unused).buffer.spare ≤ z.buffer.spare) (sym here.1)
-      (let was : (slice_index_or old t unused).buffer.spare ≤ (slice_index_or es i unused).buffer.spare =
-      subst (λ j. (slice_index_or old t unused).buffer.spare ≤ (slice_index_or es j unused).buffer.spare) here.0 (had t below) in
-      let is : e.buffer.spare ≡ (slice_index_or es i unused).buffer.spare = ap (λ (z : OutEdgeView). z.buffer.spare) (found ∙ get_or_default es i e unused inside) in omega arith)
-  | inr there ↦ subst (λ (z : OutEdgeView). (slice_index_or old t unused).buffer.spare ≤ z.buffer.spare) (sym there.1) (had t below)
-]
+map_end : {A B : Type 0} (f : A → B) (xs : List A) (x : A) → map f (xs ++ x ∷ []) ≡ map f xs ++ f x ∷ []
+map_end f [] x = refl
+map_end f (y ∷ xs) x = ap (λ ys. f y ∷ ys) (map_end f xs x)
 
--- one more edge is given more room
-pub HasMore-next : (old es : List OutEdgeView) (i items : ℕ) (e roomy : OutEdgeView) → HasMore old es i items → i < length es
-    → e ≡ slice_index_or es i e → without_room roomy ≡ without_room e → e.buffer.spare ≤ roomy.buffer.spare → items ≤ roomy.buffer.spare
-    → HasMore old (slice_set es i roomy) (i + 1) items
-HasMore-next old es i items e roomy had inside found same more enough = record {
-  contents = contents_stay old es i e roomy had.contents found same;
-  len = length-set es i roomy ∙ had.len;
-  room = λ t below. elim (at_set es i roomy t unused inside) [
-    | inl here ↦ subst (λ (z : OutEdgeView). items ≤ z.buffer.spare) (sym here.1) enough
-    | inr there ↦ subst (λ (z : OutEdgeView). items ≤ z.buffer.spare) (sym there.1) (had.room t (let other : t ≡ i → ⊥ = there.0 in omega arith))
+-- one more edge is given room
+pub HaveMore-next : (edges roomy : List OutEdgeView) (count items : ℕ) (e : OutEdgeView) → HaveMore edges roomy count items → count < length edges
+    → without_room e ≡ without_room (slice_index_or edges count unused) → items ≤ e.buffer.spare → (slice_index_or edges count unused).buffer.spare ≤ e.buffer.spare
+    → HaveMore edges (roomy ++ e ∷ []) (count + 1) items
+HaveMore-next edges roomy count items e had inside same enough more = record {
+  len = omega (arith, length-append roomy (e ∷ []), had.len);
+  contents = map_end without_room roomy e ∙ (λ i. had.contents i ++ same i ∷ [])
+      ∙ sym (map_end without_room (take count edges) (slice_index_or edges count unused)) ∙ ap (map without_room) (sym (front_next edges count unused inside));
+  room = λ t below. elim (at_end roomy e t unused (omega (arith, had.len))) [
+    | inl l ↦ subst (λ (z : OutEdgeView). items ≤ z.buffer.spare) (sym l.1) (had.room t (omega (arith, l.0, had.len)))
+    | inr h ↦ subst (λ (z : OutEdgeView). items ≤ z.buffer.spare) (sym h.1) enough
   ];
-  kept = room_stays old es i e roomy had.kept inside found more;
+  kept = λ t below. elim (at_end roomy e t unused (omega (arith, had.len))) [
+    | inl l ↦ subst (λ (z : OutEdgeView). (slice_index_or edges t unused).buffer.spare ≤ z.buffer.spare) (sym l.1) (had.kept t (omega (arith, l.0, had.len)))
+    | inr h ↦ subst (λ (z : OutEdgeView). (slice_index_or edges t unused).buffer.spare ≤ z.buffer.spare) (sym h.1)
+        (subst (λ n. (slice_index_or edges n unused).buffer.spare ≤ e.buffer.spare) (let here : count ≡ t = omega (arith, h.0, had.len) in here) more)
+  ];
 }
+
+-- ---- standing for what was produced
+
+-- edges that differ in room alone hold the same
+edge_without : (one other : List OutEdgeView) → map without_room one ≡ map without_room other → (t : ℕ)
+    → without_room (slice_index_or one t unused) ≡ without_room (slice_index_or other t unused)
+edge_without [] [] e t = refl
+edge_without [] (y ∷ other) e t = let z : ⊥ = cc e in absurd z
+edge_without (x ∷ one) [] e t = let z : ⊥ = cc e in absurd z
+edge_without (x ∷ one) (y ∷ other) e zero = let z : without_room x ≡ without_room y = cc e in z
+edge_without (x ∷ one) (y ∷ other) e (suc t) = edge_without one other (let z : map without_room one ≡ map without_room other = cc e in z) t
+
+without_stands : (one other : OutEdgeView) (all : List Item) → without_room other ≡ without_room one → buffer.StandsFor one.buffer all → buffer.StandsFor other.buffer all
+without_stands one other all same s = record {
+  produced = ap (λ (z : OutEdgeView). z.buffer.produced) same ∙ s.produced;
+  items = ap (λ (z : OutEdgeView). z.buffer.items) same ∙ s.items ∙ ap (λ (z : OutEdgeView). drop z.buffer.low all) (sym same);
+}
+
+pub roomy_stands : (edges roomy : List OutEdgeView) (items : ℕ) (all : ℕ → List Item) → HaveMoreRoom edges roomy items
+    → ((t : ℕ) → t < length edges → buffer.StandsFor (slice_index_or edges t unused).buffer (all t))
+    → (t : ℕ) → t < length roomy → buffer.StandsFor (slice_index_or roomy t unused).buffer (all t)
+roomy_stands edges roomy items all more stands t below =
+    without_stands (slice_index_or edges t unused) (slice_index_or roomy t unused) (all t) (edge_without roomy edges more.contents t) (stands t (omega (arith, more.len)))

@@ -1,7 +1,9 @@
 -- An out-edge: what is not acknowledged, and for each replica of its consumer the next number to send.
-use Rattle.std.specs.Prelude.{ℕ, ◌+◌, ◌<◌, ◌≤◌, ◌^◌, List, [], ◌∷◌, map, max, min, slice_index, slice_set}
+use Rattle.std.specs.Prelude.{ℕ, ◌+◌, ◌<◌, ◌≤◌, List, [], ◌∷◌, map, max, min, slice_index, slice_set}
+use Rattle.tuple_edge.specs.Limits.{number_limit}
 use Rattle.tuple_edge.specs.declared.item.Item.{Item}
 use Rattle.ack_buffer.specs.Buffer.{BufferView, produced_on, starting_at, trimmed}
+use Rattle.flux_producer.specs.Limits.{max_copies}
 
 pub record OutEdgeView : Type 0 where
   pub buffer : BufferView
@@ -9,8 +11,8 @@ pub record OutEdgeView : Type 0 where
 
 -- each cursor is above what is acknowledged
 pub record IsOutEdge (buffer : BufferView) (cursors : List ℕ) : Type 0 where
-  pub above : (c : ℕ) → c < 2 → buffer.low < slice_index cursors c
-  pub fits : (c : ℕ) → c < 2 → slice_index cursors c ≤ 2 ^ 62
+  pub above : (c : ℕ) → c < max_copies → buffer.low < slice_index cursors c
+  pub fits : (c : ℕ) → c < max_copies → slice_index cursors c ≤ number_limit
 
 -- the cursor of a replica
 abbrev pub cursor_of : OutEdgeView → ℕ → ℕ
@@ -27,6 +29,10 @@ over b = record { buffer = b; cursors = from_low b }
 -- an out-edge on which nothing was produced
 abbrev pub unused : OutEdgeView
 unused = over (starting_at 0 0)
+
+-- an out-edge with room for so many further items
+abbrev pub with_room : OutEdgeView → ℕ → OutEdgeView
+with_room e spare = record e { buffer = record e.buffer { spare = spare } }
 
 -- an out-edge after one more item was produced
 abbrev pub with_item : OutEdgeView → Item → OutEdgeView

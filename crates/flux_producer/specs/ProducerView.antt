@@ -1,9 +1,11 @@
 -- A producer: its out-edges, and whether it leads. What each call makes of it.
-use Rattle.std.specs.Prelude.{ℕ, ◌<◌, ◌≤◌, ◌^◌, Bool, true, false, List, length, map, nat_lt, if◌then◌else◌, slice_index_or, slice_set, replicate}
+use Rattle.std.specs.Prelude.{◌≡◌, ℕ, ◌+◌, ◌<◌, ◌≤◌, Bool, true, false, List, length, map, nat_lt, if◌then◌else◌, slice_index_or, slice_set, replicate}
+use Rattle.tuple_edge.specs.Limits.{edge_limit, number_limit}
 use Rattle.tuple_edge.specs.declared.item.Item.{Item}
+use Rattle.tuple_edge.specs.declared.node.EdgeId.{EdgeId}
 use Rattle.ack_buffer.specs.Buffer.{BufferView}
+use Rattle.flux_producer.specs.Limits.{max_copies}
 use Rattle.flux_producer.specs.OutEdge.{OutEdgeView, acknowledged, cursor_of, over, rewound, sent, unused, wanted, with_item}
-use Rattle.flux_producer.specs.declared.producer.TheConstants.{MAX_COPIES}
 
 -- the stage and partition that it is of, how many replicas each of its edges has at the other end, the term, whether it
 -- leads, and for each target its out-edge
@@ -18,12 +20,16 @@ pub record ProducerView : Type 0 where
 -- what is true of each producer
 pub record IsProducer (copies : ℕ) (edges : List OutEdgeView) : Type 0 where
   pub some : 1 ≤ copies
-  pub few : copies ≤ MAX_COPIES
-  pub targets : length edges < 2 ^ 32
+  pub few : copies ≤ max_copies
+  pub targets : length edges < edge_limit
 
 -- the out-edge to a target; where there is none, one on which nothing was produced
 abbrev pub edge_at : ProducerView → ℕ → OutEdgeView
 edge_at p t = slice_index_or p.edges t unused
+
+-- the name of the edge to a target
+abbrev pub id_of : ProducerView → ℕ → EdgeId
+id_of p t = record { stage = p.stage; from = p.from; to = t }
 
 abbrev pub buffer_at : ProducerView → ℕ → BufferView
 buffer_at p t = (edge_at p t).buffer
@@ -48,6 +54,10 @@ with_edge p t e = record p { edges = slice_set p.edges t e }
 -- a producer after one more item was produced on an edge
 abbrev pub emitted : ProducerView → ℕ → Item → ProducerView
 emitted p t item = with_edge p t (with_item (edge_at p t) item)
+
+-- a producer after an item was produced on each edge
+abbrev pub emitted_to_all : ProducerView → Item → ProducerView
+emitted_to_all p item = record p { edges = map (λ e. with_item e item) p.edges }
 
 -- a producer after the items of an edge up to a number were acknowledged
 abbrev pub acked : ProducerView → ℕ → ℕ → ProducerView
@@ -80,3 +90,14 @@ HasRoom edges items = (t : ℕ) → t < length edges → items ≤ (slice_index_
 -- no edge has less room than before
 abbrev pub KeepsRoom : List OutEdgeView → List OutEdgeView → Type 0
 KeepsRoom old new = (t : ℕ) → t < length old → (slice_index_or old t unused).buffer.spare ≤ (slice_index_or new t unused).buffer.spare
+
+-- each edge may produce one more item
+abbrev pub MayGrow : List OutEdgeView → Type 0
+MayGrow edges = (t : ℕ) → t < length edges → (slice_index_or edges t unused).buffer.produced + 1 < number_limit
+
+-- These edges are those, with room for so many further items on each, and on none less than it had.
+pub record HaveMoreRoom (old new : List OutEdgeView) (items : ℕ) : Type 0 where
+  pub contents : map without_room new ≡ map without_room old
+  pub len : length new ≡ length old
+  pub room : HasRoom new items
+  pub kept : KeepsRoom old new

@@ -1,18 +1,24 @@
 // One out-edge of a producer.
 ghost use Rattle.ack_buffer.specs.Buffer.{BufferView, item_at};
-ghost use Rattle.flux_producer.specs.OutEdge.{acknowledged, cursor_of, over, rewound, sent, unused, wanted, with_item};
-ghost use Rattle.std.specs.Prelude.{◌≡◌, ◌≤◌, ◌<◌, ◌+◌, ◌^◌, IfSome, IfNone, OnOk, OnErr};
+ghost use Rattle.flux_producer.specs.Limits.{max_copies};
+ghost use Rattle.flux_producer.specs.OutEdge.{acknowledged, cursor_of, over, rewound, sent, unused, wanted, with_item, with_room};
+ghost use Rattle.flux_producer.specs.ProducerView.{without_room};
+ghost use Rattle.std.specs.Prelude.{◌≡◌, ◌≤◌, ◌<◌, ◌+◌, IfOk, IfSome, IfNone, OnErr, OnOk};
+ghost use Rattle.tuple_edge.specs.Limits.{number_limit};
 
 use ack_buffer::AckBuffer;
 use std::alloc::Global;
 use std::marker::Model;
 use tuple_edge::{Item, OutOfMemory};
 
+/// The greatest number of replicas of a consumer.
+pub const MAX_COPIES: u32 = 2;
+
 /// An out-edge: its buffer, and for each replica of its consumer the next number to send.
 #[derive(Drop)]
 pub struct OutEdge {
     buffer: AckBuffer,
-    cursors: [u64; 2],
+    cursors: [u64; MAX_COPIES as usize],
 }
 
 impl Model for OutEdge {
@@ -37,11 +43,24 @@ impl OutEdge {
         }
     }
 
-    // Makes room for so many further items.
+    // An edge with the same cursors and items, and with room for so many further items.
+    pub(crate) fn with_room(&self, items: usize) -> Result<OutEdge, OutOfMemory>
+        ensures contents { IfOk result (λ e. without_room e ≡ without_room self.now) }
+        ensures spare { IfOk result (λ e. items ≤ e.buffer.spare) }
+        ensures kept { IfOk result (λ e. self.now.buffer.spare ≤ e.buffer.spare) }
+    {
+        Ok(OutEdge {
+            buffer: self.buffer.with_room(items)?,
+            cursors: self.cursors,
+        })
+    }
+
+    // Makes room for so many further items. Where there is room already it is never refused.
     pub(crate) fn reserve(&mut self, items: usize) -> Result<(), OutOfMemory>
-        ensures contents { self.new ≡ record self.old { buffer = record self.old.buffer { spare = self.new.buffer.spare } } }
+        ensures contents { self.new ≡ with_room self.old self.new.buffer.spare }
         ensures spare { OnOk result (items ≤ self.new.buffer.spare) }
         ensures kept { self.old.buffer.spare ≤ self.new.buffer.spare }
+        ensures unchanged { OnErr result (self.new ≡ self.old) }
         ensures refused { OnErr result (self.old.buffer.spare < items) }
     {
         self.buffer.reserve(items)
@@ -50,7 +69,7 @@ impl OutEdge {
     // Produces the next item, and gives its number.
     pub(crate) fn produce(&mut self, item: Item) -> u64
         requires room { 1 ≤ self.old.buffer.spare }
-        requires fits { self.old.buffer.produced + 1 < 2 ^ 62 }
+        requires fits { self.old.buffer.produced + 1 < number_limit }
         ensures number { result ≡ self.old.buffer.produced + 1 }
         ensures produced { self.new ≡ with_item self.old item }
     {
@@ -59,7 +78,7 @@ impl OutEdge {
 
     // Notes that the items up to a number are acknowledged.
     pub(crate) fn ack(&mut self, upto: u64)
-        requires { upto < 2 ^ 62 }
+        requires { upto < number_limit }
         ensures { self.new ≡ acknowledged self.old upto }
     {
         self.buffer.trim(upto);
@@ -69,7 +88,7 @@ impl OutEdge {
 
     // Goes back to a number that a replica wants.
     pub(crate) fn want(&mut self, copy: u32, from: u64)
-        requires { copy < 2 }
+        requires { copy < max_copies }
         ensures { self.new ≡ wanted self.old copy from }
     {
         let next = self.buffer.low() + 1;
@@ -88,7 +107,7 @@ impl OutEdge {
     // Gives the item at a replica's cursor, and goes on to the next number. None where it isn't
     // produced yet.
     pub(crate) fn send(&mut self, copy: u32) -> Option<Item>
-        requires { copy < 2 }
+        requires { copy < max_copies }
         ensures item { result ≡ item_at self.old.buffer (cursor_of self.old copy) }
         ensures sent { IfSome result (λ _. self.new ≡ sent self.old copy) }
         ensures none { IfNone result ((self.new ≡ self.old) × (self.old.buffer.produced < cursor_of self.old copy)) }
@@ -107,10 +126,10 @@ impl OutEdge {
 
     // The next number to send to a replica.
     pub(crate) fn cursor(&self, copy: u32) -> u64
-        requires { copy < 2 }
+        requires { copy < max_copies }
         ensures value { result ≡ cursor_of self.now copy }
         ensures above { self.now.buffer.low < result }
-        ensures fits { result ≤ 2 ^ 62 }
+        ensures fits { result ≤ number_limit }
     {
         self.cursors[copy as usize]
     }

@@ -10,7 +10,5 @@ mod edge;
 mod producer;
 
 pub use due::Due;
-pub use producer::{MAX_COPIES, Producer};
-
-#[cfg(test)]
-mod tests;
+pub use edge::MAX_COPIES;
+pub use producer::Producer;

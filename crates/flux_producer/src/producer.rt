@@ -1,19 +1,20 @@
 // The producer: its out-edges, and what is due on them.
 ghost use Rattle.ack_buffer.specs.Buffer.{item_at};
 ghost use Rattle.flux_producer.specs.Due.{IsLeast, NoneWaits, due_at, due_of, due_to};
-ghost use Rattle.flux_producer.specs.OutEdge.{over, rewound, unused};
-ghost use Rattle.flux_producer.specs.ProducerView.{HasRoom, KeepsRoom, acked, buffer_at, contents_of, cursor_at, emitted, leading, opening, over_buffers, sent_on, wanted_from, without_room};
-ghost use Rattle.std.specs.Prelude.{◌≡◌, ◌≤◌, ◌<◌, ◌+◌, ◌^◌, length, None, Some, IfOk, OnOk, IsTrue, IfNone, IfSome, map, replicate, vec_len};
+ghost use Rattle.flux_producer.specs.Limits.{max_copies};
+ghost use Rattle.flux_producer.specs.OutEdge.{over, rewound, unused, with_item};
+ghost use Rattle.flux_producer.specs.ProducerView.{HasRoom, HaveMoreRoom, KeepsRoom, MayGrow, acked, buffer_at, contents_of, cursor_at, edge_at, emitted, emitted_to_all, id_of, leading, opening, over_buffers, sent_on, wanted_from, without_room};
+ghost use Rattle.flux_producer.specs.StandsFor.{BuffersStandFor, StandsFor, with_next};
+ghost use Rattle.std.specs.Prelude.{◌≡◌, ◌≢◌, ◌≤◌, ◌<◌, ◌+◌, ◌-◌, ◌++◌, ◌∷◌, ◌↔◌, [], ℕ, List, length, None, Some, IfOk, OnErr, OnOk, IsTrue, IfNone, IfSome, map, replicate, slice_get};
+ghost use Rattle.tuple_edge.specs.Limits.{edge_limit, number_limit};
+ghost use Rattle.tuple_edge.specs.declared.item.Item.{Item};
 
 use crate::Due;
 use crate::edge::OutEdge;
 use ack_buffer::AckBuffer;
 use std::alloc::Global;
 use std::marker::Model;
-use tuple_edge::{Item, OutOfMemory};
-
-/// The greatest number of replicas of a consumer.
-pub const MAX_COPIES: u32 = 2;
+use tuple_edge::{EdgeId, Item, OutOfMemory};
 
 /// What a node sends on its out-edges. Targets and replicas count from 0, numbers of items from 1.
 /// Numbers are below 2^62.
@@ -75,17 +76,38 @@ fn rewind_all(edges: &mut Vec<OutEdge>)
     }
 }
 
-// Makes room on each edge.
-fn reserve_all(edges: &mut Vec<OutEdge>, items: usize) -> Result<(), OutOfMemory>
-    ensures contents { map without_room edges.new.items ≡ map without_room edges.old.items }
-    ensures len { length edges.new.items ≡ length edges.old.items }
-    ensures room { OnOk result (HasRoom edges.new.items items) }
-    ensures kept { KeepsRoom edges.old.items edges.new.items }
+// Produces an item on each edge.
+fn produce_all(edges: &mut Vec<OutEdge>, item: Item)
+    requires room { HasRoom edges.old.items 1 }
+    requires fits { MayGrow edges.old.items }
+    ensures { edges.new.items ≡ map (λ e. with_item e item) edges.old.items }
 {
-    for i in 0..edges.len() {
-        edges[i].reserve(items)?;
+    for edge in edges.iter_mut() {
+        let _number = edge.produce(item);
     }
-    Ok(())
+}
+
+// Whether each edge has room for so many further items.
+fn have_room(edges: &[OutEdge], items: usize) -> bool
+    ensures { IsTrue result ↔ HasRoom edges.now items }
+{
+    for to in 0..edges.len() {
+        if edges[to].buffer().spare() < items {
+            return false;
+        }
+    }
+    true
+}
+
+// The same edges with room for so many further items.
+fn with_more_room(edges: &Vec<OutEdge>, items: usize) -> Result<Vec<OutEdge>, OutOfMemory>
+    ensures { IfOk result (λ roomy. HaveMoreRoom edges.now.items roomy.items items) }
+{
+    let mut roomy = Vec::with_capacity(*edges.allocator(), edges.len())?;
+    for to in 0..edges.len() {
+        roomy.push_reserved(edges[to].with_room(items)?);
+    }
+    Ok(roomy)
 }
 
 impl Producer {
@@ -100,8 +122,9 @@ impl Producer {
         leads: bool,
     ) -> Result<Producer, OutOfMemory>
         requires some { 1 ≤ copies }
-        requires few { copies ≤ MAX_COPIES }
-        ensures { IfOk result (λ p. p ≡ opening stage from targets copies leads) }
+        requires few { copies ≤ max_copies }
+        ensures opening { IfOk result (λ p. p ≡ opening stage from targets copies leads) }
+        ensures stands { IfOk result (λ p. StandsFor p (λ t. [])) }
     {
         let edges = unused_edges(alloc, targets)?;
         Ok(Producer {
@@ -116,6 +139,8 @@ impl Producer {
 
     /// A producer over these buffers, one for each target. It has term 0, doesn't lead, and its
     /// cursors are above what is acknowledged by one.
+    ///
+    /// More than `u32::MAX` buffers are answered as want of memory, since their edges have no number.
     pub fn starting(
         alloc: Global,
         stage: u32,
@@ -124,10 +149,13 @@ impl Producer {
         edges: Vec<AckBuffer>,
     ) -> Result<Producer, OutOfMemory>
         requires some { 1 ≤ copies }
-        requires few { copies ≤ MAX_COPIES }
-        requires targets { vec_len edges < 2 ^ 32 }
-        ensures { IfOk result (λ p. p ≡ over_buffers stage from copies edges.items) }
+        requires few { copies ≤ max_copies }
+        ensures over { IfOk result (λ p. p ≡ over_buffers stage from copies edges.items) }
+        ensures stands { IfOk result (λ p. (all : ℕ → List Item) → BuffersStandFor edges.items all → StandsFor p all) }
     {
+        if u32::try_from(edges.len()).is_err() {
+            return Err(OutOfMemory);
+        }
         let edges = edges_over(alloc, edges)?;
         Ok(Producer {
             stage,
@@ -139,33 +167,70 @@ impl Producer {
         })
     }
 
-    /// Makes room for so many further items on every edge. After want of memory some edges may have
-    /// more room than before.
+    /// Makes room for so many further items on every edge. Where there is room already it is never
+    /// refused.
     pub fn reserve(&mut self, items: u64) -> Result<(), OutOfMemory>
         ensures contents { contents_of self.new ≡ contents_of self.old }
         ensures room { OnOk result (HasRoom self.new.edges items) }
         ensures kept { KeepsRoom self.old.edges self.new.edges }
+        ensures unchanged { OnErr result (self.new ≡ self.old) }
+
+        // What is there already is never refused.
+        ensures refused { OnErr result (HasRoom self.old.edges items → ⊥) }
+        ensures stands { (all : ℕ → List Item) → StandsFor self.old all → StandsFor self.new all }
     {
-        reserve_all(&mut self.edges, items as usize)
+        if !have_room(&self.edges, items as usize) {
+            // All room is made before any edge changes.
+            self.edges = with_more_room(&self.edges, items as usize)?;
+        }
+        Ok(())
     }
 
-    /// Produces the next item of an edge, and gives its number. It takes no memory.
+    /// Makes room for so many further items on the edge to a target, and touches no other edge. Where
+    /// there is room already it is never refused.
+    pub fn reserve_on(&mut self, to: u32, items: u64) -> Result<(), OutOfMemory>
+        requires edge { to < length self.old.edges }
+        ensures contents { contents_of self.new ≡ contents_of self.old }
+        ensures room { OnOk result (items ≤ (buffer_at self.new to).spare) }
+        ensures kept { (buffer_at self.old to).spare ≤ (buffer_at self.new to).spare }
+        ensures others { (t : ℕ) → t ≢ to → edge_at self.new t ≡ edge_at self.old t }
+        ensures unchanged { OnErr result (self.new ≡ self.old) }
+
+        // What is there already is never refused.
+        ensures refused { OnErr result ((buffer_at self.old to).spare < items) }
+    {
+        self.edges[to as usize].reserve(items as usize)
+    }
+
+    /// Produces the next item of an edge, and gives its number. It can't fail.
     pub fn emit(&mut self, to: u32, item: Item) -> u64
         requires edge { to < length self.old.edges }
         requires room { 1 ≤ (buffer_at self.old to).spare }
-        requires fits { (buffer_at self.old to).produced + 1 < 2 ^ 62 }
+        requires fits { (buffer_at self.old to).produced + 1 < number_limit }
         ensures number { result ≡ (buffer_at self.old to).produced + 1 }
         ensures emitted { self.new ≡ emitted self.old to item }
+        ensures stands { (all : ℕ → List Item) → StandsFor self.old all → StandsFor self.new (with_next all to item) }
     {
         self.edges[to as usize].produce(item)
+    }
+
+    /// Produces an item as the next one of every edge. It can't fail.
+    pub fn emit_to_all(&mut self, item: Item)
+        requires room { HasRoom self.old.edges 1 }
+        requires fits { MayGrow self.old.edges }
+        ensures emitted { self.new ≡ emitted_to_all self.old item }
+        ensures stands { (all : ℕ → List Item) → StandsFor self.old all → StandsFor self.new (λ t. all t ++ item ∷ []) }
+    {
+        produce_all(&mut self.edges, item);
     }
 
     /// Notes that the items of an edge up to a number are acknowledged: they are let go, and cursors
     /// become at least the next number.
     pub fn ack(&mut self, to: u32, upto: u64)
         requires edge { to < length self.old.edges }
-        requires fits { upto < 2 ^ 62 }
-        ensures { self.new ≡ acked self.old to upto }
+        requires fits { upto < number_limit }
+        ensures acked { self.new ≡ acked self.old to upto }
+        ensures stands { (all : ℕ → List Item) → StandsFor self.old all → StandsFor self.new all }
     {
         self.edges[to as usize].ack(upto);
     }
@@ -175,7 +240,8 @@ impl Producer {
     pub fn want(&mut self, to: u32, copy: u32, from: u64)
         requires edge { to < length self.old.edges }
         requires copy { copy < self.old.copies }
-        ensures { self.new ≡ wanted_from self.old to copy from }
+        ensures wanted { self.new ≡ wanted_from self.old to copy from }
+        ensures stands { (all : ℕ → List Item) → StandsFor self.old all → StandsFor self.new all }
     {
         if self.leads {
             self.edges[to as usize].want(copy, from);
@@ -185,7 +251,8 @@ impl Producer {
     /// Leads under a term that is above its own, and sends again all that is not acknowledged. Under
     /// another term nothing changes.
     pub fn lead(&mut self, term: u64)
-        ensures { self.new ≡ leading self.old term }
+        ensures leading { self.new ≡ leading self.old term }
+        ensures stands { (all : ℕ → List Item) → StandsFor self.old all → StandsFor self.new all }
     {
         if term > self.term {
             self.term = term;
@@ -239,13 +306,17 @@ impl Producer {
         due
     }
 
-    /// Gives what is due with its item, and goes on to the next number. None as [`Producer::due`]. It
-    /// takes no memory.
+    /// Gives what is due with its item, and goes on to the next number. None as [`Producer::due`].
     pub fn send_due(&mut self) -> Option<(Due, Item)>
         ensures none { IfNone result ((due_of self.old ≡ None) × (self.new ≡ self.old)) }
         ensures due { IfSome result (λ s. due_of self.old ≡ Some s.0) }
         ensures item { IfSome result (λ s. item_at (buffer_at self.old s.0.to) s.0.number ≡ Some s.1) }
         ensures sent { IfSome result (λ s. self.new ≡ sent_on self.old s.0.to s.0.copy) }
+        ensures stands { (all : ℕ → List Item) → StandsFor self.old all → StandsFor self.new all }
+
+        // It is the item that was produced on its edge with that number.
+        ensures above { IfSome result (λ s. (buffer_at self.old s.0.to).low < s.0.number) }
+        ensures gives { (all : ℕ → List Item) → StandsFor self.old all → IfSome result (λ s. slice_get (all s.0.to) (s.0.number - 1) ≡ Some s.1) }
     {
         let due = self.due()?;
         let item = self.edges[due.to as usize].send(due.copy)?;
@@ -259,11 +330,23 @@ impl Producer {
         self.edges.len() as u32
     }
 
-    /// How many replicas each target has: 1 to [`MAX_COPIES`].
+    /// The name of the edge to a target.
+    pub fn edge_id(&self, to: u32) -> EdgeId
+        requires { to < length self.now.edges }
+        ensures { result ≡ id_of self.now to }
+    {
+        EdgeId {
+            stage: self.stage,
+            from: self.from,
+            to,
+        }
+    }
+
+    /// How many replicas each target has: 1 to [`MAX_COPIES`](crate::MAX_COPIES).
     pub fn copies(&self) -> u32
         ensures value { result ≡ self.now.copies }
         ensures some { 1 ≤ result }
-        ensures few { result ≤ MAX_COPIES }
+        ensures few { result ≤ max_copies }
     {
         self.copies
     }
@@ -282,7 +365,7 @@ impl Producer {
         requires copy { copy < self.now.copies }
         ensures value { result ≡ cursor_at self.now to copy }
         ensures above { (buffer_at self.now to).low < result }
-        ensures fits { result ≤ 2 ^ 62 }
+        ensures fits { result ≤ number_limit }
     {
         self.edges[to as usize].cursor(copy)
     }

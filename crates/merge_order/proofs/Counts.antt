@@ -1,10 +1,11 @@
 -- How many items of an edge are used, as long as the merged list goes on and where it ends.
-use Rattle.std.proofs.Common.{◌≡◌, ◌<◌, ℕ, zero, suc, Bool, List, [], ◌∷◌, ◌++◌, ◌+◌, ap, ◌∙◌, subst, arith, length, take, get_or}
-use Rattle.std.proofs.lemmas.List.{length-append, length-take-le}
+use Rattle.std.proofs.Common.{◌≡◌, ◌<◌, ℕ, zero, suc, Bool, List, [], ◌∷◌, ◌++◌, ◌+◌, ◌≤◌, ◌⊎◌, inl, inr, refl, sym, ap, ◌∙◌, subst, arith, length, take, get_or}
+use Rattle.std.proofs.lemmas.Bool.{cases_lt}
+use Rattle.std.proofs.lemmas.List.{length-append, length-take-le, take_all}
 use Rattle.tuple_edge.specs.declared.item.Item.{Item}
 use Rattle.merge_order.specs.Edges.{AreAlike, AreEdges}
-use Rattle.merge_order.specs.Merged.{Place, count_of, merged}
-use Rattle.merge_order.specs.Counts.{AllAreUsed}
+use Rattle.merge_order.specs.Merged.{Place, count_of, items_from, merged}
+use Rattle.merge_order.specs.Counts.{AllAreUsed, EdgesStayInOrder}
 use Rattle.merge_order.proofs.Step.{AllDone, Done, IsRest, More, left, step}
 use Rattle.merge_order.proofs.Rest.{EdgesLeft, LeftAt, has_least, left_at, left_done}
 
@@ -68,3 +69,31 @@ module _ (last : ℕ) (es : List (List Item)) (edges : AreEdges last es) where
 
 pub all_are_used : AllAreUsed
 all_are_used last es edges = record { below = λ q c h l. goes_on last es edges q c h l; whole = λ q h. ends last es edges q h }
+
+-- ---- the items of a source are those of its edge, in order
+
+take_front : (xs ys : List Item) → take (length xs) (xs ++ ys) ≡ xs
+take_front [] ys = refl
+take_front (x ∷ xs) ys = ap (λ k. x ∷ k) (take_front xs ys)
+
+gone_is : (q : ℕ) (front : List Place) (es rs : List (List Item)) → EdgesLeft q front es rs → (k : ℕ) → k < length es → items_from (q + k) front ≡ take (count_of (q + k) front) (get_or es k [])
+gone_is q front [] rs l k h = absurd (omega arith)
+gone_is q front (e ∷ es) [] l k h = absurd l
+gone_is q front (e ∷ es) (r ∷ rs) l zero h =
+    let here : items_from q front ≡ take (count_of q front) e = sym l.0.are ∙ (sym (take_front l.0.gone r) ∙ (λ i. take (l.0.long i) (sym l.0.whole i))) in
+    subst (λ n. items_from n front ≡ take (count_of n front) e) (omega arith) here
+gone_is q front (e ∷ es) (r ∷ rs) l (suc k) h = subst (λ n. items_from n front ≡ take (count_of n front) (get_or es k [])) (omega arith) (gone_is (q + 1) front es rs l.1 k (omega arith))
+
+pub stay_in_order : EdgesStayInOrder
+stay_in_order last es edges q c h = by (cases_lt (length (merged last es)) c)
+  where
+    upto : (c : ℕ) → c ≤ length (merged last es) → items_from q (take c (merged last es)) ≡ take (count_of q (take c (merged last es))) (get_or es q [])
+    upto c l =
+        let at = left_at last es edges c l in
+        subst (λ n. items_from n (take c (merged last es)) ≡ take (count_of n (take c (merged last es))) (get_or es q [])) (omega arith) (gone_is 0 (take c (merged last es)) es at.rest at.edges q h)
+
+    by : (length (merged last es) < c) ⊎ (c ≤ length (merged last es)) → items_from q (take c (merged last es)) ≡ take (count_of q (take c (merged last es))) (get_or es q [])
+    by (inr l) = upto c l
+    by (inl l) =
+        let same = take_all (length (merged last es)) (merged last es) (omega arith) ∙ sym (take_all c (merged last es) (omega arith)) in
+        subst (λ (places : List Place). items_from q places ≡ take (count_of q places) (get_or es q [])) same (upto (length (merged last es)) (omega arith))

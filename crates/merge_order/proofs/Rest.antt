@@ -1,31 +1,48 @@
 -- What is left of the edges after the first places of the merged list.
 use Rattle.std.proofs.Common.{◌≡◌, ◌≤◌, ℕ, zero, suc, Bool, true, false, List, [], ◌∷◌, ◌++◌, Option, Some, ◌+◌, refl, sym, ap, ◌∙◌, subst, arith, length, take, append_assoc}
-use Rattle.std.specs.Prelude.{if◌then◌else◌}
-use Rattle.std.proofs.lemmas.List.{length-append, length-take-le}
+use Rattle.std.specs.Prelude.{filter, if◌then◌else◌}
+use Rattle.std.proofs.lemmas.List.{append-nil, length-append, length-take-le}
 use Rattle.std.proofs.lemmas.List.Sums.{sum_by_push}
 use Rattle.tuple_edge.specs.declared.item.Item.{Item}
 use Rattle.tuple_edge.specs.Item.{comes_before}
 use Rattle.merge_order.specs.Edges.{AreAlike, AreEdges}
-use Rattle.merge_order.specs.Merged.{Place, count_of, is_from, merged, stamps_upto}
+use Rattle.merge_order.specs.Merged.{Place, count_of, is_from, items, items_from, merged, stamps_upto}
 use Rattle.merge_order.specs.declared.head.Head.{Head}
 use Rattle.merge_order.specs.MergeView.{least, taken_from}
 use Rattle.merge_order.proofs.Heads.{head_at, least_from, least_is}
 use Rattle.merge_order.proofs.Taken.{TakesIf, EdgesTake, stamps_none}
 use Rattle.merge_order.proofs.Step.{AllDone, IsRest, More, Done, is_done, end_of, left, place_from, take_length, not_done, all_done, done_from, step}
 
-pub record IsLeft (edge : List Item) (used : ℕ) (r : List Item) : Type 0 where
+-- an edge is what is gone of it, the items of its source among the first places, and what is left
+pub record IsLeft (edge : List Item) (q : ℕ) (front : List Place) (r : List Item) : Type 0 where
   pub gone : List Item
   pub whole : edge ≡ gone ++ r
-  pub long : length gone ≡ used
+  pub long : length gone ≡ count_of q front
+  pub are : gone ≡ items_from q front
 
 abbrev pub EdgesLeft : ℕ → List Place → List (List Item) → List (List Item) → Type 0
 EdgesLeft q front [] [] = Unit {0}
 EdgesLeft q front [] (r ∷ rs) = ⊥
 EdgesLeft q front (e ∷ es) [] = ⊥
-EdgesLeft q front (e ∷ es) (r ∷ rs) = IsLeft e (count_of q front) r × EdgesLeft (q + 1) front es rs
+EdgesLeft q front (e ∷ es) (r ∷ rs) = IsLeft e q front r × EdgesLeft (q + 1) front es rs
 
 pub count-push : (q : ℕ) (xs : List Place) (j : Place) → count_of q (xs ++ j ∷ []) ≡ count_of q xs + (if is_from q j.source then 1 else 0)
 count-push q xs j = sum_by_push (λ place. if is_from q place.source then 1 else 0) xs j
+
+-- the items of a source, with one place more
+from_push : (q : ℕ) (xs : List Place) (j : Place) → items_from q (xs ++ j ∷ []) ≡ items_from q xs ++ (if is_from q j.source then j.item ∷ [] else [])
+from_push q [] j = go (is_from q j.source)
+  where
+    go : (b : Bool) → items (if b then j ∷ [] else []) ≡ (if b then j.item ∷ [] else [])
+    go true = refl
+    go false = refl
+from_push q (x ∷ xs) j = go (is_from q x.source) (from_push q xs j)
+  where
+    go : (b : Bool) → items_from q (xs ++ j ∷ []) ≡ items_from q xs ++ (if is_from q j.source then j.item ∷ [] else []) →
+        items (if b then x ∷ filter (λ place. is_from q place.source) (xs ++ j ∷ []) else filter (λ place. is_from q place.source) (xs ++ j ∷ [])) ≡
+        items (if b then x ∷ filter (λ place. is_from q place.source) xs else filter (λ place. is_from q place.source) xs) ++ (if is_from q j.source then j.item ∷ [] else [])
+    go true e = ap (λ is. x.item ∷ is) e
+    go false e = e
 
 edges_advance : (q : ℕ) (j : Place) (front : List Place) (es rs news : List (List Item)) → EdgesLeft q front es rs → EdgesTake q j rs news → EdgesLeft q (front ++ j ∷ []) es news
 edges_advance q j front [] [] [] l t = tt
@@ -33,19 +50,20 @@ edges_advance q j front [] [] (new ∷ news) l t = absurd t
 edges_advance q j front [] (r ∷ rs) news l t = absurd l
 edges_advance q j front (e ∷ es) [] news l t = absurd l
 edges_advance q j front (e ∷ es) (r ∷ rs) [] l t = absurd t
-edges_advance q j front (e ∷ es) (r ∷ rs) (new ∷ news) l t = (one (is_from q j.source) t.0 (count-push q front j), edges_advance (q + 1) j front es rs news l.1 t.1)
+edges_advance q j front (e ∷ es) (r ∷ rs) (new ∷ news) l t = (one (is_from q j.source) t.0 (count-push q front j) (from_push q front j), edges_advance (q + 1) j front es rs news l.1 t.1)
   where
-    one : (b : Bool) → TakesIf b j.item r new → count_of q (front ++ j ∷ []) ≡ count_of q front + (if b then 1 else 0) → IsLeft e (count_of q (front ++ j ∷ [])) new
-    one true k n = record {
+    one : (b : Bool) → TakesIf b j.item r new → count_of q (front ++ j ∷ []) ≡ count_of q front + (if b then 1 else 0) → items_from q (front ++ j ∷ []) ≡ items_from q front ++ (if b then j.item ∷ [] else []) → IsLeft e q (front ++ j ∷ []) new
+    one true k n m = record {
       gone = l.0.gone ++ j.item ∷ [];
       whole = l.0.whole ∙ (ap (λ x. l.0.gone ++ x) k ∙ sym (append_assoc l.0.gone (j.item ∷ []) new));
       long = omega (arith, length-append l.0.gone (j.item ∷ []), l.0.long, n);
+      are = ap (λ x. x ++ j.item ∷ []) l.0.are ∙ sym m;
     }
-    one false k n = record { gone = l.0.gone; whole = l.0.whole ∙ ap (λ x. l.0.gone ++ x) (sym k); long = omega (arith, l.0.long, n) }
+    one false k n m = record { gone = l.0.gone; whole = l.0.whole ∙ ap (λ x. l.0.gone ++ x) (sym k); long = omega (arith, l.0.long, n); are = l.0.are ∙ (sym (append-nil (items_from q front)) ∙ sym m) }
 
 edges_whole : (q : ℕ) (es : List (List Item)) → EdgesLeft q [] es es
 edges_whole q [] = tt
-edges_whole q (e ∷ es) = (record { gone = []; whole = refl; long = refl }, edges_whole (q + 1) es)
+edges_whole q (e ∷ es) = (record { gone = []; whole = refl; long = refl; are = refl }, edges_whole (q + 1) es)
 
 left_length : (q : ℕ) (front : List Place) (es rs : List (List Item)) → EdgesLeft q front es rs → length es ≡ length rs
 left_length q front [] [] l = refl

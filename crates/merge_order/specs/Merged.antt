@@ -64,6 +64,10 @@ is_from q (Some source) = source == q
 abbrev pub count_of : ℕ → List Place → ℕ
 count_of q places = count_by (λ place. is_from q place.source) places
 
+-- the items of source q among places, in order; a mark or an end is each source's
+abbrev pub items_from : ℕ → List Place → List Item
+items_from q places = items (filter (λ place. is_from q place.source) places)
+
 -- how many items of source q stand in the first places of the merged list
 abbrev pub used : ℕ → List (List Item) → ℕ → ℕ → ℕ
 used last edges q count = count_of q (take count (merged last edges))

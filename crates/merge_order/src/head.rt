@@ -1,5 +1,6 @@
 // The heads of the edges, and the least of them.
-ghost use Rattle.std.specs.Prelude.{◌≡◌, ◌<◌, ◌^◌, Some, length};
+ghost use Rattle.std.specs.Prelude.{◌≡◌, ◌<◌, Some, length};
+ghost use Rattle.tuple_edge.specs.Limits.{edge_limit};
 ghost use Rattle.merge_order.specs.MergeView.{all_wait, least, lesser};
 
 use crate::queue::Queue;
@@ -26,7 +27,7 @@ pub(crate) fn all_waiting(queues: &[Queue]) -> bool
 
 /// The least of the heads, where each queue has one.
 pub(crate) fn least_head(queues: &[Queue]) -> Option<Head>
-    requires { length queues.now < 2 ^ 32 }
+    requires { length queues.now < edge_limit }
     ensures { result ≡ least queues.now }
 {
     let mut best = None;

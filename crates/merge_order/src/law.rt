@@ -1,5 +1,5 @@
 // What holds of a merge over any order of calls, as contracts of functions that do nothing.
-ghost use Rattle.merge_order.specs.Counts.{AllAreUsed};
+ghost use Rattle.merge_order.specs.Counts.{AllAreUsed, EdgesStayInOrder};
 ghost use Rattle.merge_order.specs.Runs.{AnyOrderMerges, GivesAFront};
 
 /// After any order of offers of true items and of calls of `next`, a merge has given the next
@@ -18,4 +18,10 @@ pub fn gives_a_front()
 /// all items of all edges are used.
 pub fn all_are_used()
     ensures { AllAreUsed }
+{}
+
+/// The items of a source among the first places of a merged list are the first items of its edge, in
+/// order, as many as are used.
+pub fn edges_stay_in_order()
+    ensures { EdgesStayInOrder }
 {}

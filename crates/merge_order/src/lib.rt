@@ -11,8 +11,5 @@ mod law;
 mod merge;
 mod queue;
 
-pub use law::{all_are_used, any_order_merges, gives_a_front};
+pub use law::{all_are_used, any_order_merges, edges_stay_in_order, gives_a_front};
 pub use merge::{Merge, Offer};
-
-#[cfg(test)]
-mod tests;

@@ -1,5 +1,6 @@
 // The merge: what each edge has given, what waits, and how many items were merged.
-ghost use Rattle.std.specs.Prelude.{◌≡◌, ◌<◌, ◌≤◌, ◌+◌, ◌^◌, ◌↔◌, [], ℕ, List, None, Some, IfOk, IfSome, IsSome, IsTrue, OnErr, OnOk, OnSome, length, replicate, slice_get, slice_index_or, sum_by};
+ghost use Rattle.std.specs.Prelude.{◌≡◌, ◌<◌, ◌≤◌, ◌+◌, ◌↔◌, [], ℕ, List, None, Some, IfOk, IfSome, IsSome, IsTrue, OnErr, OnOk, OnSome, length, replicate, slice_get, slice_index_or, sum_by};
+ghost use Rattle.tuple_edge.specs.Limits.{number_limit};
 ghost use Rattle.tuple_edge.specs.declared.item.Item.{Item};
 ghost use Rattle.merge_order.specs.Edges.{AreEdges, edge_of, item_at};
 ghost use Rattle.merge_order.specs.Merged.{items, merged, used};
@@ -24,14 +25,15 @@ pub struct Merge {
 }
 
 impl Model for Merge {
-    ghost use Rattle.std.specs.Prelude.{◌≡◌, ◌<◌, ◌≤◌, ◌^◌, length};
+    ghost use Rattle.std.specs.Prelude.{◌≡◌, ◌<◌, ◌≤◌, length};
+    ghost use Rattle.tuple_edge.specs.Limits.{edge_limit};
     ghost use Rattle.merge_order.specs.MergeView.{MergeView};
 
     ghost Value = { MergeView };
 
     ghost view = { λ m. record { marks = m.marks.items; waiting = m.waiting.items; count = m.count } };
 
-    ghost invariant = { λ m. (1 ≤ length m.waiting.items) × (length m.waiting.items < 2 ^ 32) × (length m.marks.items ≡ length m.waiting.items) };
+    ghost invariant = { λ m. (1 ≤ length m.waiting.items) × (length m.waiting.items < edge_limit) × (length m.marks.items ≡ length m.waiting.items) };
 }
 
 /// What became of an item that was offered.
@@ -154,7 +156,7 @@ impl Merge {
 
     /// The next item of the merged list: the least head, where each edge has one.
     pub fn next(&mut self) -> Option<Item>
-        requires room { IsTrue (all_wait self.old.waiting) → self.old.count + 1 < 2 ^ 62 }
+        requires room { IsTrue (all_wait self.old.waiting) → self.old.count + 1 < number_limit }
         ensures known { IsSome result ↔ IsTrue (all_wait self.old.waiting) }
         ensures gives { result ≡ item_of (least self.old.waiting) }
         ensures first { IfSome (least self.old.waiting) (ComesFirst self.old.waiting) }
@@ -193,7 +195,7 @@ impl Merge {
 
     // Takes the least head, where each edge has one, from its own edge or from each that has it.
     fn take_least(&mut self) -> Option<Item>
-        requires room { IsTrue (all_wait self.old.waiting) → self.old.count + 1 < 2 ^ 62 }
+        requires room { IsTrue (all_wait self.old.waiting) → self.old.count + 1 < number_limit }
         ensures gives { result ≡ item_of (least self.old.waiting) }
         ensures after { self.new ≡ after_next self.old }
         ensures some { 1 ≤ length self.old.waiting }

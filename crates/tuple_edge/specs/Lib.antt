@@ -1,4 +1,7 @@
+pub mod Entries
+pub mod Input
 pub mod Item
+pub mod Limits
 pub mod Node
 pub mod NodeOrder
 pub mod Outbox

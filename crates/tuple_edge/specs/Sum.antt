@@ -1,10 +1,7 @@
 -- Numbers that stop at a bound, and their sums.
-use Rattle.std.specs.Prelude.{ℤ, ℕ, pos, neg_ℤ, ◌≤ℤ◌, ◌+ℤ◌, List, fold}
+use Rattle.std.specs.Prelude.{ℤ, pos, neg_ℤ, ◌≤ℤ◌, ◌+ℤ◌, List, fold}
 use Rattle.std.specs.Int.{int_max, int_min}
-
--- the bound of every field of every row
-abbrev pub big : ℕ
-big = 9000000000000000000
+pub use Rattle.tuple_edge.specs.Limits.{big}
 
 -- a number cut to the bounds
 abbrev pub clamp : ℤ → ℤ

@@ -26,6 +26,3 @@ pub use packet::{Body, Entry, Packet};
 pub use row::{Column, Key, Row, route};
 pub use status::Status;
 pub use sum::{BIG, saturating_sum_of};
-
-#[cfg(test)]
-mod tests;

@@ -30,14 +30,14 @@ impl Outbox {
         }
     }
 
-    /// Makes room for this many further packets.
+    /// Makes room for this many further packets. Where there is room already it is never refused.
     pub fn reserve(&mut self, items: usize) -> Result<(), OutOfMemory>
         ensures packets { self.new.packets ≡ self.old.packets }
         ensures spare { OnOk result (items ≤ self.new.spare) }
         ensures kept { self.old.spare ≤ self.new.spare }
         ensures unchanged { OnErr result (self.new ≡ self.old) }
 
-        // Where there is room already no memory is asked for.
+        // What is there already is never refused.
         ensures refused { OnErr result (self.old.spare < items) }
     {
         match self.packets.reserve(items) {
@@ -46,11 +46,11 @@ impl Outbox {
         }
     }
 
-    /// Appends a packet for a receiver. It takes no memory.
+    /// Appends a packet for a receiver. It takes one place of the room, and can't fail.
     pub fn push(&mut self, to: NodeId, body: Body)
         requires { 1 ≤ self.old.spare }
         ensures packets { self.new.packets ≡ self.old.packets ++ (to, body) ∷ [] }
-        ensures spare { self.old.spare ≤ self.new.spare + 1 }
+        ensures spare { self.new.spare + 1 ≡ self.old.spare }
     {
         self.packets.push_reserved((to, body));
     }

@@ -1,8 +1,9 @@
 // A producer beside a plain program that looks at all numbers.
 ghost use Rattle.std.specs.Prelude.{◌<◌};
 
-use crate::{Due, Producer};
+use crate::drawn::shuffled;
 use ack_buffer::AckBuffer;
+use flux_producer::{Due, Producer};
 use std::process::Abort;
 use std::test::Fail;
 use tuple_edge::{Item, OutOfMemory};
@@ -97,13 +98,6 @@ impl Plain {
         let next = self.low[to].wrapping_add(1);
         self.cursors[to] = [next, next];
     }
-}
-
-// The next of a fixed row of numbers without order.
-fn shuffled(number: u64) -> u64 {
-    number
-        .wrapping_mul(6_364_136_223_846_793_005)
-        .wrapping_add(1_442_695_040_888_963_407)
 }
 
 // One call of each kind, drawn by a number, on both.

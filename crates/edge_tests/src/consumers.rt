@@ -1,5 +1,6 @@
 // A consumer beside plain lists.
-use crate::Consumer;
+use crate::drawn::shuffled;
+use flux_consumer::Consumer;
 use merge_order::Offer;
 use std::process::Abort;
 use std::test::Fail;
@@ -22,13 +23,6 @@ fn takes_and_tells(rt: HostRuntime) -> Result<(), Fail> {
     assert_eq!(rt; consumer.next(), Some(item));
     assert_eq!(rt; consumer.merge().count(), 1);
     Ok(())
-}
-
-// The next of a fixed row of numbers without order.
-fn shuffled(number: u64) -> u64 {
-    number
-        .wrapping_mul(6_364_136_223_846_793_005)
-        .wrapping_add(1_442_695_040_888_963_407)
 }
 
 fn row(stamp: u64) -> Item {

@@ -1,5 +1,6 @@
 // A buffer beside a plain list of all that was produced.
-use crate::AckBuffer;
+use crate::drawn::shuffled;
+use ack_buffer::AckBuffer;
 use std::test::Fail;
 use tuple_edge::Item;
 
@@ -23,13 +24,6 @@ fn counts_what_was_acknowledged_first(rt: HostRuntime) -> Result<(), Fail> {
     assert_eq!(rt; buffer.get(4), Some(item(4)));
     assert_eq!(rt; buffer.get(5), None);
     Ok(())
-}
-
-// The next of a fixed row of numbers without order.
-fn shuffled(number: u64) -> u64 {
-    number
-        .wrapping_mul(6_364_136_223_846_793_005)
-        .wrapping_add(1_442_695_040_888_963_407)
 }
 
 // Some thousand mixed calls, beside a list of all that was produced.

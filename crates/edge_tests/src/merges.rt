@@ -1,5 +1,5 @@
 // Three edges whose merged list is worked out by hand, and several orders in which their items come.
-use crate::{Merge, Offer};
+use merge_order::{Merge, Offer};
 use std::alloc::Global;
 use std::process::Abort;
 use std::test::Fail;

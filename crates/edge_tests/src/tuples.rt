@@ -1,6 +1,6 @@
 // Values worked out by hand, and an outbox that is used once.
-use crate::{Body, Column, Item, NodeId, Outbox, Row, Which, route, saturating_sum_of};
 use std::test::Fail;
+use tuple_edge::{Body, Column, Item, NodeId, Outbox, Row, Which, route, saturating_sum_of};
 
 fn row(symbol: i64) -> Row {
     Row {

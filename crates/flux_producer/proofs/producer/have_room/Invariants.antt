@@ -1,0 +1,7 @@
+use Rattle.std.proofs.Common.{◌≤◌, ◌<◌, ℕ}
+use Rattle.std.specs.Prelude.{slice_index_or}
+use Rattle.flux_producer.specs.OutEdge.{unused}
+use Rattle.flux_producer.proofs.producer.have_room.Given as goal
+
+abbrev pub invariant-loop-to : goal.invariant-loop-to
+invariant-loop-to l = (t : ℕ) → t < l.to → l.items ≤ (slice_index_or l.edges t unused).buffer.spare

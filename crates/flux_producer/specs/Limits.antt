@@ -1,0 +1,6 @@
+-- The limits of producers.
+use Rattle.std.specs.Prelude.{ℕ}
+
+-- a consumer has at most so many replicas, and at least one
+abbrev pub max_copies : ℕ
+max_copies = 2
