@@ -1,5 +1,5 @@
 // The board, and the calls that threads make between its making and its closing.
-ghost use Rattle.std.specs.Prelude.{◌≡◌, ◌+◌, ◌<◌, ◌≤◌, length, vec_len, vec_capacity};
+ghost use Rattle.std.specs.Prelude.{◌≡◌, ◌+◌, ◌<◌, ◌≤◌, length};
 
 use crate::rule::{Claim, Halt, Look, OfBoard, Opening, Release};
 use crate::seat::BoardSeat;
@@ -21,9 +21,6 @@ pub struct Taken {
 pub struct Board<T: Named> {
     pub(crate) table: Table<Option<T>, SeatView<T>, Opening<T>, OfBoard<T>, Global>,
     pub(crate) places: usize,
-    // Empty, with room for all values: what `close` gives them in.
-    pub(crate) list: Vec<T>,
-    ghost room: { (vec_len list ≡ 0) × (places ≤ vec_capacity list) },
     ghost word_count: { table.shared.table_id.words ≡ places + 1 },
     ghost slot_count: { table.shared.table_id.slots ≡ places },
     ghost value_count: { length table.shared.key.values.value.items ≡ places },

@@ -28,15 +28,12 @@ impl<T: Named> Board<T> {
         let Some(all) = self.gather(seats) else {
             unreachable!()
         };
-        let Board {
-            table,
-            places,
-            list,
-        } = self;
+        let Board { table, places } = self;
         let BoardSeat {
             seat,
             number: _,
             held: _,
+            list,
         } = all;
         let closed = table.close_with(seat);
         take_all(&before, closed, list, places)
@@ -67,6 +64,7 @@ impl<T: Named> Board<T> {
             seat: other,
             number: _,
             held: _,
+            list: _,
         } = other;
         self.table.shared.join_seat::<Both>(&mut seat.seat, other);
     }

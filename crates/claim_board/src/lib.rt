@@ -25,6 +25,3 @@ pub use law::{all_joined_is_alone, each_is_once};
 pub use memory::OutOfMemory;
 pub use seat::BoardSeat;
 pub use view::Named;
-
-#[cfg(test)]
-mod tests;

@@ -45,15 +45,12 @@ impl<T: Named> Board<T> {
             Ok(made) => made,
             Err(Refused { slots: _ }) => return Err(OutOfMemory),
         };
-        let board = Board {
-            table,
-            places,
-            list,
-        };
+        let board = Board { table, places };
         let first = BoardSeat {
             seat,
             number: 1,
             held,
+            list,
         };
         let all = board.all_seats(alloc, first, seats)?;
         Ok((board, all))
@@ -76,7 +73,8 @@ impl<T: Named> Board<T> {
         let mut all = Vec::with_capacity(alloc, count as usize)?;
         for made in 1..count {
             let held = VecDeque::with_capacity(alloc, self.places)?;
-            let next = self.split(&mut first, held, made as u64 + 1);
+            let list = Vec::with_capacity(alloc, self.places)?;
+            let next = self.split(&mut first, held, list, made as u64 + 1);
             all.push_reserved(next);
         }
         all.push_reserved(first);
@@ -85,15 +83,27 @@ impl<T: Named> Board<T> {
     }
 
     // Splits off the seat of the next number.
-    fn split(&self, seat: &mut BoardSeat<T>, held: VecDeque<usize>, number: u64) -> BoardSeat<T>
+    fn split(
+        &self,
+        seat: &mut BoardSeat<T>,
+        held: VecDeque<usize>,
+        list: Vec<T>,
+        number: u64,
+    ) -> BoardSeat<T>
         requires seat { IsSeatOf self.now seat.old × ((seat_view seat.old).makes ≡ true) }
         requires number { (number ≡ (seat_view seat.old).made + 1) × (number ≤ seats_of self.now) }
         requires held { (held.items ≡ []) × (length (opening_of self.now) ≤ deque_capacity held) }
+        requires list { (vec_len list ≡ 0) × (length (opening_of self.now) ≤ vec_capacity list) }
         ensures seat { IsSeatOf self.now seat.new × (seat_view seat.new ≡ with_next (seat_view seat.old)) }
         ensures other { IsSeatOf self.now result × (seat_view result ≡ next_seat (seat_view seat.old)) }
     {
         let seat = self.table.shared.split_seat::<Next>(&mut seat.seat);
-        BoardSeat { seat, number, held }
+        BoardSeat {
+            seat,
+            number,
+            held,
+            list,
+        }
     }
 }
 

@@ -1,5 +1,5 @@
 // A seat, and the order of the places that it holds.
-ghost use Rattle.std.specs.Prelude.{◌≡◌, ℕ, ◌≤◌, true, length};
+ghost use Rattle.std.specs.Prelude.{◌≡◌, ℕ, ◌≤◌, true, length, vec_len, vec_capacity};
 ghost use Rattle.std.specs.VecDeque.{deque_capacity};
 ghost use Rattle.claim_board.specs.Lists.{is_in, is_distinct, all_below, places_of, rotated};
 
@@ -17,6 +17,9 @@ pub struct BoardSeat<T> {
     pub(crate) number: u64,
     // The places held, in the order of the seat's slots, with room for all places.
     pub(crate) held: VecDeque<usize>,
+    // Empty, with room for all values: what `close` gives them in. A board that had it could not be shared
+    // by threads, unless the values could.
+    pub(crate) list: Vec<T>,
     ghost is_live: { seat.me.0.live ≡ true },
     ghost is_number: { number ≡ seat.me.0.number },
     ghost in_order: { places_of seat.me.1 ≡ held.items },
@@ -24,6 +27,7 @@ pub struct BoardSeat<T> {
     ghost distinct: { is_distinct held.items ≡ true },
     ghost below: { all_below (length seat.me.0.opening) held.items ≡ true },
     ghost room: { length seat.me.0.opening ≤ deque_capacity held },
+    ghost list_room: { (vec_len list ≡ 0) × (length seat.me.0.opening ≤ vec_capacity list) },
 }
 
 impl<T> BoardSeat<T> {

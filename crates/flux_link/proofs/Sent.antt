@@ -74,12 +74,15 @@ module _ (P : Arrival → Type 0) where
       (All-append P (at_own_place choice arrival) (option_to_list held) (own_place_all choice arrival first) of_held)
       (treated_all choices (left_behind choice arrival) later (left_behind_all choice arrival first) (of_later P arrival later all))
 
--- where the first packets sent came, what is given of them by choices was sent
+-- where the first packets sent came, each was sent at its place
+pub front_was_sent : (sent : List Packet) (arrivals : List Arrival) → IsPrefix arrivals (numbered sent) → All (WasSent sent) arrivals
+front_was_sent sent arrivals prefix = of_front (WasSent sent) arrivals (numbered sent) prefix (numbered_sent sent [] sent refl)
+
+-- what is given by choices of arrivals that were sent was sent
 pub given_was_sent : (sent : List Packet) (arrivals before waiting : List Arrival) (choices : List Choice)
-    → IsPrefix arrivals (numbered sent) → All (WasSent sent) (given_but_for waiting choices (arrivals_since before arrivals))
-given_was_sent sent arrivals before waiting choices prefix =
+    → All (WasSent sent) arrivals → All (WasSent sent) (given_but_for waiting choices (arrivals_since before arrivals))
+given_was_sent sent arrivals before waiting choices were_sent =
     All-take (WasSent sent) (length (treated choices (arrivals_since before arrivals)) - length waiting)
     (treated choices (arrivals_since before arrivals))
     (treated_all (WasSent sent) choices None (arrivals_since before arrivals) (of_none (WasSent sent))
-    (All-drop (WasSent sent) (length before) arrivals
-    (of_front (WasSent sent) arrivals (numbered sent) prefix (numbered_sent sent [] sent refl))))
+    (All-drop (WasSent sent) (length before) arrivals were_sent))

@@ -1,6 +1,7 @@
 pub mod Arrivals
 pub mod Choices
 pub mod Identity
+pub mod Limits
 pub mod LossyInlets
 pub mod MemLinkView
 pub mod RingViews

@@ -1,9 +1,10 @@
 -- How far an inlet has come that treats the arrivals of another one by choices.
 use Rattle.flux_link.specs.Choices.{treated, left_behind}
+use Rattle.flux_link.specs.Limits.{max_ahead}
 use Rattle.flux_link.specs.declared.arrival.Arrival.{Arrival}
 use Rattle.flux_link.specs.declared.lossy.Choice.{Choice}
 use Rattle.flux_link.specs.declared.lossy.Choice.TheVariants.{Pass}
-use Rattle.std.specs.Prelude.{◌≡◌, ◌≤◌, ℕ, ◌+◌, ◌-◌, ◌^◌, List, [], ◌∷◌, ◌++◌, length, min, take, drop, Option, None, slice_index_or}
+use Rattle.std.specs.Prelude.{◌≡◌, ◌≤◌, ℕ, ◌+◌, ◌-◌, List, [], ◌∷◌, ◌++◌, length, min, take, drop, Option, None, slice_index_or}
 
 -- the arrivals of a list behind the first ones, which are as many as `before`
 abbrev pub arrivals_since : List Arrival → List Arrival → List Arrival
@@ -35,4 +36,4 @@ pub record IsTreating (before arrivals : List Arrival) (choices : List Choice) (
   pub waits : given_but_for ready choices (arrivals_since before arrivals) ++ ready
       ≡ treated choices (arrivals_since before arrivals)
   pub few : taken + (length choices - next) + (1 - length ready)
-      ≤ length (given_but_for ready choices (arrivals_since before arrivals)) + 2 ^ 61
+      ≤ length (given_but_for ready choices (arrivals_since before arrivals)) + max_ahead

@@ -22,6 +22,3 @@ pub use lossy::{Choice, LossyIn};
 pub use memory::MemLink;
 pub use rings::{RING_PACKETS, RingIn, RingOut, ring};
 pub use traits::{Inlet, Outlet};
-
-#[cfg(test)]
-mod tests;

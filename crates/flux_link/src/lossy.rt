@@ -1,4 +1,5 @@
 // An inlet for tests that drops, repeats and reorders what another one gives.
+ghost use Rattle.flux_link.specs.Limits.{max_ahead, max_taken};
 ghost use Rattle.flux_link.specs.Treating.{IsTreating};
 
 use crate::ready::{Ready, held_back};
@@ -36,14 +37,15 @@ pub struct LossyIn<I: Inlet> {
 impl<I: Inlet> LossyIn<I> {
     ghost use Rattle.flux_link.specs.Treating.{choice_after};
     ghost use Rattle.flux_link.specs.LossyInlets.{inner_of, choices_of, inner_arrivals, given_by, taken_by, steps_left, InnerKeepsAll};
-    ghost use Rattle.std.specs.Prelude.{◌≡◌, ◌<◌, ◌≤◌, ◌+◌, ◌-◌, ◌^◌, ◌++◌, ◌∷◌, [], length, IfSome, MatchOption};
+    ghost use Rattle.flux_link.specs.declared.arrival.Arrival.{Arrival};
+    ghost use Rattle.std.specs.Prelude.{◌≡◌, ◌<◌, ◌≤◌, ◌+◌, ◌-◌, ◌++◌, ◌∷◌, [], length, IfSome, MatchOption, None, Some};
     ghost use Rattle.std.specs.Bool.{OnTrue, OnFalse};
     ghost use mathlib.Core.List.{IsPrefix};
 
     /// An inlet that treats the n-th packet that it takes from `inner` by the n-th choice, and passes
     /// those past the end of the choices.
     pub fn new(inner: I, choices: Vec<Choice>) -> LossyIn<I>
-        requires fits { I.taken inner + length choices.items < 2 ^ 61 }
+        requires fits { I.taken inner + length choices.items < max_ahead }
         ensures inner { inner_of result ≡ inner }
         ensures choices { choices_of result ≡ choices.items }
         ensures untouched { inner_arrivals result ≡ [] }
@@ -71,7 +73,7 @@ impl<I: Inlet> LossyIn<I> {
     // Takes one packet of the inner inlet and makes ready what its choice gives; false where that inlet gives none.
     fn treat_next(&mut self) -> bool
         requires ready { self.old.ready ≡ [] }
-        requires fits { I.taken self.old.inner < 2 ^ 62 }
+        requires fits { I.taken self.old.inner < max_taken }
         ensures link { I.identity self.new.inner ≡ I.identity self.old.inner }
         ensures choices { self.new.choices ≡ self.old.choices }
         ensures given { given_by self.new ≡ given_by self.old }
@@ -80,6 +82,9 @@ impl<I: Inlet> LossyIn<I> {
         ensures taken { taken_by self.new + (1 - length self.new.ready) ≤ taken_by self.old + 1 }
         ensures nearer { OnTrue result (steps_left self.new < steps_left self.old) }
         ensures spent { OnFalse result ((self.new.ready ≡ []) × IfSome (I.coming self.new.inner) (λ packets. packets ≡ [])) }
+        // It asks the inner inlet once.
+        ensures came { OnTrue result ((arrival : Arrival) × I.receives self.old.inner (Some arrival) self.new.inner) }
+        ensures none { OnFalse result (I.receives self.old.inner None self.new.inner) }
     {
         let choice = self.choice();
         let Some(arrival) = self.inner.recv() else {
@@ -105,9 +110,9 @@ impl<I: Inlet> LossyIn<I> {
 
 impl<I: Inlet> Inlet for LossyIn<I> {
     ghost use Rattle.flux_link.specs.Choices.{treated};
-    ghost use Rattle.flux_link.specs.LossyInlets.{inner_of, choices_of, inner_arrivals, given_by, taken_by, InnerKeepsAll};
+    ghost use Rattle.flux_link.specs.LossyInlets.{inner_of, choices_of, inner_arrivals, given_by, taken_by, AskedToItsEnd, InnerKeepsAll};
     ghost use Rattle.std.proofs.Common.{arith};
-    ghost use Rattle.std.specs.Prelude.{◌≡◌, ◌<◌, ◌≤◌, ◌+◌, ◌^◌, ◌++◌, ◌∷◌, [], None, IfNone, IfSome, MatchOption};
+    ghost use Rattle.std.specs.Prelude.{◌≡◌, ◌<◌, ◌≤◌, ◌+◌, ◌++◌, ◌∷◌, [], None, IfNone, IfSome, MatchOption};
     ghost use mathlib.Core.List.{IsPrefix};
 
     ghost given = { λ lossy. given_by lossy };
@@ -118,8 +123,10 @@ impl<I: Inlet> Inlet for LossyIn<I> {
 
     ghost taken = { λ lossy. taken_by lossy };
 
+    ghost receives = { λ before result after. IfNone result (AskedToItsEnd before after) };
+
     fn recv(&mut self) -> Option<Arrival>
-        requires fits { taken_by self.old < 2 ^ 62 }
+        requires fits { taken_by self.old < max_taken }
         ensures link { I.identity (inner_of self.new) ≡ I.identity (inner_of self.old) }
         ensures choices { choices_of self.new ≡ choices_of self.old }
         ensures given { MatchOption result (given_by self.new ≡ given_by self.old)
@@ -132,7 +139,9 @@ impl<I: Inlet> Inlet for LossyIn<I> {
         // It gives what the choices make of the arrivals of the inner inlet, and all of it before it gives none.
         ensures front { IsPrefix (given_by self.new) (treated (choices_of self.new) (inner_arrivals self.new)) }
         ensures whole { IfNone result (given_by self.new ≡ treated (choices_of self.new) (inner_arrivals self.new)) }
-        // An inner inlet that tells what is still to come has nothing more.
+        // It gives none only where the inner inlet did in this call, last of all. Where that tells what is still to come,
+        // it has nothing more.
+        ensures none { IfNone result (AskedToItsEnd self.old self.new) }
         ensures spent { IfNone result (IfSome (I.coming (inner_of self.new)) (λ packets. packets ≡ [])) }
     {
         loop {

@@ -1,7 +1,8 @@
 // Both ends of an exact link in one hand.
 ghost use Rattle.flux_link.specs.Arrivals.{numbered};
+ghost use Rattle.flux_link.specs.Limits.{max_taken};
 ghost use Rattle.flux_link.specs.MemLinkView.{all_sent, free_room};
-ghost use Rattle.std.specs.Prelude.{◌≡◌, ◌<◌, ◌-◌, ◌^◌, [], ◌∷◌, ◌++◌, length, IfOk, OnOk, OnErr, IfErr, IfNone, IfSome, IsErr, IsNone, MatchResult, Some, ◌↔◌};
+ghost use Rattle.std.specs.Prelude.{◌≡◌, ◌<◌, ◌-◌, [], ◌∷◌, ◌++◌, length, IfOk, OnOk, OnErr, IfErr, IfNone, IfSome, IsErr, IsNone, MatchResult, Some, ◌↔◌};
 
 use crate::{Arrival, Inlet, Outlet};
 use rtrb::{Consumer, Producer, RingBuffer};
@@ -78,9 +79,11 @@ impl Inlet for MemLink {
 
     ghost taken = { λ link. length link.given };
 
+    ghost receives = { λ before result after. IfNone result ((after ≡ before) × (after.waiting ≡ [])) };
+
     #[tactic(auto, using(crate::proofs::Numbered::numbered_push))]
     fn recv(&mut self) -> Option<Arrival>
-        requires fits { length self.old.given < 2 ^ 62 }
+        requires fits { length self.old.given < max_taken }
         ensures first { IfSome result (λ arrival. self.old.waiting ≡ arrival.packet ∷ self.new.waiting) }
         ensures gives { IfSome result (λ arrival.
             self.new ≡ record self.old { given = self.old.given ++ arrival.packet ∷ []; waiting = self.new.waiting }) }

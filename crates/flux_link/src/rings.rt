@@ -1,6 +1,7 @@
 // A link of 128 places whose two ends may go to two threads.
 ghost use Rattle.flux_link.specs.Arrivals.{numbered};
-ghost use Rattle.std.specs.Prelude.{◌≡◌, ◌<◌, ◌≤◌, ◌+◌, ◌^◌, [], ◌∷◌, ◌++◌, length, IfOk, OnOk, OnErr, IfErr, IsOk, IsSome, IfNone, IfSome, None};
+ghost use Rattle.flux_link.specs.Limits.{max_taken, ring_packets};
+ghost use Rattle.std.specs.Prelude.{◌≡◌, ◌<◌, ◌≤◌, ◌+◌, [], ◌∷◌, ◌++◌, length, IfOk, OnOk, OnErr, IfErr, IsOk, IsSome, IfNone, IfSome, None};
 ghost use mathlib.Core.List.{IsPrefix};
 
 use crate::{Arrival, Inlet, Outlet};
@@ -81,9 +82,11 @@ impl Inlet for RingIn {
 
     ghost taken = { λ inlet. length inlet.given };
 
+    ghost receives = { λ before result after. IfNone result ((after ≡ before) × (after.known_waiting ≡ [])) };
+
     #[tactic(auto, using(crate::proofs::Numbered::numbered_push))]
     fn recv(&mut self) -> Option<Arrival>
-        requires fits { length self.old.given < 2 ^ 62 }
+        requires fits { length self.old.given < max_taken }
         ensures link { self.new.identity ≡ self.old.identity }
         ensures gives { IfSome result (λ arrival. self.new.given ≡ self.old.given ++ arrival.packet ∷ []) }
         ensures place { IfSome result (λ arrival. numbered self.new.given ≡ numbered self.old.given ++ arrival ∷ []) }
@@ -105,7 +108,8 @@ impl Inlet for RingIn {
 }
 
 impl RingIn {
-    ghost use Rattle.std.specs.Prelude.{◌≡◌, ◌++◌};
+    ghost use Rattle.flux_link.specs.Arrivals.{WasSent};
+    ghost use Rattle.std.specs.Prelude.{◌≡◌, ◌++◌, All};
 
     /// With both ends in one hand: the arrivals given are the first packets sent, each with its place,
     /// and the inlet knows the others to be waiting. What was sent and what was given stay the same.
@@ -116,6 +120,7 @@ impl RingIn {
         ensures sent { outlet.new.sent ≡ outlet.old.sent }
         ensures rest { self.new.given ++ self.new.known_waiting ≡ outlet.new.sent }
         ensures prefix { IsPrefix (numbered self.new.given) (numbered outlet.new.sent) }
+        ensures arrivals { All (WasSent outlet.new.sent) (numbered self.new.given) }
     {
         self.consumer.slots_beside(&mut outlet.producer);
     }
@@ -124,7 +129,8 @@ impl RingIn {
 /// A link of 128 places with nothing sent, by its two ends.
 pub fn ring(alloc: Global) -> Result<(RingOut, RingIn), OutOfMemory>
     ensures empty { IfOk result (λ ends. (ends.0.sent ≡ []) × (ends.1.given ≡ [])) }
-    ensures room { IfOk result (λ ends. ends.0.known_free ≡ RING_PACKETS) }
+    ensures room { IfOk result (λ ends. ends.0.known_free ≡ ring_packets) }
+    ensures limit { RING_PACKETS ≡ ring_packets }
     ensures link { IfOk result (λ ends. ends.0.identity ≡ ends.1.identity) }
 {
     let (producer, consumer) = RingBuffer::new(alloc, RING_PACKETS)?;

@@ -1,7 +1,8 @@
 // The two ends of a link, by what they have sent and given.
 ghost use Rattle.flux_link.specs.Identity.{Identity};
+ghost use Rattle.flux_link.specs.Limits.{max_ahead, max_taken};
 ghost use Rattle.flux_link.specs.declared.arrival.Arrival.{Arrival};
-ghost use Rattle.std.specs.Prelude.{◌≡◌, ◌<◌, ◌≤◌, ◌+◌, ◌-◌, ◌^◌, ℕ, List, [], ◌∷◌, ◌++◌, length, Option, Some, OnOk, OnErr, IfErr, IfSome, IfNone, MatchOption, MatchResult};
+ghost use Rattle.std.specs.Prelude.{◌≡◌, ◌<◌, ◌≤◌, ◌+◌, ◌-◌, ℕ, List, [], ◌∷◌, ◌++◌, length, Option, Some, OnOk, OnErr, IfErr, IfSome, IfNone, MatchOption, MatchResult};
 ghost use Rattle.tuple_edge.specs.declared.packet.Packet.{Packet};
 
 use crate::Arrival;
@@ -44,19 +45,24 @@ pub trait Inlet {
     /// How many packets it has taken from the link, with those that it may yet take and not give.
     ghost taken: { Self → ℕ };
 
+    /// That a call of `recv` at the first inlet gave this and left the second. Of an inlet of which
+    /// nothing more is known only the call itself can show it.
+    ghost receives: { Self → Option Arrival → Self → Type 0 };
+
     /// The next arrival; None where none is to be had. An inlet that tells what is still to come
     /// gives exactly that, and None exactly where nothing is. It never waits, and takes no memory.
     fn recv(&mut self) -> Option<Arrival>
-        requires fits { taken self.old < 2 ^ 62 }
+        requires fits { taken self.old < max_taken }
         ensures link { identity self.new ≡ identity self.old }
         ensures given { MatchOption result (given self.new ≡ given self.old)
             (λ arrival. given self.new ≡ given self.old ++ arrival ∷ []) }
         ensures taken { MatchOption result (taken self.new ≤ taken self.old)
             (λ _. taken self.new ≤ taken self.old + 1) }
+        ensures call { receives self.old result self.new }
         ensures unchanged { IfNone result (coming self.new ≡ coming self.old) }
         ensures coming { IfSome (coming self.old) (λ packets. MatchOption result (packets ≡ [])
             (λ arrival. (later : List Packet) × (packets ≡ arrival.packet ∷ later) × (coming self.new ≡ Some later))) };
 
-    /// So `recv` can be called wherever fewer than 2^61 arrivals were given.
-    ghost few: { (inlet : Self) → taken inlet ≤ length (given inlet) + 2 ^ 61 };
+    /// So `recv` may be called wherever fewer than 2^62 arrivals were given.
+    ghost few: { (inlet : Self) → taken inlet ≤ length (given inlet) + max_ahead };
 }

@@ -7,4 +7,4 @@ pub returns-clause-arrivals : goal.returns-clause-arrivals
 returns-clause-arrivals c =
     let s = c.args.self.now in
     given_was_sent c.settle.new.outlet.sent (numbered c.settle.new.self.given)
-    (numbered s.opening.value.given) s.ready (choices_of s) c.settle.ensures.prefix
+    (numbered s.opening.value.given) s.ready (choices_of s) c.settle.ensures.arrivals

@@ -1,10 +1,11 @@
 use Rattle.flux_link.proofs.lossy.LossyInInlet.recv.Goals as goal
+use Rattle.flux_link.proofs.Asking.{leads_on}
 use Rattle.flux_link.proofs.Coming.{keeps_on}
 use Rattle.flux_link.proofs.Fronts.{grows_on}
 use Rattle.flux_link.specs.Arrivals.{KeepsAll}
-use Rattle.flux_link.specs.LossyInlets.{inner_arrivals}
+use Rattle.flux_link.specs.LossyInlets.{Leads, inner_arrivals}
 use Rattle.flux_link.specs.Treating.{arrivals_since}
-use Rattle.std.proofs.Common.{◌≡◌, ap, subst, ◌∙◌, length, arith, rules}
+use Rattle.std.proofs.Common.{◌≡◌, ap, subst, ◌∙◌, ◌++◌, ◌∷◌, [], length, sym, arith, rules}
 use mathlib.Core.List.{IsPrefix}
 
 pub treat_next-requires-clause-fits : goal.treat_next-requires-clause-fits
@@ -32,6 +33,15 @@ returns-then-not-treat_next-clause-taken g c =
       ap (λ v. length v.items) c.treat_next.ensures.choices,
     )
 
+pub returns-then-not-treat_next-clause-none : goal.returns-then-not-treat_next-clause-none
+returns-then-not-treat_next-clause-none g c =
+    let before = c.loop-arrival.invariant.asked in (
+      c.take_ready.new.self.inner,
+      before.0,
+      subst (λ i. Leads g.I.Inlet.receives before.0 c.args.self.now.inner i) (sym c.take_ready.ensures.inner.0) before.1,
+      c.if-not-treat_next.ensures.none,
+    )
+
 pub loop-arrival-smaller : goal.loop-arrival-smaller
 loop-arrival-smaller g c =
     let same = c.take_ready.ensures.choices in
@@ -53,6 +63,10 @@ loop-arrival-preserved g c =
           c.loop-arrival.invariant.all
           (subst (λ i. KeepsAll (g.I.Inlet.coming i) (g.I.Inlet.given i) (g.I.Inlet.coming c.treat_next.new.self.inner) (g.I.Inlet.given c.treat_next.new.self.inner))
           c.take_ready.ensures.inner.0 c.treat_next.ensures.all);
+      asked =
+          let came = c.if-not-treat_next.ensures.came in
+          let before = c.loop-arrival.invariant.asked in
+          (before.0 ++ came.0 ∷ [], leads_on g.I.Inlet.receives before.0 _ _ _ came.0 (subst (λ i. Leads g.I.Inlet.receives before.0 c.args.self.now.inner i) (sym c.take_ready.ensures.inner.0) before.1) came.1);
       given = search rules;
       taken = omega (
         arith,
