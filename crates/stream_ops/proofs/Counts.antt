@@ -11,9 +11,11 @@ use Rattle.tuple_edge.specs.declared.row.Key.{Key}
 use Rattle.tuple_edge.specs.declared.row.Row.{Row}
 use Rattle.stream_ops.specs.Keys.{is_key, key_of}
 use Rattle.stream_ops.specs.Rows.{keys_among, keys_in, rows_of, rows_with, with_key}
-use Rattle.stream_ops.specs.State.{Keeps}
+use Rattle.stream_ops.specs.Kept.{Keeps}
 use Rattle.stream_ops.specs.declared.spec.By.{By}
-use Rattle.stream_ops.proofs.Keyed.{same_key}
+use Rattle.std.specs.BTreeMap.{insert_entry}
+use Rattle.stream_ops.specs.Keys.{key_cmp}
+use Rattle.stream_ops.proofs.Keyed.{keys-insert, lookup-insert, same_key}
 
 pub rows_of-append : (xs ys : List Item) → rows_of (xs ++ ys) ≡ rows_of xs ++ rows_of ys
 rows_of-append [] ys = refl
@@ -54,6 +56,15 @@ Keeps-next kept_of next push by old new before stamp r key key_is had puts = rec
       (sym (ap kept_of (rows_with-push by before stamp r q) ∙ kept-push_by kept_of next push by before r q (is_key (key_of by r) q) refl));
   keys = puts.1 ∙ rw (key_is, had.keys) (sym (keys_in-push by before stamp r));
 }
+
+-- the same of entries in which it was put
+pub Keeps-insert : {X : Type 0} (kept_of : List Row → Option X) (next : Option X → Row → X) → ((rows : List Row) (r : Row) → kept_of (rows ++ r ∷ []) ≡ Some (next (kept_of rows) r))
+    → (by : By) (old new : List (Key × X)) (before : List Item) (stamp : ℕ) (r : Row) (key : Key)
+    → key ≡ key_of by r → Keeps kept_of by old before → new ≡ insert_entry key_cmp old key (next (lookup (is_key key) old) r)
+    → Keeps kept_of by new (before ++ item.Row stamp r ∷ [])
+Keeps-insert kept_of next push by old new before stamp r key key_is had inserts =
+    Keeps-next kept_of next push by old new before stamp r key key_is had
+    (λ q. ap (lookup (is_key q)) inserts ∙ lookup-insert key q (next (lookup (is_key key) old) r) old, ap keys_of inserts ∙ keys-insert old key (next (lookup (is_key key) old) r))
 
 -- what is kept of items is kept of others with the same rows
 pub Keeps-same : {X : Type 0} (kept_of : List Row → Option X) (by : By) (kept : List (Key × X)) (xs ys : List Item)

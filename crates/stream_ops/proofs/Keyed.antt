@@ -1,6 +1,6 @@
 -- Keys in their order.
-use Rattle.std.proofs.Common.{◌≡◌, ℤ, Bool, true, false, List, [], ◌∷◌, refl, ap}
-use Rattle.std.specs.Cmp.{IsTotalOrder, Equal-is}
+use Rattle.std.proofs.Common.{◌≡◌, ℤ, Bool, true, false, cond, List, [], ◌∷◌, refl, sym, ap, ◌∙◌, Option, Some}
+use Rattle.std.specs.Cmp.{IsTotalOrder, Equal-is, eq_by_cmp_equiv}
 use Rattle.std.specs.declared.cmp.Ordering.{Ordering}
 use Rattle.std.specs.declared.cmp.Ordering.TheVariants.{Less, Equal, Greater}
 use Rattle.std.specs.BTreeMap.{insert_entry, is_at}
@@ -56,3 +56,42 @@ keys-had [] k sorted had =
     let h : false ≡ true = had in
     cc
 keys-had (e ∷ es) k sorted had = keys-had_by e es k (key_cmp k e.0) refl sorted had (λ h. keys-had es k (sorted_tail key_cmp e.0 (keys_of es) sorted) h)
+
+-- a key is itself, and a key that is another is that other's too
+pub self_key : (k : Key) → is_key k k ≡ true
+self_key k = (eq_by_cmp_equiv key_cmp_total).refl k
+
+pub is_key-symm : (a b : Key) → is_key a b ≡ is_key b a
+is_key-symm a b = (eq_by_cmp_equiv key_cmp_total).symm a b
+
+-- what an insertion leaves at each key
+lookup-insert_equal : {X : Type 0} (e : Key × X) (es : List (Key × X)) (k q : Key) (v : X) (t : Bool) → is_key k q ≡ t → key_cmp k e.0 ≡ Equal
+    → cond (is_key q e.0) (Some v) (lookup (is_key q) es) ≡ cond t (Some v) (cond (is_key q e.0) (Some e.1) (lookup (is_key q) es))
+lookup-insert_equal e es k q v true is equal =
+    let there : k ≡ e.0 = same_key k e.0 (rw equal refl) in
+    let here : is_key q e.0 ≡ true = ap (is_key q) (sym there) ∙ is_key-symm q k ∙ is in
+    rw here refl
+lookup-insert_equal e es k q v false is equal =
+    let there : k ≡ e.0 = same_key k e.0 (rw equal refl) in
+    let here : is_key q e.0 ≡ false = ap (is_key q) (sym there) ∙ is_key-symm q k ∙ is in
+    rw here refl
+
+lookup-insert_greater : {X : Type 0} (e : Key × X) (es : List (Key × X)) (k q : Key) (v : X) (later : Option X) (t : Bool) → is_key q e.0 ≡ t → key_cmp k e.0 ≡ Greater
+    → later ≡ cond (is_key k q) (Some v) (lookup (is_key q) es)
+    → cond t (Some e.1) later ≡ cond (is_key k q) (Some v) (cond t (Some e.1) (lookup (is_key q) es))
+lookup-insert_greater e es k q v later false is greater same = same
+lookup-insert_greater e es k q v later true is greater same =
+    let there : q ≡ e.0 = same_key q e.0 is in
+    let apart : is_key k q ≡ false = ap (is_key k) there ∙ rw greater refl in
+    rw apart refl
+
+lookup-insert_by : {X : Type 0} (e : Key × X) (es : List (Key × X)) (k q : Key) (v : X) (o : Ordering) → key_cmp k e.0 ≡ o
+    → lookup (is_key q) (insert_entry key_cmp es k v) ≡ cond (is_key k q) (Some v) (lookup (is_key q) es)
+    → lookup (is_key q) (insert_entry key_cmp (e ∷ es) k v) ≡ cond (is_key k q) (Some v) (lookup (is_key q) (e ∷ es))
+lookup-insert_by e es k q v Less is later = rw is (ap (λ t. cond t (Some v) (lookup (is_key q) (e ∷ es))) (is_key-symm q k))
+lookup-insert_by e es k q v Equal is later = rw is (lookup-insert_equal e es k q v (is_key k q) refl is)
+lookup-insert_by e es k q v Greater is later = rw is (lookup-insert_greater e es k q v (lookup (is_key q) (insert_entry key_cmp es k v)) (is_key q e.0) refl is later)
+
+pub lookup-insert : {X : Type 0} (k q : Key) (v : X) (es : List (Key × X)) → lookup (is_key q) (insert_entry key_cmp es k v) ≡ cond (is_key k q) (Some v) (lookup (is_key q) es)
+lookup-insert k q v [] = ap (λ t. cond t (Some v) (lookup (is_key q) [])) (is_key-symm q k)
+lookup-insert k q v (e ∷ es) = lookup-insert_by e es k q v (key_cmp k e.0) refl (lookup-insert k q v es)

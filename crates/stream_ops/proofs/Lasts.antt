@@ -5,9 +5,9 @@ use Rattle.std.proofs.lemmas.List.Sums.{fold-append}
 use Rattle.circular_buffer.specs.Buffer.{Buffer, buffer, keep_last}
 use Rattle.tuple_edge.specs.Sum.{saturating_sum, total_of}
 use Rattle.tuple_edge.specs.declared.row.Row.{Row}
-use Rattle.stream_ops.specs.State.{last_of_rows, total_of_rows}
-use Rattle.stream_ops.specs.Steps.{last_with, no_sums, sums_with, total_with}
-use Rattle.stream_ops.specs.Sums.{amounts, sums_of}
+use Rattle.stream_ops.specs.Kept.{last_of_rows, total_of_rows}
+use Rattle.stream_ops.specs.Steps.{last_with, no_sums, total_with}
+use Rattle.stream_ops.specs.Sums.{amounts, sums_of, sums_with}
 use Rattle.stream_ops.specs.declared.sums.Sums.{Sums}
 
 -- a sum with one more row

@@ -1,5 +1,5 @@
 -- Windows: their bounds, and what one more row does to a key's level and to the rows of that level.
-use Rattle.std.proofs.Common.{◌≡◌, ℤ, pos, negsuc, ◌*ℤ◌, ◌≤ℤ◌, Bool, true, false, cond, List, [], ◌∷◌, ◌++◌, refl, sym, ap, ◌∙◌, Some, option_map, arith, FitsSigned, w64, int_lt, append_assoc}
+use Rattle.std.proofs.Common.{◌≡◌, ℤ, pos, negsuc, ◌*ℤ◌, ◌≤ℤ◌, Bool, true, false, cond, List, [], ◌∷◌, ◌++◌, refl, sym, ap, ◌∙◌, Some, arith, FitsSigned, w64, int_lt, append_assoc}
 use Rattle.std.specs.Int.{int_max, int_div_euclid}
 use Rattle.std.specs.Ordering.{int_eq}
 use Rattle.std.proofs.lemmas.Int.{ints, clamps}
@@ -10,9 +10,9 @@ use Rattle.tuple_edge.specs.declared.row.Key.{Key}
 use Rattle.tuple_edge.specs.declared.row.Row.{Row}
 use Rattle.stream_ops.proofs.Lasts.{sums_of-with}
 use Rattle.stream_ops.specs.Answers.{window_answer}
-use Rattle.stream_ops.specs.State.{open_window, window_of_rows}
-use Rattle.stream_ops.specs.Steps.{closed_by, opened_by, sums_with, told_window, window_with}
-use Rattle.stream_ops.specs.Sums.{amounts, sums_of}
+use Rattle.stream_ops.specs.Kept.{open_window, window_of_rows}
+use Rattle.stream_ops.specs.Steps.{closed_by, opened_by, told_closed, window_with}
+use Rattle.stream_ops.specs.Sums.{amounts, sums_of, sums_with}
 use Rattle.stream_ops.specs.Windows.{level, level_from, rows_at, rows_at_from, window_of}
 use Rattle.stream_ops.specs.declared.sums.Sums.{Sums}
 use Rattle.stream_ops.specs.declared.window.OpenWindow.{OpenWindow}
@@ -125,12 +125,12 @@ window-push width [] r = ap Some (first_open width r)
 window-push width (x ∷ rows) r = ap Some (open-push_by width x rows r (int_lt (level width (x ∷ rows)) (window_of width r)) refl)
 
 answer_by : (width : ℤ) (k : Key) (x : Row) (rows : List Row) (r : Row) (t : Bool) → int_lt (level width (x ∷ rows)) (window_of width r) ≡ t
-    → option_map (told_window k) (closed_by (window_of_rows width (x ∷ rows)) (opened_by width r)) ≡ window_answer width k (x ∷ rows) r
+    → told_closed k (closed_by (window_of_rows width (x ∷ rows)) (opened_by width r)) ≡ window_answer width k (x ∷ rows) r
 answer_by width k x rows r true is = rw (level-push width x rows r, max_of_less (level width (x ∷ rows)) (window_of width r) is, is) refl
 answer_by width k x rows r false is = rw (level-push width x rows r, max_of_more (level width (x ∷ rows)) (window_of width r) is, is, less_self (level width (x ∷ rows))) refl
 
 -- the answer to it
 pub window_answers : (width : ℤ) (k : Key) (rows : List Row) (r : Row)
-    → option_map (told_window k) (closed_by (window_of_rows width rows) (opened_by width r)) ≡ window_answer width k rows r
+    → told_closed k (closed_by (window_of_rows width rows) (opened_by width r)) ≡ window_answer width k rows r
 window_answers width k [] r = refl
 window_answers width k (x ∷ rows) r = answer_by width k x rows r (int_lt (level width (x ∷ rows)) (window_of width r)) refl

@@ -1,5 +1,5 @@
 -- What an operator answers to an item, after the items before it.
-use Rattle.std.specs.Prelude.{ℤ, ◌*ℤ◌, List, [], ◌∷◌, ◌++◌, Option, Some, None, option_to_list, if◌then◌else◌, map, int_lt}
+use Rattle.std.specs.Prelude.{ℤ, ◌*ℤ◌, List, [], ◌∷◌, ◌++◌, if◌then◌else◌, map, int_lt}
 use Rattle.circular_buffer.specs.Buffer.{keep_last}
 use Rattle.tuple_edge.specs.Row.{column_of}
 use Rattle.tuple_edge.specs.declared.item.Item.{Item}
@@ -7,6 +7,7 @@ use Rattle.tuple_edge.specs.declared.item.Item.TheVariants as item
 use Rattle.tuple_edge.specs.declared.row.Key.{Key}
 use Rattle.tuple_edge.specs.declared.row.Row.{Row}
 use Rattle.stream_ops.specs.Compares.{holds}
+use Rattle.stream_ops.specs.Joins.{is_left, join_answer}
 use Rattle.stream_ops.specs.Keys.{key_of}
 pub use Rattle.stream_ops.specs.Rows.{rows_of}
 use Rattle.stream_ops.specs.Rows.{keys_in, rows_with}
@@ -20,23 +21,25 @@ abbrev pub window_row : ℤ → Key → List Row → Row
 window_row width k rows = sums_row (level width rows *ℤ width) k (sums_of (rows_at width (level width rows) rows))
 
 -- a window answers a key's next row where it raises the level: with the window that was open
-abbrev pub window_answer : ℤ → Key → List Row → Row → Option Row
-window_answer width k [] r = None
+abbrev pub window_answer : ℤ → Key → List Row → Row → List Row
+window_answer width k [] r = []
 window_answer width k (x ∷ rows) r =
-    if int_lt (level width (x ∷ rows)) (level width (x ∷ rows ++ r ∷ [])) then Some (window_row width k (x ∷ rows)) else None
+    if int_lt (level width (x ∷ rows)) (level width (x ∷ rows ++ r ∷ [])) then window_row width k (x ∷ rows) ∷ [] else []
 
 -- a crossing answers a key's next row where it takes the value's size above the limit or back
-abbrev pub crossing_answer : ℤ → Key → List Row → Row → Option Row
+abbrev pub crossing_answer : ℤ → Key → List Row → Row → List Row
 crossing_answer limit k rows r =
-    if crosses limit (sums_of rows).value (sums_of (rows ++ r ∷ [])).value then Some (sums_row r.time k (sums_of (rows ++ r ∷ []))) else None
+    if crosses limit (sums_of rows).value (sums_of (rows ++ r ∷ [])).value then sums_row r.time k (sums_of (rows ++ r ∷ [])) ∷ [] else []
 
 -- the answer to a row
-abbrev pub row_answer : OpSpec → List Item → Row → Option Row
-row_answer (op.Keep column compare limit) before r = if holds compare (column_of column r) limit then Some r else None
-row_answer (op.Total by) before r = Some (sums_row r.time (key_of by r) (sums_of (rows_with by before (key_of by r) ++ r ∷ [])))
-row_answer (op.Last by n) before r = Some (sums_row r.time (key_of by r) (sums_of (keep_last n (rows_with by before (key_of by r) ++ r ∷ []))))
+abbrev pub row_answer : OpSpec → List Item → Row → List Row
+row_answer (op.Keep column compare limit) before r = if holds compare (column_of column r) limit then r ∷ [] else []
+row_answer (op.Total by) before r = sums_row r.time (key_of by r) (sums_of (rows_with by before (key_of by r) ++ r ∷ [])) ∷ []
+row_answer (op.Last by n) before r = sums_row r.time (key_of by r) (sums_of (keep_last n (rows_with by before (key_of by r) ++ r ∷ []))) ∷ []
 row_answer (op.Window by width) before r = window_answer width (key_of by r) (rows_with by before (key_of by r)) r
 row_answer (op.Crossing by limit) before r = crossing_answer limit (key_of by r) (rows_with by before (key_of by r)) r
+row_answer (op.Join by width n column compare limit) before r =
+    join_answer width n (is_left column compare limit) (key_of by r) (rows_with by before (key_of by r)) r
 
 -- the answer to the end: a window tells of each key's open one, in the order of keys
 abbrev pub end_answer : OpSpec → List Item → List Row
@@ -45,10 +48,11 @@ end_answer (op.Total by) before = []
 end_answer (op.Last by n) before = []
 end_answer (op.Window by width) before = map (λ k. window_row width k (rows_with by before k)) (keys_in by before)
 end_answer (op.Crossing by limit) before = []
+end_answer (op.Join by width n column compare limit) before = []
 
 -- the answer to an item, after the items before it
 abbrev pub answer : OpSpec → List Item → Item → List Row
-answer spec before (item.Row stamp row) = option_to_list (row_answer spec before row)
+answer spec before (item.Row stamp row) = row_answer spec before row
 answer spec before (item.Mark stamp) = []
 answer spec before (item.End stamp) = end_answer spec before
 

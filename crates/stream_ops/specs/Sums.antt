@@ -1,6 +1,6 @@
 -- The sums of rows, and the rows that tell them.
 use Rattle.std.specs.Prelude.{ℤ, pos, Bool, not, List, map, int_lt, unsigned_abs, if◌then◌else◌}
-use Rattle.tuple_edge.specs.Sum.{total_of}
+use Rattle.tuple_edge.specs.Sum.{saturating_sum, total_of}
 use Rattle.tuple_edge.specs.declared.row.Key.{Key}
 use Rattle.tuple_edge.specs.declared.row.Row.{Row}
 use Rattle.stream_ops.specs.declared.sums.Sums.{Sums}
@@ -12,6 +12,10 @@ sums_of rows = record { qty = total_of (map (λ r. r.qty) rows); value = total_o
 -- the qty and value of a row
 abbrev pub amounts : Row → Sums
 amounts r = record { qty = r.qty; value = r.value }
+
+-- sums and more, each stopped at the bounds
+abbrev pub sums_with : Sums → Sums → Sums
+sums_with sums more = record { qty = saturating_sum sums.qty more.qty; value = saturating_sum sums.value more.value }
 
 -- the row that tells a key's sums at a time
 abbrev pub sums_row : ℤ → Key → Sums → Row

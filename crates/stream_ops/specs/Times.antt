@@ -2,11 +2,11 @@
 use Rattle.std.specs.Prelude.{ℤ, pos, ◌≤ℤ◌}
 use Rattle.tuple_edge.specs.declared.item.Item.{Item}
 use Rattle.tuple_edge.specs.declared.item.Item.TheVariants as item
-use Rattle.stream_ops.specs.declared.spec.TheConstants.{MAX_TIME_SECONDS}
+use Rattle.stream_ops.specs.Limits.{max_time_seconds}
 
 -- a time within its limits
 abbrev pub IsTime : ℤ → Type 0
-IsTime t = (pos 0 ≤ℤ t) × (t ≤ℤ MAX_TIME_SECONDS)
+IsTime t = (pos 0 ≤ℤ t) × (t ≤ℤ max_time_seconds)
 
 -- the time of an item's row, if it has one, is within its limits
 abbrev pub IsTimely : Item → Type 0

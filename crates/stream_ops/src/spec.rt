@@ -2,11 +2,15 @@
 ghost use Rattle.std.specs.Prelude.{◌≡◌};
 ghost use Rattle.stream_ops.specs.Compares.{holds};
 ghost use Rattle.stream_ops.specs.Keys.{key_of};
+ghost use Rattle.stream_ops.specs.Spec.{is_join};
 
 use tuple_edge::{Column, Key, Row};
 
 /// The greatest number of rows that a `last` keeps for a key.
 pub const MAX_LAST_ROWS: u32 = 64;
+
+/// The greatest number of rows that a `join` keeps of each side of a key.
+pub const MAX_JOIN_ROWS: u32 = 4;
 
 /// The greatest width of a window, in seconds.
 pub const MAX_WINDOW_SECONDS: i64 = 1_000_000;
@@ -64,6 +68,27 @@ pub enum OpSpec {
         by: By,
         limit: i64,
     },
+    /// Answers each row with its pairs: one row for each of the key's last `rows` rows of the other
+    /// side that lies in the same window of time, with the sums of both. A row is left where its
+    /// column compares so with the limit, and right where it does not. `width` is in seconds: 1 to
+    /// [`MAX_WINDOW_SECONDS`]. `rows` is 1 to [`MAX_JOIN_ROWS`].
+    Join {
+        by: By,
+        width: i64,
+        rows: u32,
+        column: Column,
+        compare: Compare,
+        limit: i64,
+    },
+}
+
+impl OpSpec {
+    /// Whether it is a join.
+    pub fn is_join(self) -> bool
+        ensures { result ≡ is_join self }
+    {
+        matches!(self, OpSpec::Join { .. })
+    }
 }
 
 impl By {

@@ -1,48 +1,20 @@
 // An operator, with what it keeps of the items that it was given.
-ghost use Rattle.std.specs.Prelude.{ℕ, ◌≡◌, ◌≤◌, ◌∷◌, ◌++◌, [], List, IfOk, OnErr, OnOk, length};
-ghost use Rattle.stream_ops.specs.Answers.{IsOpen, answer, end_answer, row_answer};
+ghost use Rattle.std.specs.Prelude.{ℕ, IfSome, slice_get, ◌≡◌, ◌≤◌, ◌∷◌, ◌++◌, [], List, Some, None, IfOk, OnErr, OnOk, length};
+ghost use Rattle.stream_ops.specs.Answers.{IsOpen, answer};
+ghost use Rattle.join_stage.specs.Store.{first_where};
+ghost use Rattle.std.specs.Option.{option_and_then};
+ghost use Rattle.stream_ops.specs.Entries.{IsKeyed, entries, is_after, last_place};
+ghost use Rattle.tuple_edge.specs.declared.packet.Entry.{Entry};
 ghost use Rattle.stream_ops.specs.Spec.{IsSpec};
-ghost use Rattle.stream_ops.specs.State.{StandsFor, key_count, most_of, unseen};
-ghost use Rattle.stream_ops.specs.Times.{IsTime, IsTimely};
-ghost use Rattle.tuple_edge.specs.declared.item.Item.TheVariants as item;
+ghost use Rattle.stream_ops.specs.State.{IsNextEntry, StandsFor, most_after, rebuilt, unseen};
+ghost use Rattle.stream_ops.specs.Times.{IsTimely};
 ghost use Rattle.tuple_edge.specs.declared.item.Item.{Item};
 
-use crate::kept::{closing, count, crossing, note, push, sums_at, write_windows};
-use crate::{By, Compare, OpSpec, OpenWindow, Sums};
-use circular_buffer::HeapCircularBuffer;
+use crate::OpSpec;
+use crate::operator::Operator;
 use std::alloc::Global;
-use std::collections::BTreeMap;
 use std::marker::Model;
-use tuple_edge::{Column, Item, Key, OutOfMemory, Row};
-
-// An operator's settings, with what it keeps for each key.
-#[derive(Drop)]
-enum Operator {
-    Keep {
-        column: Column,
-        compare: Compare,
-        limit: i64,
-    },
-    Total {
-        by: By,
-        totals: BTreeMap<Key, Sums>,
-    },
-    Last {
-        by: By,
-        rows: u32,
-        last_rows: BTreeMap<Key, HeapCircularBuffer<Sums>>,
-    },
-    Window {
-        by: By,
-        width: i64,
-        windows: BTreeMap<Key, OpenWindow>,
-    },
-    Crossing {
-        by: By,
-        limit: i64,
-        totals: BTreeMap<Key, Sums>,
-    },
-}
+use tuple_edge::{Entry, Item, Key, OutOfMemory, Row};
 
 /// An operator and what it keeps of the items that it was given: no more than its answers need.
 #[derive(Drop)]
@@ -52,15 +24,14 @@ pub struct OpState {
 }
 
 impl Model for OpState {
-    ghost use Rattle.stream_ops.specs.Spec.{IsSpec};
     ghost use Rattle.stream_ops.specs.State.{StateView};
-    ghost use Rattle.stream_ops.specs.View.{seen};
+    ghost use Rattle.stream_ops.specs.View.{IsSound, seen};
 
     ghost Value = { StateView };
 
     ghost view = { λ s. seen s.operator };
 
-    ghost invariant = { λ s. IsSpec (seen s.operator).spec };
+    ghost invariant = { λ s. IsSound s.operator };
 }
 
 impl OpState {
@@ -70,61 +41,22 @@ impl OpState {
         ensures unseen { result ≡ unseen spec }
         ensures stands { StandsFor result [] }
     {
-        let operator = match spec {
-            OpSpec::Keep {
-                column,
-                compare,
-                limit,
-            } => Operator::Keep {
-                column,
-                compare,
-                limit,
-            },
-            OpSpec::Total { by } => Operator::Total {
-                by,
-                totals: BTreeMap::new(alloc),
-            },
-            OpSpec::Last { by, rows } => Operator::Last {
-                by,
-                rows,
-                last_rows: BTreeMap::new(alloc),
-            },
-            OpSpec::Window { by, width } => Operator::Window {
-                by,
-                width,
-                windows: BTreeMap::new(alloc),
-            },
-            OpSpec::Crossing { by, limit } => Operator::Crossing {
-                by,
-                limit,
-                totals: BTreeMap::new(alloc),
-            },
-        };
-        OpState { alloc, operator }
-    }
-
-    /// At least how many rows `step` would append for this item.
-    pub fn most(&self, item: &Item) -> u64
-        ensures value { result ≡ most_of self.now item.now }
-        ensures enough { (before : List Item) → IsOpen before → StandsFor self.now before → length (answer self.now.spec before item.now) ≤ result }
-    {
-        match item {
-            Item::Row { .. } => 1,
-            Item::Mark { .. } => 0,
-            Item::End { .. } => self.key_count() as u64,
+        OpState {
+            alloc,
+            operator: Operator::new(alloc, spec),
         }
     }
 
-    // For how many keys something is kept.
-    fn key_count(&self) -> usize
-        ensures { result ≡ key_count self.now }
+    /// At least how many rows `step` would append for this item: 1 for a row, or as many as a join
+    /// keeps of a side; none for a mark, and for the end the number of keys.
+    pub fn most(&self, item: &Item) -> u64
+        ensures value { (before : List Item) → StandsFor self.now before → result ≡ most_after self.now.spec before item.now }
+        ensures enough { (before : List Item) → IsOpen before → StandsFor self.now before → length (answer self.now.spec before item.now) ≤ result }
     {
-        match &self.operator {
-            Operator::Keep { .. } => 0,
-            Operator::Total { totals, .. } => totals.len(),
-            Operator::Last { last_rows, .. } => last_rows.len(),
-            Operator::Window { windows, .. } => windows.len(),
-            Operator::Crossing { totals, .. } => totals.len(),
+        match item {
+            Item::Row { .. } => self.operator.most_rows(),
+            Item::Mark { .. } => 0,
+            Item::End { .. } => self.operator.key_count() as u64,
         }
     }
 
@@ -136,98 +68,80 @@ impl OpState {
         ensures stands { OnOk result ((before : List Item) → IsOpen before → StandsFor self.old before
             → StandsFor self.new (before ++ item ∷ [])) }
         ensures spec { self.new.spec ≡ self.old.spec }
+
+        // What was kept when a watch began stays.
+        ensures old { self.new.old ≡ self.old.old }
         ensures err { OnErr result ((self.new ≡ self.old) × (out.new.items ≡ out.old.items)) }
     {
         match item {
             Item::Row { row, .. } => {
-                out.reserve(1)?;
-                if let Some(answer) = self.take(&row)? {
-                    out.push_reserved(answer);
-                }
+                self.operator.take(self.alloc, &row, out)?;
                 Ok(())
             }
             Item::Mark { .. } => Ok(()),
             Item::End { .. } => {
-                self.finish(out)?;
+                self.operator.finish(out)?;
                 Ok(())
             }
         }
     }
 
-    // Appends the rows that answer the end.
-    fn finish(&self, out: &mut Vec<Row>) -> Result<(), OutOfMemory>
-        ensures answers { OnOk result ((before : List Item) → StandsFor self.now before
-            → out.new.items ≡ out.old.items ++ end_answer self.now.spec before) }
-        ensures err { OnErr result (out.new.items ≡ out.old.items) }
+    /// Begins a watch: the present entries are the old ones from now on, whatever the steps change.
+    /// A former watch ends. It takes no memory.
+    pub fn watch(&mut self)
+        ensures { self.new ≡ record self.old { old = Some self.old.entries } }
     {
-        match &self.operator {
-            Operator::Keep { .. } => Ok(()),
-            Operator::Total { .. } => Ok(()),
-            Operator::Last { .. } => Ok(()),
-            Operator::Window { windows, .. } => {
-                write_windows(windows, out)?;
-                Ok(())
-            }
-            Operator::Crossing { .. } => Ok(()),
-        }
+        self.operator.watch();
     }
 
-    // Takes the next row, and gives the row that answers it, if any.
-    fn take(&mut self, row: &Row) -> Result<Option<Row>, OutOfMemory>
-        requires { IsTime row.now.time }
-        ensures answers { IfOk result (λ answered. (before : List Item) → StandsFor self.old before
-            → answered ≡ row_answer self.old.spec before row.now) }
-        ensures stands { OnOk result ((before : List Item) (stamp : ℕ) → StandsFor self.old before
-            → StandsFor self.new (before ++ item.Row stamp row.now ∷ [])) }
-        ensures spec { self.new.spec ≡ self.old.spec }
+    /// Ends the watch. It takes no memory.
+    pub fn unwatch(&mut self)
+        ensures { self.new ≡ record self.old { old = None } }
+    {
+        self.operator.unwatch();
+    }
+
+    /// How many entries tell of what it keeps.
+    pub fn entry_count(&self) -> u64
+        ensures { result ≡ length self.now.entries }
+    {
+        self.operator.entry_count()
+    }
+
+    /// What it keeps, as entries in the order of (key, slot).
+    pub fn entries(&self, alloc: Global) -> Result<Vec<Entry>, OutOfMemory>
+        ensures entries { IfOk result (λ es. es.items ≡ self.now.entries) }
+        ensures stands { IfOk result (λ es. (before : List Item) → StandsFor self.now before → es.items ≡ entries self.now.spec before) }
+    {
+        let mut entries = Vec::new(alloc);
+        self.operator.add_entries(&mut entries)?;
+        Ok(entries)
+    }
+
+    /// Puts back one entry, the next one of a state of the same settings.
+    pub fn put_entry(&mut self, entry: Entry) -> Result<(), OutOfMemory>
+        requires unwatched { self.old.old ≡ None }
+        requires next { IsNextEntry self.old.spec self.old.entries entry }
+        ensures adds { OnOk result (self.new ≡ rebuilt self.old.spec (self.old.entries ++ entry ∷ [])) }
+
+        // Once all entries after some items are put back, the state stands for these items.
+        ensures stands { OnOk result ((items : List Item) → entries self.old.spec items ≡ self.old.entries ++ entry ∷ []
+            → StandsFor self.new items) }
         ensures err { OnErr result (self.new ≡ self.old) }
     {
-        let alloc = self.alloc;
-        match self.operator {
-            Operator::Keep {
-                column,
-                compare,
-                limit,
-            } => {
-                if compare.holds(row.get(column), limit) {
-                    Ok(Some(*row))
-                } else {
-                    Ok(None)
-                }
-            }
-            Operator::Total { by, ref mut totals } => {
-                let key = by.key(row);
-                let sums = count(totals, key, row)?;
-                Ok(Some(sums.row(&row.time, &key)))
-            }
-            Operator::Last {
-                by,
-                rows,
-                ref mut last_rows,
-            } => {
-                let key = by.key(row);
-                let sums = push(alloc, last_rows, key, &rows, row)?;
-                Ok(Some(sums.row(&row.time, &key)))
-            }
-            Operator::Window {
-                by,
-                width,
-                ref mut windows,
-            } => {
-                let key = by.key(row);
-                let closed = note(windows, key, &width, row)?;
-                Ok(closing(&closed, &key))
-            }
-            Operator::Crossing {
-                by,
-                limit,
-                ref mut totals,
-            } => {
-                let key = by.key(row);
-                let before = sums_at(totals, &key);
-                let after = count(totals, key, row)?;
-                Ok(crossing(&before, &after, &limit, &row.time, &key))
-            }
-        }
+        self.operator.put(self.alloc, &entry)
+    }
+
+    /// The first of the old entries whose (key, slot) is above this one, or the first of all. None
+    /// exactly where there is no such entry, or no watch.
+    pub fn old_after(&self, after: Option<(Key, u32)>) -> Option<Entry>
+        ensures value { result ≡ option_and_then (first_where (is_after after)) self.now.old }
+
+        // After the place of the n-th of them, or after none, comes the next one.
+        ensures in_turn { (old : List Entry) (n : ℕ) → self.now.old ≡ Some old → n ≤ length old → after ≡ last_place n old
+            → result ≡ slice_get old n }
+        ensures keyed { IfSome result IsKeyed }
+    {
+        self.operator.old_after(&after)
     }
 }

@@ -12,14 +12,24 @@ pub struct Sums {
 
 impl Sums {
     ghost use Rattle.std.specs.Prelude.{◌≡◌};
-    ghost use Rattle.stream_ops.specs.Sums.{amounts, is_above, sums_row};
-    ghost use Rattle.stream_ops.specs.Steps.{no_sums, sums_with};
+    ghost use Rattle.stream_ops.specs.Sums.{amounts, is_above, sums_row, sums_with};
+    ghost use Rattle.stream_ops.specs.Steps.{no_sums};
 
     // The sums of no rows.
     pub(crate) fn none() -> Sums
         ensures { result ≡ no_sums }
     {
         Sums { qty: 0, value: 0 }
+    }
+
+    // The sums that an entry tells.
+    pub(crate) fn told(qty: &i64, value: &i64) -> Sums
+        ensures { result ≡ record { qty = qty.now; value = value.now } }
+    {
+        Sums {
+            qty: *qty,
+            value: *value,
+        }
     }
 
     // The quantity and value of a row.

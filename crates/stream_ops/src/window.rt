@@ -17,7 +17,7 @@ pub struct OpenWindow {
 }
 
 // The number of the window that a row's time lies in.
-fn window_at(width: &i64, row: &Row) -> i64
+pub(crate) fn window_at(width: &i64, row: &Row) -> i64
     requires { pos 1 ≤ℤ width.now }
     ensures { result ≡ window_of width.now row.now }
 {
@@ -34,15 +34,15 @@ fn start_of(number: &i64, width: &i64) -> i64
 
 impl OpenWindow {
     ghost use Rattle.stream_ops.specs.Spec.{IsSpec};
-    ghost use Rattle.stream_ops.specs.Steps.{closed_by, opened_by, sums_with, told_window, window_with};
-    ghost use Rattle.stream_ops.specs.Sums.{amounts};
+    ghost use Rattle.stream_ops.specs.Steps.{closed_by, opened_by, told_window_row, window_with};
+    ghost use Rattle.stream_ops.specs.Sums.{amounts, sums_with};
     ghost use Rattle.stream_ops.specs.Times.{IsTime};
-    ghost use Rattle.stream_ops.specs.declared.spec.TheConstants.{MAX_WINDOW_SECONDS};
+    ghost use Rattle.stream_ops.specs.Limits.{max_window_seconds};
 
     // The window that a row opens.
     pub(crate) fn at(width: &i64, row: &Row) -> OpenWindow
         requires timely { IsTime row.now.time }
-        requires width { (pos 1 ≤ℤ width.now) × (width.now ≤ℤ MAX_WINDOW_SECONDS) }
+        requires width { (pos 1 ≤ℤ width.now) × (width.now ≤ℤ max_window_seconds) }
         ensures { result ≡ opened_by width.now row.now }
     {
         let number = window_at(width, row);
@@ -51,6 +51,14 @@ impl OpenWindow {
             &start_of(&number, width),
             &Sums::none().with(&Sums::of(row)),
         )
+    }
+
+    // The window of this number, with these sums.
+    pub(crate) fn numbered(number: &i64, width: &i64, sums: &Sums) -> OpenWindow
+        requires { FitsSigned w64 (number.now *ℤ width.now) }
+        ensures { result ≡ record { number = number.now; start = number.now *ℤ width.now; sums = sums.now } }
+    {
+        OpenWindow::starting(number, &start_of(number, width), sums)
     }
 
     fn starting(number: &i64, start: &i64, sums: &Sums) -> OpenWindow
@@ -109,7 +117,7 @@ impl OpenWindow {
 
     // The row that tells of the window.
     pub(crate) fn row(&self, key: &Key) -> Row
-        ensures { result ≡ told_window key.now self.now }
+        ensures { result ≡ told_window_row key.now self.now }
     {
         self.sums.row(&self.start, key)
     }

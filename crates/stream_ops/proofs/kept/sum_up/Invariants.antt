@@ -1,5 +1,6 @@
 use Rattle.std.proofs.Common.{◌≡◌, fold}
-use Rattle.stream_ops.specs.Steps.{no_sums, sums_with}
+use Rattle.stream_ops.specs.Steps.{no_sums}
+use Rattle.stream_ops.specs.Sums.{sums_with}
 use Rattle.stream_ops.proofs.kept.sum_up.Given as goal
 
 abbrev pub invariant-loop-more : goal.invariant-loop-more

@@ -1,0 +1,6 @@
+pub mod Images
+pub mod Counting
+pub mod LastSides
+pub mod Copied
+pub mod Pairs
+pub mod JoinAfter

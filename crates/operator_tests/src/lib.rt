@@ -1,0 +1,17 @@
+//! Tests of the operators by their public calls: rows worked out by hand, the entries of a past
+//! moment beside a copy, and many keys. The crate has no code of its own: it stands above stream_ops
+//! so that stream_ops is proved once, and not a second time with its tests.
+#![tactic(auto)]
+
+#[cfg(test)]
+mod answers;
+#[cfg(test)]
+mod fixture;
+#[cfg(test)]
+mod join_state;
+#[cfg(test)]
+mod joins;
+#[cfg(test)]
+mod many_keys;
+#[cfg(test)]
+mod watches;
