@@ -85,19 +85,33 @@ window_plain = fixed_plain (codes "window") (omega arith) (omega arith) refl
 crossing_plain : IsPlainWord (codes "crossing")
 crossing_plain = fixed_plain (codes "crossing") (omega arith) (omega arith) refl
 
+join_plain : IsPlainWord (codes "join")
+join_plain = fixed_plain (codes "join") (omega arith) (omega arith) refl
+
 op_plain : (o : OpSpec) → IsSpec o → IsLimit o → ArePlainWords (op_words o)
 op_plain (op.Keep c k z) spec limit = (keep_plain, (column_plain c, (compare_plain k, (within_plain z limit, tt))))
 op_plain (op.Total b) spec limit = (total_plain, (by_plain b, tt))
 op_plain (op.Last b rows) spec limit = (last_plain, (by_plain b, (decimal_plain rows (omega (arith, spec.1)), tt)))
 op_plain (op.Window b width) spec limit = (window_plain, (by_plain b, (signed_plain width (omega (arith, ints, spec.0, spec.1)), tt)))
 op_plain (op.Crossing b z) spec limit = (crossing_plain, (by_plain b, (within_plain z limit, tt)))
+op_plain (op.Join b width rows c k z) spec limit = (
+  join_plain,
+  (
+    by_plain b,
+    (
+      signed_plain width (omega (arith, ints, spec.0, spec.1)),
+      (decimal_plain rows (omega (arith, spec.3)), (column_plain c, (compare_plain k, (within_plain z limit, tt)))),
+    ),
+  ),
+)
 
-op_few : (o : OpSpec) → length (op_words o) ≤ 4
+op_few : (o : OpSpec) → length (op_words o) ≤ 7
 op_few (op.Keep c k z) = omega arith
 op_few (op.Total b) = omega arith
 op_few (op.Last b rows) = omega arith
 op_few (op.Window b width) = omega arith
 op_few (op.Crossing b z) = omega arith
+op_few (op.Join b width rows c k z) = omega arith
 
 stage_plain : (number : ℕ) (s : Stage) → number ≤ 7 → IsStage s → IsPlainLine (stage_words number s)
 stage_plain number s small within = record {
@@ -128,16 +142,9 @@ stages_plain number (s ∷ stages) small within = (
 setting_plain : (name : Word) (n : ℕ) → IsPlainWord name → counts (name ∷ decimal n ∷ []) ≡ true → n < 10000000000000000000 → IsPlainLine (name ∷ decimal n ∷ [])
 setting_plain name n plain counted small = record { counts = counted; few = omega arith; plain = (plain, (decimal_plain n small, tt)) }
 
-version_plain : IsPlainLine (codes "flux" ∷ codes "1" ∷ [])
-version_plain = record {
-  counts = refl;
-  few = omega arith;
-  plain = (fixed_plain (codes "flux") (omega arith) (omega arith) refl, (fixed_plain (codes "1") (omega arith) (omega arith) refl, tt));
-}
-
 pub plan_plain : (plan : PlanView) → IsPlan plan → ArePlainLines (plan_lines plan)
 plan_plain plan within = (
-  version_plain,
+  setting_plain (codes "flux") plan.version (fixed_plain (codes "flux") (omega arith) (omega arith) refl) refl (omega (arith, within.version_high)),
   (
     setting_plain (codes "mark") plan.mark (fixed_plain (codes "mark") (omega arith) (omega arith) refl) refl (omega (arith, within.mark_high)),
     (

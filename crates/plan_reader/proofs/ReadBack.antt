@@ -4,6 +4,7 @@ use Rattle.std.specs.Prelude.{Ok, nat_le, unsigned_abs}
 use Rattle.std.specs.Fmt.{decimal, signed_decimal}
 use Rattle.std.proofs.lemmas.Bool.Decides.{nat_tests}
 use Rattle.std.proofs.lemmas.Int.{ints}
+use Rattle.stream_ops.specs.Limits.{max_join_rows, max_last_rows, max_window_seconds}
 use Rattle.stream_ops.specs.Spec.{IsSpec}
 use Rattle.stream_ops.specs.declared.spec.By.{By}
 use Rattle.stream_ops.specs.declared.spec.By.TheVariants as by
@@ -11,12 +12,12 @@ use Rattle.stream_ops.specs.declared.spec.Compare.{Compare}
 use Rattle.stream_ops.specs.declared.spec.Compare.TheVariants as compare
 use Rattle.stream_ops.specs.declared.spec.OpSpec.{OpSpec}
 use Rattle.stream_ops.specs.declared.spec.OpSpec.TheVariants as op
-use Rattle.stream_ops.specs.declared.spec.TheConstants.{MAX_LAST_ROWS, MAX_WINDOW_SECONDS}
 use Rattle.tuple_edge.specs.Sum.{IsWithin, big}
 use Rattle.tuple_edge.specs.declared.row.Column.{Column}
 use Rattle.tuple_edge.specs.declared.row.Column.TheVariants as column
-use Rattle.plan_reader.specs.Grammar.{by_at, column_at, compare_at, crossing_at, keep_at, last_at, limit_at, number_at, number_within, op_at, total_at, window_at}
+use Rattle.plan_reader.specs.Grammar.{by_at, column_at, compare_at, comparison_at, key_and_number_at, limit_at, number_at, number_within}
 use Rattle.plan_reader.specs.Lines.{Word}
+use Rattle.plan_reader.specs.Operators.{crossing_at, join_at, keep_at, last_at, op_at, total_at, window_at}
 use Rattle.plan_reader.specs.PlanView.{IsLimit}
 use Rattle.plan_reader.specs.Text.{by_name, column_name, compare_name, op_words}
 use Rattle.plan_reader.proofs.NumberWords.{number_of_decimal, signed_number_of_decimal}
@@ -64,27 +65,51 @@ compare_back compare.Unequal rest = refl
 compare_back compare.AtLeast rest = refl
 compare_back compare.Greater rest = refl
 
+-- ---- settings
+
+keyed_back : (low high : ℕ) (b : By) (n : ℕ) (rest : List Word) → low ≤ n → n ≤ high → high < 10000000000000000000
+    → key_and_number_at low high (by_name b ∷ decimal n ∷ rest) ≡ Ok ((b, n), rest)
+unfolding key_and_number_at
+keyed_back low high b n rest above below small = rw (by_back b (decimal n ∷ rest), number_within_back low high n rest above below small) refl
+
+comparison_back : (c : Column) (k : Compare) (z : ℤ) (rest : List Word) → IsWithin z
+    → comparison_at (column_name c ∷ compare_name k ∷ signed_decimal z ∷ rest) ≡ Ok ((c, k, z), rest)
+unfolding comparison_at
+comparison_back c k z rest within =
+    rw (column_back c (compare_name k ∷ signed_decimal z ∷ rest), compare_back k (signed_decimal z ∷ rest), limit_back z rest within) refl
+
 -- ---- operators
 
 keep_back : (c : Column) (k : Compare) (z : ℤ) → IsWithin z → keep_at (column_name c ∷ compare_name k ∷ signed_decimal z ∷ []) ≡ Ok (op.Keep c k z, [])
 unfolding keep_at
-keep_back c k z within = rw (column_back c (compare_name k ∷ signed_decimal z ∷ []), compare_back k (signed_decimal z ∷ []), limit_back z [] within) refl
+keep_back c k z within = rw (comparison_back c k z [] within) refl
 
 total_back : (b : By) → total_at (by_name b ∷ []) ≡ Ok (op.Total b, [])
 unfolding total_at
 total_back b = rw (by_back b []) refl
 
-last_back : (b : By) (rows : ℕ) → 1 ≤ rows → rows ≤ MAX_LAST_ROWS → last_at (by_name b ∷ decimal rows ∷ []) ≡ Ok (op.Last b rows, [])
+last_back : (b : By) (rows : ℕ) → 1 ≤ rows → rows ≤ max_last_rows → last_at (by_name b ∷ decimal rows ∷ []) ≡ Ok (op.Last b rows, [])
 unfolding last_at
-last_back b rows low high = rw (by_back b (decimal rows ∷ []), number_within_back 1 MAX_LAST_ROWS rows [] low high (omega arith)) refl
+last_back b rows low high = rw (keyed_back 1 max_last_rows b rows [] low high (omega arith)) refl
 
-window_back : (b : By) (n : ℕ) → 1 ≤ n → n ≤ unsigned_abs MAX_WINDOW_SECONDS → window_at (by_name b ∷ decimal n ∷ []) ≡ Ok (op.Window b (pos n), [])
+window_back : (b : By) (n : ℕ) → 1 ≤ n → n ≤ unsigned_abs max_window_seconds → window_at (by_name b ∷ decimal n ∷ []) ≡ Ok (op.Window b (pos n), [])
 unfolding window_at
-window_back b n low high = rw (by_back b (decimal n ∷ []), number_within_back 1 (unsigned_abs MAX_WINDOW_SECONDS) n [] low high (omega arith)) refl
+window_back b n low high = rw (keyed_back 1 (unsigned_abs max_window_seconds) b n [] low high (omega arith)) refl
 
 crossing_back : (b : By) (n : ℕ) → n ≤ big → crossing_at (by_name b ∷ decimal n ∷ []) ≡ Ok (op.Crossing b (pos n), [])
 unfolding crossing_at
-crossing_back b n high = rw (by_back b (decimal n ∷ []), number_within_back 0 big n [] (omega arith) high (omega arith)) refl
+crossing_back b n high = rw (keyed_back 0 big b n [] (omega arith) high (omega arith)) refl
+
+join_back : (b : By) (n rows : ℕ) (c : Column) (k : Compare) (z : ℤ) → 1 ≤ n → n ≤ unsigned_abs max_window_seconds → 1 ≤ rows → rows ≤ max_join_rows → IsWithin z
+    → join_at (by_name b ∷ decimal n ∷ decimal rows ∷ column_name c ∷ compare_name k ∷ signed_decimal z ∷ []) ≡ Ok (op.Join b (pos n) rows c k z, [])
+unfolding join_at
+join_back b n rows c k z some wide low high within =
+    let test = column_name c ∷ compare_name k ∷ signed_decimal z ∷ [] in
+    rw (
+      keyed_back 1 (unsigned_abs max_window_seconds) b n (decimal rows ∷ test) some wide (omega arith),
+      number_within_back 1 max_join_rows rows test low high (omega arith),
+      comparison_back c k z [] within,
+    ) refl
 
 pub op_back : (o : OpSpec) → IsSpec o → IsLimit o → op_at (op_words o) ≡ Ok (o, [])
 unfolding op_at
@@ -95,3 +120,5 @@ op_back (op.Window b (pos n)) spec limit = window_back b n (omega (arith, ints, 
 op_back (op.Window b (negsuc n)) spec limit = absurd (omega (arith, ints, spec.0))
 op_back (op.Crossing b (pos n)) spec limit = crossing_back b n (omega (arith, ints, limit.high))
 op_back (op.Crossing b (negsuc n)) spec limit = absurd (omega (arith, ints, spec))
+op_back (op.Join b (pos n) rows c k z) spec limit = join_back b n rows c k z (omega (arith, ints, spec.0)) (omega (arith, ints, spec.1)) spec.2 spec.3 limit
+op_back (op.Join b (negsuc n) rows c k z) spec limit = absurd (omega (arith, ints, spec.0))

@@ -26,10 +26,10 @@ abbrev pub ArePlainWords : List Word → Type 0
 ArePlainWords [] = Unit {0}
 ArePlainWords (word ∷ words) = IsPlainWord word × ArePlainWords words
 
--- the words of a line that counts: at most 10
+-- the words of a line that counts: at most 13
 pub record IsPlainLine (words : List Word) : Type 0 where
   pub counts : counts words ≡ true
-  pub few : length words ≤ 10
+  pub few : length words ≤ 13
   pub plain : ArePlainWords words
 
 abbrev pub ArePlainLines : List (List Word) → Type 0
@@ -126,10 +126,10 @@ length_joined (word ∷ []) plain = omega (arith, plain.0.few)
 length_joined (word ∷ next ∷ words) plain =
     omega (arith, length-append word (32 ∷ join_with_byte 32 (next ∷ words)), plain.0.few, length_joined (next ∷ words) plain.1)
 
-length_line : (words : List Word) → IsPlainLine words → length (line_text words) ≤ 311
+length_line : (words : List Word) → IsPlainLine words → length (line_text words) ≤ 404
 length_line words plain = omega (arith, length-append (join_with_byte 32 words) (10 ∷ []), length_joined words plain.plain, plain.few)
 
-pub length_text : (lines : List (List Word)) → ArePlainLines lines → length (flat_map line_text lines) ≤ 311 * length lines
+pub length_text : (lines : List (List Word)) → ArePlainLines lines → length (flat_map line_text lines) ≤ 404 * length lines
 length_text [] plain = omega arith
 length_text (words ∷ lines) plain =
     omega (arith, length-append (line_text words) (flat_map line_text lines), length_line words plain.0, length_text lines plain.1)

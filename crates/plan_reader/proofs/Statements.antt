@@ -7,7 +7,7 @@ use Rattle.plan_reader.specs.Lines.{LineView, counting_lines}
 use Rattle.plan_reader.specs.Plan.{Said, at_line, body_of, hold_in, mark_in, plan_of, plan_of_lines, plan_said, said_in, stages_in, statement_at, statements_of, whole}
 use Rattle.plan_reader.specs.Reading.{◌>>=◌}
 use Rattle.plan_reader.specs.declared.error.PlanError.{PlanError}
-use Rattle.plan_reader.specs.declared.limits.TheConstants.{MAX_PLAN_BYTES}
+use Rattle.plan_reader.specs.Limits.{max_plan_bytes}
 use Rattle.plan_reader.specs.declared.statement.Statement.{Statement}
 use Rattle.plan_reader.specs.declared.statement.Statement.TheVariants as says
 
@@ -76,14 +76,14 @@ said_after-statements before [] = refl
 said_after-statements before (line ∷ lines) =
     after_line before lines (at_line line.number (statement_at (said_in before) line.words)) (λ b. said_after-statements b lines)
 
-whole_after : (read : Result (List Statement) PlanError) → (kept_after read >>= λ said. whole (plan_said said)) ≡ (read >>= λ statements. whole (plan_said (said_in statements)))
-whole_after (Ok statements) = refl
-whole_after (Err e) = refl
+whole_after : (version : ℕ) (read : Result (List Statement) PlanError) → (kept_after read >>= λ said. whole (plan_said version said)) ≡ (read >>= λ statements. whole (plan_said version (said_in statements)))
+whole_after version (Ok statements) = refl
+whole_after version (Err e) = refl
 
-drafted_after : (read : Result (List LineView) PlanError)
-    → (read >>= λ body. said_after nothing_said body >>= λ said. whole (plan_said said))
-    ≡ (read >>= λ body. statements_of [] body >>= λ statements. whole (plan_said (said_in statements)))
-drafted_after (Ok body) = ap (λ r. r >>= λ said. whole (plan_said said)) (said_after-statements [] body) ∙ whole_after (statements_of [] body)
+drafted_after : (read : Result (ℕ × List LineView) PlanError)
+    → (read >>= λ body. said_after nothing_said body.1 >>= λ said. whole (plan_said body.0 said))
+    ≡ (read >>= λ body. statements_of [] body.1 >>= λ statements. whole (plan_said body.0 (said_in statements)))
+drafted_after (Ok body) = ap (λ r. r >>= λ said. whole (plan_said body.0 said)) (said_after-statements [] body.1) ∙ whole_after body.0 (statements_of [] body.1)
 drafted_after (Err e) = refl
 
 -- the plan that is drafted line by line is that of the lines' statements
@@ -92,11 +92,11 @@ unfolding drafted_plan plan_of_lines
 drafted_plan_is lines = drafted_after (body_of lines)
 
 -- a text that is not too long says what its lines say
-plan_of_short : (bytes : List ℕ) → length bytes ≤ MAX_PLAN_BYTES → plan_of bytes ≡ plan_of_lines (counting_lines bytes)
+plan_of_short : (bytes : List ℕ) → length bytes ≤ max_plan_bytes → plan_of bytes ≡ plan_of_lines (counting_lines bytes)
 unfolding plan_of
 plan_of_short bytes short =
-    let test : nat_lt MAX_PLAN_BYTES (length bytes) ≡ false = grind (arith, nat_tests) in
+    let test : nat_lt max_plan_bytes (length bytes) ≡ false = grind (arith, nat_tests) in
     rw test refl
 
-pub drafted_plan_of : (bytes : List ℕ) (lines : List LineView) → length bytes ≤ MAX_PLAN_BYTES → lines ≡ counting_lines bytes → drafted_plan lines ≡ plan_of bytes
+pub drafted_plan_of : (bytes : List ℕ) (lines : List LineView) → length bytes ≤ max_plan_bytes → lines ≡ counting_lines bytes → drafted_plan lines ≡ plan_of bytes
 drafted_plan_of bytes lines short lines_are = ap drafted_plan lines_are ∙ drafted_plan_is (counting_lines bytes) ∙ sym (plan_of_short bytes short)

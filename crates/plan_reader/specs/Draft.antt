@@ -1,11 +1,12 @@
 -- What lines have said so far, line by line: the way in which a reader keeps the statements of a plan.
-use Rattle.std.specs.Prelude.{ℕ, ◌≡◌, ◌≤◌, ◌<◌, List, [], ◌∷◌, ◌++◌, length, All, Option, Some, None, IfSome, Result, Ok}
+use Rattle.std.specs.Prelude.{ℕ, false, ◌≡◌, ◌≤◌, ◌<◌, List, [], ◌∷◌, ◌++◌, length, All, Option, Some, None, IfSome, Result, Ok}
+use Rattle.std.specs.List.{list_any}
 use Rattle.plan_reader.specs.Lines.{LineView}
 use Rattle.plan_reader.specs.Plan.{Said, at_line, body_of, plan_said, statement_at, whole}
-use Rattle.plan_reader.specs.PlanView.{IsStage, PlanView}
+use Rattle.plan_reader.specs.PlanView.{IsJoinLast, IsStage, PlanView, is_joining}
 use Rattle.plan_reader.specs.Reading.{◌>>=◌}
 use Rattle.plan_reader.specs.declared.error.PlanError.{PlanError}
-use Rattle.plan_reader.specs.declared.limits.TheConstants.{MAX_HOLD, MAX_MARK, MAX_STAGES, MIN_HOLD}
+use Rattle.plan_reader.specs.Limits.{max_hold, max_mark, max_stages, min_hold}
 use Rattle.plan_reader.specs.declared.statement.Statement.{Statement}
 use Rattle.plan_reader.specs.declared.statement.Statement.TheVariants as says
 
@@ -41,26 +42,27 @@ said_after said (line ∷ lines) = do
 unfoldable pub drafted_plan : List LineView → Result PlanView PlanError
 drafted_plan lines = do
   body ← body_of lines
-  said ← said_after nothing_said body
-  whole (plan_said said)
+  said ← said_after nothing_said body.1
+  whole (plan_said body.0 said)
 
 -- ---- limits
 
 abbrev pub IsMark : ℕ → Type 0
-IsMark n = (1 ≤ n) × (n ≤ MAX_MARK)
+IsMark n = (1 ≤ n) × (n ≤ max_mark)
 
 abbrev pub IsHold : ℕ → Type 0
-IsHold n = (MIN_HOLD ≤ n) × (n ≤ MAX_HOLD)
+IsHold n = (min_hold ≤ n) × (n ≤ max_hold)
 
 -- what was said is within the limits
 pub record IsDraft (said : Said) : Type 0 where
   pub mark : IfSome said.mark IsMark
   pub hold : IfSome said.hold IsHold
-  pub few : length said.stages ≤ MAX_STAGES
+  pub few : length said.stages ≤ max_stages
   pub stages : All IsStage said.stages
+  pub join_last : IsJoinLast said.stages
 
 -- a statement may follow what was said
 abbrev pub MayFollow : Said → Statement → Type 0
 MayFollow said (says.Mark n) = (said.mark ≡ None) × IsMark n
 MayFollow said (says.Hold n) = (said.hold ≡ None) × IsHold n
-MayFollow said (says.Stage stage) = (length said.stages < MAX_STAGES) × IsStage stage
+MayFollow said (says.Stage stage) = (length said.stages < max_stages) × (list_any is_joining said.stages ≡ false) × IsStage stage

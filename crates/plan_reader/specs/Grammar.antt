@@ -1,5 +1,5 @@
 -- The words of a plan's lines, from the left: each gives a value or a fault, whose line isn't known here.
-use Rattle.std.specs.Prelude.{ℕ, ℤ, pos, ◌&&◌, nat_le, List, [], ◌∷◌, Option, Some, None, Result, Ok, Err, codes, unsigned_abs, if◌then◌else◌}
+use Rattle.std.specs.Prelude.{ℕ, ℤ, ◌&&◌, nat_le, List, [], ◌∷◌, Option, Some, None, Result, Ok, Err, codes, unsigned_abs, if◌then◌else◌}
 use Rattle.std.specs.Str.{bytes_eq}
 use Rattle.tuple_edge.specs.Sum.{big}
 use Rattle.tuple_edge.specs.declared.row.Column.{Column}
@@ -8,9 +8,6 @@ use Rattle.stream_ops.specs.declared.spec.By.{By}
 use Rattle.stream_ops.specs.declared.spec.By.TheVariants as by
 use Rattle.stream_ops.specs.declared.spec.Compare.{Compare}
 use Rattle.stream_ops.specs.declared.spec.Compare.TheVariants as compare
-use Rattle.stream_ops.specs.declared.spec.OpSpec.{OpSpec}
-use Rattle.stream_ops.specs.declared.spec.OpSpec.TheVariants as op
-use Rattle.stream_ops.specs.declared.spec.TheConstants.{MAX_LAST_ROWS, MAX_WINDOW_SECONDS}
 use Rattle.plan_reader.specs.Lines.{Word}
 use Rattle.plan_reader.specs.Numbers.{number_of, signed_number_of}
 use Rattle.plan_reader.specs.Reading.{◌>>=◌}
@@ -110,45 +107,19 @@ compare_at words = do
   w ← word_at words
   listed (compare_named w.0) w.1
 
--- ---- operators
+-- ---- settings
 
-unfoldable pub keep_at : List Word → Read OpSpec
-keep_at words = do
+-- a key, and a number from low to high
+unfoldable pub key_and_number_at : ℕ → ℕ → List Word → Read (By × ℕ)
+key_and_number_at low high words = do
+  by ← by_at words
+  n ← number_within low high by.1
+  Ok ((by.0, n.0), n.1)
+
+-- a comparison: a column, how it compares, and with which limit
+unfoldable pub comparison_at : List Word → Read (Column × Compare × ℤ)
+comparison_at words = do
   column ← column_at words
   compare ← compare_at column.1
   limit ← limit_at compare.1
-  Ok (op.Keep column.0 compare.0 limit.0, limit.1)
-
-unfoldable pub total_at : List Word → Read OpSpec
-total_at words = do
-  by ← by_at words
-  Ok (op.Total by.0, by.1)
-
-unfoldable pub last_at : List Word → Read OpSpec
-last_at words = do
-  by ← by_at words
-  rows ← number_within 1 MAX_LAST_ROWS by.1
-  Ok (op.Last by.0 rows.0, rows.1)
-
-unfoldable pub window_at : List Word → Read OpSpec
-window_at words = do
-  by ← by_at words
-  width ← number_within 1 (unsigned_abs MAX_WINDOW_SECONDS) by.1
-  Ok (op.Window by.0 (pos width.0), width.1)
-
-unfoldable pub crossing_at : List Word → Read OpSpec
-crossing_at words = do
-  by ← by_at words
-  limit ← number_within 0 big by.1
-  Ok (op.Crossing by.0 (pos limit.0), limit.1)
-
--- an operator and its settings
-unfoldable pub op_at : List Word → Read OpSpec
-op_at words = do
-  w ← word_at words
-  if bytes_eq w.0 (codes "keep") then keep_at w.1
-      else if bytes_eq w.0 (codes "total") then total_at w.1
-      else if bytes_eq w.0 (codes "last") then last_at w.1
-      else if bytes_eq w.0 (codes "window") then window_at w.1
-      else if bytes_eq w.0 (codes "crossing") then crossing_at w.1
-      else Err fault.UnknownWord
+  Ok ((column.0, compare.0, limit.0), limit.1)

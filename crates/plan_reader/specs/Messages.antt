@@ -13,6 +13,7 @@ fault_at line fault.UnknownWord = error.UnknownWord line
 fault_at line fault.Number = error.Number line
 fault_at line fault.Range = error.Range line
 fault_at line fault.TooMany = error.TooMany line
+fault_at line fault.JoinNotLast = error.JoinNotLast line
 
 -- the line's number and what is wrong there
 abbrev pub at_line : ℕ → List ℕ → List ℕ
@@ -28,3 +29,4 @@ plan_fault (error.TooMany line) = at_line line (codes "too many stages")
 plan_fault (error.TooLong bytes) = codes "too long"
 plan_fault (error.Crowded edges mark) = codes "crowded, edges " ++ (decimal edges ++ (codes ", mark " ++ decimal mark))
 plan_fault error.OutOfMemory = codes "out of memory"
+plan_fault (error.JoinNotLast line) = at_line line (codes "stage after join")

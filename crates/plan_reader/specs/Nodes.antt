@@ -7,11 +7,11 @@ use Rattle.tuple_edge.specs.declared.node.Which.{Which}
 use Rattle.tuple_edge.specs.declared.node.Which.TheVariants as which
 use Rattle.plan_reader.specs.PlanView.{PlanView, partitions}
 
--- In how many partitions a stage runs. Ingress is stage 0, and egress the one after the last: each is one partition.
+-- In how many partitions a stage runs. Ingress is stage 0, with a partition for each of its sources, and egress the one after the last, with one.
 abbrev pub parts_of : PlanView → ℕ → ℕ
-parts_of plan stage = slice_index (partitions plan.stages) stage
+parts_of plan stage = slice_index (partitions plan.version plan.stages) stage
 
--- the number of edges into each partition of a stage: one from each partition of the stage before
+-- the number of edges into each partition of a stage: one from each partition of the stage before, or from each source of ingress
 abbrev pub sources_of : PlanView → ℕ → ℕ
 sources_of plan stage = parts_of plan (stage - 1)
 

@@ -3,14 +3,15 @@ use Rattle.std.specs.Prelude.{ℕ, ℤ, Bool, pos, neg_ℤ, ◌+◌, ◌-◌, �
 use Rattle.std.specs.Char.{is_ascii_digit}
 use Rattle.std.specs.List.{list_all}
 use Rattle.std.specs.Option.{option_map}
+use Rattle.plan_reader.specs.Limits.{max_number_digits}
 
 -- the value of digits
 abbrev pub digits_value : List ℕ → ℕ
 digits_value digits = fold (λ n d. n * 10 + (d - 48)) 0 digits
 
--- whether a word is a number word: 1 to 19 digits
+-- whether a word is a number word: digits, at least one and not too many
 abbrev pub is_number : List ℕ → Bool
-is_number word = nat_le 1 (length word) && nat_le (length word) 19 && list_all is_ascii_digit word
+is_number word = nat_le 1 (length word) && nat_le (length word) max_number_digits && list_all is_ascii_digit word
 
 -- the value of a number word; other words have none
 abbrev pub number_of : List ℕ → Option ℕ

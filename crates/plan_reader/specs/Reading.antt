@@ -34,6 +34,7 @@ Fails (error.TooMany line) read = read ≡ Err (error.TooMany line)
 Fails (error.TooLong bytes) read = read ≡ Err (error.TooLong bytes)
 Fails (error.Crowded edges mark) read = read ≡ Err (error.Crowded edges mark)
 Fails error.OutOfMemory read = Unit {0}
+Fails (error.JoinNotLast line) read = read ≡ Err (error.JoinNotLast line)
 
 -- the same, unless memory ran out
 abbrev pub Gives : {X A : Type 0} → (X → A) → Result X PlanError → Result A PlanError → Type 0

@@ -46,6 +46,8 @@ op_words (op.Total by) = codes "total" ∷ by_name by ∷ []
 op_words (op.Last by rows) = codes "last" ∷ by_name by ∷ decimal rows ∷ []
 op_words (op.Window by width) = codes "window" ∷ by_name by ∷ signed_decimal width ∷ []
 op_words (op.Crossing by limit) = codes "crossing" ∷ by_name by ∷ signed_decimal limit ∷ []
+op_words (op.Join by width rows column compare limit) =
+    codes "join" ∷ by_name by ∷ signed_decimal width ∷ decimal rows ∷ column_name column ∷ compare_name compare ∷ signed_decimal limit ∷ []
 
 -- ---- lines
 
@@ -62,7 +64,7 @@ stage_lines number (stage ∷ stages) = stage_words number stage ∷ stage_lines
 -- the lines of a plan: the version, both settings, and the stages
 abbrev pub plan_lines : PlanView → List (List Word)
 plan_lines plan =
-    (codes "flux" ∷ codes "1" ∷ []) ∷ (codes "mark" ∷ decimal plan.mark ∷ []) ∷ (codes "hold" ∷ decimal plan.hold ∷ []) ∷ stage_lines 1 plan.stages
+    (codes "flux" ∷ decimal plan.version ∷ []) ∷ (codes "mark" ∷ decimal plan.mark ∷ []) ∷ (codes "hold" ∷ decimal plan.hold ∷ []) ∷ stage_lines 1 plan.stages
 
 -- the canonical text of a plan
 unfoldable pub plan_text : PlanView → List ℕ

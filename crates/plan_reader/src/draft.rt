@@ -4,6 +4,7 @@ ghost use Rattle.plan_reader.specs.Plan.{hold_at, mark_at, next_stage_at, plan_s
 ghost use Rattle.plan_reader.specs.PlanView.{IsPlan, IsStage, edges};
 ghost use Rattle.plan_reader.specs.Draft.{MayFollow, nothing_said, said_with, said_with_line};
 ghost use Rattle.plan_reader.specs.Reading.{Gives, Takes};
+ghost use Rattle.plan_reader.specs.Limits.{max_stages, max_version};
 
 use crate::error::Fault;
 use crate::statement::{Statement, setting, stage};
@@ -35,14 +36,15 @@ impl Model for Draft {
     ghost invariant = { λ d. IsDraft (record { mark = d.mark; hold = d.hold; stages = d.stages.items }) };
 }
 
-// The number of edges between these stages, ingress and egress.
-fn edge_count(stages: &[Stage]) -> u64
-    requires few { length stages.now ≤ MAX_STAGES }
+// The number of edges between ingress, which has so many sources, these stages and egress.
+fn edge_count(sources: u32, stages: &[Stage]) -> u64
+    requires sources { sources ≤ max_version }
+    requires few { length stages.now ≤ max_stages }
     requires each { All IsStage stages.now }
-    ensures { result ≡ edges stages.now }
+    ensures { result ≡ edges sources stages.now }
 {
     let mut count = 0u64;
-    let mut before = 1u64;
+    let mut before = u64::from(sources);
     for stage in stages {
         count += before * u64::from(stage.parts);
         before = u64::from(stage.parts);
@@ -85,7 +87,7 @@ impl Draft {
         ensures value { Takes words.new result (next_stage_at self.now words.old) }
         ensures within { IfOk result (MayFollow self.now) }
     {
-        let stage = stage(words, self.stages.len())?;
+        let stage = stage(words, &self.stages)?;
         Ok(Statement::Stage(stage))
     }
 
@@ -109,6 +111,7 @@ impl Draft {
     }
 
     // Adds a statement.
+    #[tactic(auto, using(crate::proofs::Joins::one_more))]
     pub(crate) fn add(&mut self, statement: Statement) -> Result<(), OutOfMemory>
         requires { MayFollow self.old statement }
         ensures { OnOk result (self.new ≡ said_with self.old statement) }
@@ -144,9 +147,11 @@ impl Draft {
         }
     }
 
-    // The plan of what was said.
-    pub(crate) fn finish(self) -> Result<Plan, PlanError>
-        ensures reads { Gives (λ p. p) result (whole (plan_said self)) }
+    // The plan of this version and what was said.
+    pub(crate) fn finish(self, version: u32) -> Result<Plan, PlanError>
+        requires low { 1 ≤ version }
+        requires high { version ≤ max_version }
+        ensures reads { Gives (λ p. p) result (whole (plan_said version self)) }
         ensures limits { IfOk result IsPlan }
     {
         let mark = self.mark.unwrap_or(DEFAULT_MARK);
@@ -154,10 +159,10 @@ impl Draft {
         if self.stages.is_empty() {
             return Err(PlanError::NoStage);
         }
-        let edges = edge_count(&self.stages);
+        let edges = edge_count(version, &self.stages);
         if EDGES_PER_MARK * mark < edges {
             return Err(PlanError::Crowded { edges, mark });
         }
-        Ok(Plan::new(self.stages, mark, hold))
+        Ok(Plan::new(version, self.stages, mark, hold))
     }
 }

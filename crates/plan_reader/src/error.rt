@@ -28,16 +28,19 @@ pub enum PlanError {
     Crowded { edges: u64, mark: u64 },
     /// No memory was to be had.
     OutOfMemory,
+    /// A stage after a join.
+    JoinNotLast { line: u64 },
 }
 
 /// Why a line of a plan is refused.
-#[derive(Clone, Copy, Debug, PartialEq, Eq)]
+#[derive(Drop)]
 pub(crate) enum Fault {
     Grammar,
     UnknownWord,
     Number,
     Range,
     TooMany,
+    JoinNotLast,
 }
 
 impl Fault {
@@ -51,6 +54,7 @@ impl Fault {
             Fault::Number => PlanError::Number { line },
             Fault::Range => PlanError::Range { line },
             Fault::TooMany => PlanError::TooMany { line },
+            Fault::JoinNotLast => PlanError::JoinNotLast { line },
         }
     }
 }
@@ -72,6 +76,7 @@ impl fmt::Display for PlanError {
             PlanError::TooLong { .. } => f.write_str("too long"),
             PlanError::Crowded { edges, mark } => write!(f, "crowded, edges {edges}, mark {mark}"),
             PlanError::OutOfMemory => f.write_str("out of memory"),
+            PlanError::JoinNotLast { line } => write!(f, "line {line}: stage after join"),
         }
     }
 }

@@ -13,6 +13,7 @@ mod limits;
 mod lines;
 mod nodes;
 mod numbers;
+mod operators;
 mod plan;
 mod read;
 mod stage;
@@ -23,14 +24,11 @@ mod write;
 pub use error::PlanError;
 pub use limits::{
     DEFAULT_HOLD, DEFAULT_MARK, EDGES_PER_MARK, MAX_HOLD, MAX_MARK, MAX_PARTS, MAX_PLAN_BYTES,
-    MAX_STAGES, MIN_HOLD,
+    MAX_STAGES, MAX_VERSION, MIN_HOLD,
 };
 pub use lines::{Line, Lines, Words};
-pub use numbers::{number_of, signed_number_of};
+pub use numbers::{MAX_NUMBER_DIGITS, number_of, signed_number_of};
 pub use plan::Plan;
 pub use read::read_plan;
 pub use stage::Stage;
 pub use write::{canonical_text_reads_back, write_plan};
-
-#[cfg(test)]
-mod tests;

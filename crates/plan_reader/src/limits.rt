@@ -3,6 +3,10 @@
 /// The greatest length of a plan's text, in bytes.
 pub const MAX_PLAN_BYTES: u64 = 65_536;
 
+/// The greatest version of a plan. The least is 1, in which ingress has one source, the trades; in
+/// version 2 it has two, trades and cash movements.
+pub const MAX_VERSION: u32 = 2;
+
 /// The greatest number of stages.
 pub const MAX_STAGES: usize = 6;
 

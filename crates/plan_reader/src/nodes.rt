@@ -7,15 +7,16 @@ use crate::Plan;
 use tuple_edge::{LinkId, NodeId, Which};
 
 impl Plan {
-    /// The number of edges into each partition of a stage: 1 for stage 1, and for each later one the
-    /// number of partitions of the stage before. The stage after the last is egress.
+    /// The number of edges into each partition of a stage: for stage 1 the number of sources of
+    /// ingress, which is the plan's version, and for each later one the number of partitions of the
+    /// stage before. The stage after the last is egress.
     pub fn sources(&self, stage: u32) -> u32
         requires low { 1 ≤ stage }
         requires high { stage ≤ length self.now.stages + 1 }
         ensures { result ≡ sources_of self.now stage }
     {
         if stage == 1 {
-            1
+            self.version()
         } else {
             self.stages()[stage as usize - 2].parts
         }

@@ -2,11 +2,14 @@
 ghost use Rattle.std.specs.Prelude.{◌≡◌};
 ghost use Rattle.plan_reader.specs.Numbers.{number_of, signed_number_of};
 
-/// The value of a number word: 1 to 19 digits, so that it never wraps. None for every other word.
+/// The greatest number of digits of a number word.
+pub const MAX_NUMBER_DIGITS: usize = 19;
+
+/// The value of a number word: 1 to [`MAX_NUMBER_DIGITS`] digits, so that it never wraps. None for every other word.
 pub fn number_of(word: &[u8]) -> Option<u64>
     ensures { result ≡ number_of word.now }
 {
-    if word.is_empty() || word.len() > 19 {
+    if word.is_empty() || word.len() > MAX_NUMBER_DIGITS {
         return None;
     }
     let mut value = 0u64;

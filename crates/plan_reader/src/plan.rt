@@ -5,11 +5,12 @@ ghost use Rattle.plan_reader.specs.PlanView.{IsPlan};
 use crate::Stage;
 use std::marker::Model;
 
-/// The stages of a dataflow, and its settings.
+/// The stages of a dataflow, its version and its settings.
 ///
-/// Contracts see its stages, mark and hold, and every plan is within the limits.
+/// Contracts see its version, stages, mark and hold, and every plan is within the limits.
 #[derive(Debug, Drop)]
 pub struct Plan {
+    version: u32,
     stages: Vec<Stage>,
     mark: u64,
     hold: u64,
@@ -20,18 +21,32 @@ impl Model for Plan {
 
     ghost Value = { PlanView };
 
-    ghost view = { λ p. record { stages = p.stages.items; mark = p.mark; hold = p.hold } };
+    ghost view = { λ p. record { version = p.version; stages = p.stages.items; mark = p.mark; hold = p.hold } };
 
-    ghost invariant = { λ p. IsPlan (record { stages = p.stages.items; mark = p.mark; hold = p.hold }) };
+    ghost invariant = { λ p. IsPlan (record { version = p.version; stages = p.stages.items; mark = p.mark; hold = p.hold }) };
 }
 
 impl Plan {
-    // A plan of stages and settings that are within the limits.
-    pub(crate) fn new(stages: Vec<Stage>, mark: u64, hold: u64) -> Plan
-        requires { IsPlan (record { stages = stages.items; mark = mark; hold = hold }) }
-        ensures { result ≡ record { stages = stages.items; mark = mark; hold = hold } }
+    // A plan of a version, stages and settings that are within the limits.
+    pub(crate) fn new(version: u32, stages: Vec<Stage>, mark: u64, hold: u64) -> Plan
+        requires { IsPlan (record { version = version; stages = stages.items; mark = mark; hold = hold }) }
+        ensures { result ≡ record { version = version; stages = stages.items; mark = mark; hold = hold } }
     {
-        Plan { stages, mark, hold }
+        Plan {
+            version,
+            stages,
+            mark,
+            hold,
+        }
+    }
+
+    /// The version: 1, in which ingress has one source, the trades, or 2, in which it also has the
+    /// cash movements.
+    pub fn version(&self) -> u32
+        ensures value { result ≡ self.now.version }
+        ensures limits { IsPlan self.now }
+    {
+        self.version
     }
 
     /// The stages, in order: 1 to [`MAX_STAGES`](crate::MAX_STAGES).
@@ -42,7 +57,7 @@ impl Plan {
         &self.stages
     }
 
-    /// After how many trades ingress puts a mark: 1 to [`MAX_MARK`](crate::MAX_MARK).
+    /// After how many rows ingress puts a mark: 1 to [`MAX_MARK`](crate::MAX_MARK).
     pub fn mark(&self) -> u64
         ensures value { result ≡ self.now.mark }
         ensures limits { IsPlan self.now }

@@ -1,36 +1,40 @@
 // How a plan is read.
-ghost use Rattle.std.specs.Prelude.{◌≡◌, IfOk};
+ghost use Rattle.std.specs.Prelude.{◌≡◌, ◌≤◌, IfOk};
 ghost use Rattle.plan_reader.specs.Draft.{drafted_plan, said_after};
 ghost use Rattle.plan_reader.specs.Plan.{body_of, plan_of, version_at};
 ghost use Rattle.plan_reader.specs.PlanView.{IsPlan};
 ghost use Rattle.plan_reader.specs.Reading.{Gives, Reads, Takes};
+ghost use Rattle.plan_reader.specs.Limits.{max_version};
 
 use crate::draft::Draft;
 use crate::error::Fault;
 use crate::words::{end, fixed, number_from};
-use crate::{Lines, MAX_PLAN_BYTES, Plan, PlanError, Words};
+use crate::{Lines, MAX_PLAN_BYTES, MAX_VERSION, Plan, PlanError, Words};
 use std::alloc::Global;
 
-// The first line that counts.
+// The version that the first line that counts says.
 #[tactic(auto, unfolding(crate::specs::Plan::version_at))]
-fn version(words: &mut Words<'_>) -> Result<(), Fault>
-    ensures { Takes words.new result (version_at words.old) }
+fn version(words: &mut Words<'_>) -> Result<u32, Fault>
+    ensures value { Takes words.new result (version_at words.old) }
+    ensures within { IfOk result (λ n. (1 ≤ n) × (n ≤ max_version)) }
 {
     fixed(words, "flux")?;
-    number_from(words, 1, 1)?;
-    end(words)
+    let n = number_from(words, 1, u64::from(MAX_VERSION))?;
+    end(words)?;
+    Ok(n as u32)
 }
 
-// Passes the first line that counts.
+// Passes the first line that counts, and gives the version that it says.
 #[tactic(auto, unfolding(crate::specs::Plan::body_of))]
-fn pass_version(lines: &mut Lines<'_>) -> Result<(), PlanError>
-    ensures { Reads (λ x. lines.new) result (body_of lines.old) }
+fn pass_version(lines: &mut Lines<'_>) -> Result<u32, PlanError>
+    ensures value { Reads (λ version. (version, lines.new)) result (body_of lines.old) }
+    ensures within { IfOk result (λ n. (1 ≤ n) × (n ≤ max_version)) }
 {
     match lines.next_line() {
         None => Err(PlanError::Grammar { line: 1 }),
         Some(mut line) => match version(&mut line.words) {
             Err(fault) => Err(fault.at(line.number)),
-            Ok(()) => Ok(()),
+            Ok(version) => Ok(version),
         },
     }
 }
@@ -52,10 +56,10 @@ fn plan_of_lines(alloc: Global, mut lines: Lines<'_>) -> Result<Plan, PlanError>
     ensures reads { Gives (λ p. p) result (drafted_plan lines.entry) }
     ensures limits { IfOk result IsPlan }
 {
-    pass_version(&mut lines)?;
+    let version = pass_version(&mut lines)?;
     let mut draft = Draft::new(alloc);
     take_all(&mut lines, &mut draft)?;
-    draft.finish()
+    draft.finish(version)
 }
 
 /// The plan that a text says, or the first of its faults.

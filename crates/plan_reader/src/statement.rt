@@ -1,22 +1,26 @@
 // What a line after the first one says: a setting or a stage.
-ghost use Rattle.std.specs.Prelude.{◌≡◌, ◌≤◌, ◌<◌, IfOk, OnOk, length};
-ghost use Rattle.plan_reader.specs.Plan.{setting_at, stage_at, stage_number_at};
-ghost use Rattle.plan_reader.specs.PlanView.{IsStage};
+ghost use Rattle.std.specs.Prelude.{◌≡◌, ◌≤◌, ◌<◌, IfOk, OnOk, false, length};
+ghost use Rattle.std.specs.List.{list_any};
+ghost use Rattle.plan_reader.specs.Limits.{max_parts, max_stages};
+ghost use Rattle.plan_reader.specs.Plan.{routing_at, setting_at, stage_at, stage_number_at};
+ghost use Rattle.plan_reader.specs.PlanView.{IsStage, is_joining};
 ghost use Rattle.plan_reader.specs.Reading.{Takes};
 
 use crate::error::Fault;
-use crate::words::{column, end, fixed, number, number_from, op};
+use crate::operators::op;
+use crate::words::{column, end, fixed, number, number_from};
 use crate::{MAX_PARTS, MAX_STAGES, Stage, Words};
+use tuple_edge::Column;
 
 // What a line after the first one says.
-#[derive(Clone, Copy, Debug, PartialEq, Eq)]
+#[derive(Drop)]
 pub(crate) enum Statement {
     Mark(u64),
     Hold(u64),
     Stage(Stage),
 }
 
-// What follows `mark` or `hold`, where the setting stood before or not, after this many stages.
+// What follows `mark` or `hold`, where the setting stood before or not, after these stages.
 #[tactic(auto, unfolding(crate::specs::Plan::setting_at))]
 pub(crate) fn setting(
     words: &mut Words<'_>,
@@ -37,39 +41,58 @@ pub(crate) fn setting(
     Ok(n)
 }
 
-// The number of the next stage.
-#[tactic(auto, unfolding(crate::specs::Plan::stage_number_at))]
-fn stage_number(words: &mut Words<'_>, next: u64) -> Result<(), Fault>
-    ensures { Takes words.new result (stage_number_at next words.old) }
+// Whether one of these stages joins.
+fn any_joins(stages: &[Stage]) -> bool
+    ensures { result ≡ list_any is_joining stages.now }
 {
+    stages.iter().any(|stage| stage.op.is_join())
+}
+
+// The number of the stage after these, where one may follow them.
+#[tactic(auto, unfolding(crate::specs::Plan::stage_number_at))]
+fn stage_number(words: &mut Words<'_>, before: &[Stage]) -> Result<(), Fault>
+    ensures value { Takes words.new result (stage_number_at before.now words.old) }
+    ensures room { OnOk result (length before.now < max_stages) }
+    ensures no_join { OnOk result (list_any is_joining before.now ≡ false) }
+{
+    if before.len() >= MAX_STAGES {
+        return Err(Fault::TooMany);
+    }
+    if any_joins(before) {
+        return Err(Fault::JoinNotLast);
+    }
     let n = number(words)?;
-    if n == next {
+    if n == before.len() as u64 + 1 {
         Ok(())
     } else {
         Err(Fault::Grammar)
     }
 }
 
-// What follows `stage`, after this many stages.
-#[tactic(auto, unfolding(crate::specs::Plan::stage_at))]
-pub(crate) fn stage(words: &mut Words<'_>, before: usize) -> Result<Stage, Fault>
-    ensures value { Takes words.new result (stage_at before words.old) }
-    ensures within { IfOk result IsStage }
-    ensures room { OnOk result (before < MAX_STAGES) }
+// In how many partitions a stage runs, and by which column rows are routed to them.
+#[tactic(auto, unfolding(crate::specs::Plan::routing_at))]
+fn routing(words: &mut Words<'_>) -> Result<(u32, Column), Fault>
+    ensures value { Takes words.new result (routing_at words.old) }
+    ensures within { IfOk result (λ x. (1 ≤ x.0) × (x.0 ≤ max_parts)) }
 {
-    if before >= MAX_STAGES {
-        return Err(Fault::TooMany);
-    }
-    stage_number(words, before as u64 + 1)?;
     fixed(words, "parts")?;
     let parts = number_from(words, 1, u64::from(MAX_PARTS))?;
     fixed(words, "by")?;
     let by = column(words)?;
+    Ok((parts as u32, by))
+}
+
+// What follows `stage`, after these stages.
+#[tactic(auto, unfolding(crate::specs::Plan::stage_at))]
+pub(crate) fn stage(words: &mut Words<'_>, before: &[Stage]) -> Result<Stage, Fault>
+    ensures value { Takes words.new result (stage_at before.now words.old) }
+    ensures within { IfOk result IsStage }
+    ensures room { OnOk result (length before.now < max_stages) }
+    ensures no_join { OnOk result (list_any is_joining before.now ≡ false) }
+{
+    stage_number(words, before)?;
+    let (parts, by) = routing(words)?;
     let op = op(words)?;
     end(words)?;
-    Ok(Stage {
-        parts: parts as u32,
-        by,
-        op,
-    })
+    Ok(Stage { parts, by, op })
 }

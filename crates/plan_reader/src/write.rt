@@ -75,6 +75,22 @@ fn push_op(text: &mut String, op: &OpSpec) -> Result<(), OutOfMemory>
             let by = by_name(*by);
             write!(text, "crossing {by} {limit}\n")?;
         }
+        OpSpec::Join {
+            by,
+            width,
+            rows,
+            column,
+            compare,
+            limit,
+        } => {
+            let by = by_name(*by);
+            let column = column_name(*column);
+            let compare = compare_name(*compare);
+            write!(
+                text,
+                "join {by} {width} {rows} {column} {compare} {limit}\n"
+            )?;
+        }
     }
     Ok(())
 }
@@ -105,10 +121,11 @@ fn text_of(alloc: Global, plan: &Plan) -> Result<String, OutOfMemory>
     ensures text { IfOk result (λ text. string_bytes text ≡ plan_text plan.now) }
     ensures limits { IsPlan plan.now }
 {
+    let version = plan.version();
     let mark = plan.mark();
     let hold = plan.hold();
     let mut text = String::new(alloc);
-    write!(text, "flux 1\nmark {mark}\nhold {hold}\n")?;
+    write!(text, "flux {version}\nmark {mark}\nhold {hold}\n")?;
     push_stages(&mut text, plan.stages())?;
     Ok(text)
 }

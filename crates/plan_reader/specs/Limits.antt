@@ -1,0 +1,41 @@
+-- The limits of a plan's text, of its stages and of its settings. What is counted in them is at least 1, but for `hold`.
+use Rattle.std.specs.Prelude.{ℕ}
+
+abbrev pub max_plan_bytes : ℕ
+max_plan_bytes = 65536
+
+-- so many digits never wrap in 64 bits
+abbrev pub max_number_digits : ℕ
+max_number_digits = 19
+
+-- version 1 has one source of ingress, version 2 has two
+abbrev pub max_version : ℕ
+max_version = 2
+
+abbrev pub max_stages : ℕ
+max_stages = 6
+
+-- partitions of a stage
+abbrev pub max_parts : ℕ
+max_parts = 8
+
+-- rows to a mark
+abbrev pub max_mark : ℕ
+max_mark = 4096
+
+abbrev pub default_mark : ℕ
+default_mark = 64
+
+-- items that an edge of ingress holds
+abbrev pub min_hold : ℕ
+min_hold = 16
+
+abbrev pub max_hold : ℕ
+max_hold = 65536
+
+abbrev pub default_hold : ℕ
+default_hold = 1024
+
+-- edges of a plan for each row to a mark
+abbrev pub edges_per_mark : ℕ
+edges_per_mark = 8
