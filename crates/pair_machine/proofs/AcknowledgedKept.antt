@@ -5,7 +5,7 @@ use Rattle.std.proofs.lemmas.Bool.{eqb-true, eq-eqb, ltb-true}
 use Rattle.tuple_edge.specs.declared.node.NodeId.TheVariants as node
 use Rattle.tuple_edge.specs.declared.status.Status.TheVariants as status
 use Rattle.pair_machine.specs.Acknowledged.{ChunkLows, ControllerAcks, IsAckedAtMostReported, MessageLows, MoveLows, MovedLows, NodeLows, ReplicaLows, acked_of}
-use Rattle.pair_machine.specs.Boundary.{egress_does, egress_partition, egress_takes, egress_tells, ingress_does, ingress_partition, ingress_sends, ingress_takes}
+use Rattle.pair_machine.specs.Boundary.{egress_does, egress_partition, egress_takes, egress_tells, ingress_does, ingress_takes}
 use Rattle.pair_machine.specs.Consumers.{is_ready, merged_one, offered, pulled, untold, with_at}
 use Rattle.std.specs.Option.{is_none}
 use Rattle.pair_machine.specs.Controllers.{acks, acks_from, backs, controller_hears, controller_takes, counts, downed, goes_down, is_catching, is_down, is_up, leads_now, least, least_of, named, stops, then_do, with_which}
@@ -13,8 +13,8 @@ use Rattle.pair_machine.specs.Flow.{Flow}
 use Rattle.pair_machine.specs.Links.{AreOnTheirLinks, Carries, HasStage, IsAcross, IsThere, link}
 use Rattle.pair_machine.specs.Machine.{State, after, as_egress, as_ingress, as_replica, at_node, changed, controller_does, controller_in, does, egress_in, ingress_in, posted, replica_in, step}
 use Rattle.pair_machine.specs.Messages.{Ack, Act, AskBack, AskStop, AsksBack, AsksStop, Begin, Caught, Chunk, ChunkEnd, Dies, Down, Envelope, Lead, Makes, Message, Pulls, Refusal, Report, Serve, Stop, Takes, Tuple, Want, Works}
-use Rattle.pair_machine.specs.Numbers.{Consumer, Controller, ControllerNode, EgressNode, Gathering, Gone, Ingress, IngressNode, Move, MoveNumbers, Node, Partition, Producer, Replica, ReplicaNode, Running, RunningNumbers, Watched, control_at, in_edge, is_node, other, replica_at}
-use Rattle.pair_machine.specs.Producers.{Due, acked_to, due, leading, rewound, to_producers, wanted}
+use Rattle.pair_machine.specs.Numbers.{Consumer, Controller, ControllerNode, EgressNode, Gathering, Gone, Ingress, IngressNode, Move, MoveNumbers, Node, Partition, Producer, Replica, ReplicaNode, Running, RunningNumbers, Watched, control_at, in_edge, ingress_edge, is_node, other, replica_at}
+use Rattle.pair_machine.specs.Producers.{Due, acked_to, due, leading, rewound, sent_on, to_producers, wanted}
 use Rattle.pair_machine.specs.Replicas.{inc_of, made_by, moves_or_sends, replica_asks, replica_dies, replica_does, replica_pulls, replica_takes, replica_works, reports, sends_or_reports, size, which_of}
 use Rattle.tuple_edge.specs.declared.event.Event.{Event}
 use Rattle.tuple_edge.specs.declared.node.EdgeId.{EdgeId}
@@ -28,6 +28,7 @@ use Rattle.pair_machine.proofs.StepTurns.{HoldsOnOk, WasSent, step_by}
 use Rattle.pair_machine.proofs.Frame.{EnvelopesMeet, framed}
 use Rattle.pair_machine.proofs.Found.{FoundIn, first_found}
 use Rattle.pair_machine.proofs.Names.{is_node-true}
+use Rattle.pair_machine.proofs.Sources.{each_producer, works_by}
 use Rattle.pair_machine.proofs.Tests.{both, if_elim, nat_not, nat_self}
 
 -- replicas --------------------------------------------------------------
@@ -281,27 +282,39 @@ module _ (k : EdgeId → ℕ) (p : Partition) where
 
 -- ingress -----------------------------------------------------------------
 
-abbrev IngressLows : (ℕ → ℕ) → Ingress → Type 0
-IngressLows j x = (t : ℕ) → x.producer.lows t ≤ j t
+module _ (f : Flow) (k : EdgeId → ℕ) where
+  -- the lows of a source's producer are at most those numbers
+  abbrev SourceLows : ℕ → Producer → Type 0
+  SourceLows q x = (t : ℕ) → x.lows t ≤ k (ingress_edge q t)
 
-abbrev IngressIfOk : (EdgeId → ℕ) → (ℕ → ℕ) → Result (Ingress × List Envelope) Refusal → Type 0
-IngressIfOk k j (Ok d) = IngressLows j d.0 × EnvelopesMeet (MessageLows k) node.Ingress d.1
-IngressIfOk k j (Err e) = Unit {0}
+  abbrev IngressLows : Ingress → Type 0
+  IngressLows x = (q : ℕ) → SourceLows q (x.producers q)
 
-ingress_takes_lows : (j : ℕ → ℕ) (from : NodeId) (m : Message) (x : Ingress) → TakenLows j m → IngressLows j x → IngressLows j (ingress_takes from m x)
-ingress_takes_lows j from (Ack e u) x h c = acked_lows j x.producer e.to u h c
-ingress_takes_lows j from (Want e n) x h c = wanted_lows j x.producer e.to (which_of from) n c
-ingress_takes_lows j from message x h c = c
+  abbrev IngressIfOk : Result (Ingress × List Envelope) Refusal → Type 0
+  IngressIfOk (Ok d) = IngressLows d.0 × EnvelopesMeet (MessageLows k) node.Ingress d.1
+  IngressIfOk (Err e) = Unit {0}
 
-ingress_sends_lows : (f : Flow) (k : EdgeId → ℕ) (j : ℕ → ℕ) (x : Ingress) (d : Option Due) → IngressLows j x → IngressIfOk k j (ingress_sends f x d)
-ingress_sends_lows f k j x None c = tt
-ingress_sends_lows f k j x (Some d) c = (c, (tt, tt))
+  -- an acknowledgement of a source's edge
+  abbrev SourceAcked : Message → Type 0
+  SourceAcked (Ack e u) = u ≤ k (ingress_edge e.from e.to)
+  SourceAcked m = Unit {0}
 
-ingress_lows : (f : Flow) (k : EdgeId → ℕ) (j : ℕ → ℕ) (a : Act) (x : Ingress) → ActLows j a → IngressLows j x → IngressIfOk k j (ingress_does f a x)
-ingress_lows f k j (Takes from m) x h c = (ingress_takes_lows j from m x h c, tt)
-ingress_lows f k j Works x h c = ingress_sends_lows f k j x (due f ingress_partition (made_by f ingress_partition x.makes) x.producer) c
-ingress_lows f k j Makes x h c = if_elim (IngressIfOk k j) (nat_lt x.makes f.makes) _ _ (λ e. (c, tt)) (λ e. tt)
-ingress_lows f k j act x h c = tt
+  abbrev ActAcked : Act → Type 0
+  ActAcked (Takes from m) = SourceAcked m
+  ActAcked act = Unit {0}
+
+  ingress_takes_lows : (from : NodeId) (m : Message) (x : Ingress) → SourceAcked m → IngressLows x → IngressLows (ingress_takes from m x)
+  ingress_takes_lows from (Ack e u) x h c =
+      each_producer SourceLows x e.from (acked_to (x.producers e.from) e.to u) (acked_lows (λ t. k (ingress_edge e.from t)) (x.producers e.from) e.to u h (c e.from)) c
+  ingress_takes_lows from (Want e n) x h c =
+      each_producer SourceLows x e.from (wanted (x.producers e.from) e.to (which_of from) n) (wanted_lows (λ t. k (ingress_edge e.from t)) (x.producers e.from) e.to (which_of from) n (c e.from)) c
+  ingress_takes_lows from message x h c = c
+
+  ingress_lows : (a : Act) (x : Ingress) → ActAcked a → IngressLows x → IngressIfOk (ingress_does f a x)
+  ingress_lows (Takes from m) x h c = (ingress_takes_lows from m x h c, tt)
+  ingress_lows Works x h c = works_by f x IngressIfOk tt (λ q d l due. (each_producer SourceLows x q (sent_on (x.producers q) d) (c q) c, (tt, tt)))
+  ingress_lows Makes x h c = if_elim IngressIfOk (nat_lt x.makes f.makes) _ _ (λ e. (c, tt)) (λ e. tt)
+  ingress_lows act x h c = tt
 
 -- egress --------------------------------------------------------------------
 
@@ -387,7 +400,7 @@ module _ (k k_after : EdgeId → ℕ) (up : (e : EdgeId) → k e ≤ k_after e) 
   replica_wider (Gathering g) s p h = moved_wider g.moved s p h
 
   node_wider : (n : NodeId) (x : Node) → NodeLows k n x → NodeLows k_after n x
-  node_wider node.Ingress x h = λ t. let l = h t in let u = up (record { stage = 0; from = 0; to = t }) in omega arith
+  node_wider node.Ingress x h = λ q t. let l = h q t in let u = up (ingress_edge q t) in omega arith
   node_wider (node.Replica s p w) x h = replica_wider (replica_in x) s p h
   node_wider (node.Control s p) x h = h
   node_wider node.Egress x h = tt
@@ -417,16 +430,8 @@ replica_messages f k t q w from (Chunk i n m) h l = replica_sends_messages f k t
 replica_messages f k t q w from (ChunkEnd i n m) h l = replica_sends_messages f k t q w from m h l
 replica_messages f k t q w from message h l = tt
 
-no_across : (from : NodeId) → IsAcross from node.Ingress → ⊥
-no_across node.Ingress h = h
-no_across node.Egress h = h
-no_across (node.Control a b) h = h
-no_across (node.Replica a b v) h = h
-
-ingress_messages : (f : Flow) (k : EdgeId → ℕ) (from : NodeId) (m : Message) → Carries f (link from node.Ingress) m → MessageLows k (link from node.Ingress) m → TakenLows (λ i. k (record { stage = 0; from = 0; to = i })) m
-ingress_messages f k from (Ack e u) h l = let same : e ≡ record { stage = 0; from = 0; to = e.to } = λ i. record { stage = h.1.0 i; from = h.1.1 i; to = e.to } in let at = ap k same in omega arith
-ingress_messages f k from (Chunk i n m) h l = absurd (no_across from h)
-ingress_messages f k from (ChunkEnd i n m) h l = absurd (no_across from h)
+ingress_messages : (f : Flow) (k : EdgeId → ℕ) (from : NodeId) (m : Message) → Carries f (link from node.Ingress) m → MessageLows k (link from node.Ingress) m → SourceAcked f k m
+ingress_messages f k from (Ack e u) h l = let same : e ≡ ingress_edge e.from e.to = λ i. record { stage = h.1.0 i; from = e.from; to = e.to } in let at = ap k same in omega arith
 ingress_messages f k from message h l = tt
 
 module _ (f : Flow) (s : State) (all : AreOnTheirLinks f s) (old : IsAckedAtMostReported f s) where
@@ -446,7 +451,7 @@ module _ (f : Flow) (s : State) (all : AreOnTheirLinks f s) (old : IsAckedAtMost
       let n = node.Replica t q w in let k_after = acked_of f (put n s (ReplicaNode d.0) d.1) in
       acked_by n (ReplicaNode d.0) d.1 tt h.0 (λ rise. each_map (λ (l : Envelope). MessageLows here (link n l.to) l.message) (λ (l : Envelope). MessageLows k_after (link n l.to) l.message) (λ l. message_wider here k_after rise (link n l.to) l.message) d.1 h.1)
 
-  ingress_acked : (r : Result (Ingress × List Envelope) Refusal) → IngressIfOk here (λ i. here (record { stage = 0; from = 0; to = i })) r → HoldsOnOk (IsAckedAtMostReported f) (after node.Ingress s (as_ingress r))
+  ingress_acked : (r : Result (Ingress × List Envelope) Refusal) → IngressIfOk f here r → HoldsOnOk (IsAckedAtMostReported f) (after node.Ingress s (as_ingress r))
   ingress_acked (Err e) h = tt
   ingress_acked (Ok d) h =
       let n = node.Ingress in let k_after = acked_of f (put n s (IngressNode d.0) d.1) in
@@ -481,14 +486,14 @@ module _ (f : Flow) (s : State) (all : AreOnTheirLinks f s) (old : IsAckedAtMost
       replica_messages f here t q w from m (each_at (Carries f l) m (s.sent l) c (all l)) (each_at (MessageLows here l) m (s.sent l) c (old.sent l))
   replica_act t q w act c = tt
 
-  ingress_act : (a : Act) → WasSent f s node.Ingress a → ActLows (λ i. here (record { stage = 0; from = 0; to = i })) a
+  ingress_act : (a : Act) → WasSent f s node.Ingress a → ActAcked f here a
   ingress_act (Takes from m) c =
       let l = link from node.Ingress in
       ingress_messages f here from m (each_at (Carries f l) m (s.sent l) c (all l)) (each_at (MessageLows here l) m (s.sent l) c (old.sent l))
   ingress_act act c = tt
 
   node_acked : (n : NodeId) (a : Act) → HasStage f n → WasSent f s n a → HoldsOnOk (IsAckedAtMostReported f) (after n s (does f n a (s.nodes n)))
-  node_acked node.Ingress a h c = ingress_acked (ingress_does f a (ingress_in (s.nodes node.Ingress))) (ingress_lows f here (λ i. here (record { stage = 0; from = 0; to = i })) a (ingress_in (s.nodes node.Ingress)) (ingress_act a c) (old.nodes node.Ingress))
+  node_acked node.Ingress a h c = ingress_acked (ingress_does f a (ingress_in (s.nodes node.Ingress))) (ingress_lows f here a (ingress_in (s.nodes node.Ingress)) (ingress_act a c) (old.nodes node.Ingress))
   node_acked node.Egress a h c = egress_acked (egress_does f a (egress_in (s.nodes node.Egress))) (λ k. egress_acks f k a (egress_in (s.nodes node.Egress)))
   node_acked (node.Control t q) a h c = controller_acked t q a h.0 h.1
   node_acked (node.Replica t q w) a h c = replica_acked t q w (replica_does f (record { stage = t; part = q }) w a (replica_in (s.nodes (node.Replica t q w))))

@@ -5,7 +5,7 @@ use Rattle.std.proofs.lemmas.Bool.{eqb-true, eq-eqb}
 use Rattle.std.proofs.lemmas.List.{append-nil}
 use mathlib.Core.List.{IsPrefix}
 use Rattle.tuple_edge.specs.declared.event.Event.TheVariants as event
-use Rattle.pair_machine.specs.Courses.{ActFor, ActsFor, Agree, AllAsked, Arrivals, AskedAt, Extends, IsSentAtItsIndex, IsStep, IsTrueCourse, IsTrueHistory, IsTrueNode, Moment, Pairwise, Replayed, StandsAt, TookBefore, TookSent, acted_on, also, course_of, given, given_back, moment_of, onto, replay, sent_at, taken_at}
+use Rattle.pair_machine.specs.Courses.{ActFor, ActsFor, Agree, AllAsked, Arrivals, AskedAt, Extends, IsSentAtItsIndex, IsStep, IsTrueCourse, IsTrueHistory, IsTrueNode, MeetsBeforeEach, Moment, Pairwise, Replayed, StandsAt, TookBefore, TookSent, acted_on, also, course_of, given, given_back, moment_of, onto, replay, sent_at, taken_at}
 use Rattle.pair_machine.specs.Flow.{Flow}
 use Rattle.pair_machine.specs.Links.{IsThere, link}
 use Rattle.pair_machine.specs.Lists.{Each}
@@ -262,3 +262,20 @@ module _ (f : Flow) (Stands : LinkId → Body → Message → Type 0) (Asks : No
     };
     stands = λ pre e acts af aa. (all_right pre [] (cut before now pre [] (e ∙ course_now)) acts af aa).1 refl;
   }
+
+  -- where the node's numbers before each event met N of it, and do before the new one
+  met_cut : (N : Event → Node → Type 0) → MeetsBeforeEach f Stands Asks N n arrived sent history → ((x : Node) → P x → N h.event x) → (pre post : List Moment) → Cut before now pre post →
+      (m : Moment) (later : List Moment) → post ≡ m ∷ later → (acts : List Act) → ActsFor f Stands Asks n pre acts → AllAsked f Stands Asks n acts → StandsAt f Stands Asks (N m.event) (replay f n acts)
+  met_cut N met new_met _ _ (inside pre [] e) m later q acts af aa =
+      let same : now ≡ m = cc q in subst (λ (k : Moment). StandsAt f Stands Asks (N k.event) (replay f n acts)) same (stands_map (replay f n acts) (old.stands pre e acts af aa))
+    where
+      stands_map : (r : Result (Node × List Envelope) Refusal) → StandsAt f Stands Asks P r → StandsAt f Stands Asks (N h.event) r
+      stands_map (Ok d) p = new_met d.0 p
+      stands_map (Err z) p = p
+  met_cut N met new_met _ _ (inside pre (x ∷ post) e) m later q acts af aa =
+      let same : x ≡ m = cc q in subst (λ (k : Moment). StandsAt f Stands Asks (N k.event) (replay f n acts)) same (met pre x post e acts af aa)
+  met_cut N met new_met _ _ (at_end pre e) m later q acts af aa = let z : ⊥ = cc q in absurd z
+
+  pub one_more_met : (N : Event → Node → Type 0) → MeetsBeforeEach f Stands Asks N n arrived sent history → ((x : Node) → P x → N h.event x) →
+      MeetsBeforeEach f Stands Asks N n arrived_after (λ k. sent k ++ new k) (history ++ h ∷ [])
+  one_more_met N met new_met pre m later e acts af aa = met_cut N met new_met pre (m ∷ later) (cut before now pre (m ∷ later) (e ∙ course_now)) m later refl acts af aa

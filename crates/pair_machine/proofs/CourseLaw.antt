@@ -5,9 +5,10 @@ use Rattle.tuple_edge.specs.declared.event.Event.TheVariants as event
 use Rattle.pair_machine.specs.Courses.{ActFor, ActsFor, Agree, AllAsked, AskedAt, IsTrueCourse, Moment, Pairwise, Replayed, TookSent, acted_on, also, given, given_back, onto, replay}
 use Rattle.pair_machine.specs.Flow.{Flow, IsFlow}
 use Rattle.pair_machine.specs.Joint.{AreInOrder, IsJoint, Stored, events_of, of_node}
+use Rattle.pair_machine.specs.Legal.{IsLegalFrom}
 use Rattle.pair_machine.specs.Links.{HasNode, IsThere, link}
 use Rattle.pair_machine.specs.Lists.{Among, Each}
-use Rattle.pair_machine.specs.Machine.{Leads, State, act_of, acted, after, at_node, changed, does, follow, messages_to, nth_from_one, opening, posted, step, taking_of}
+use Rattle.pair_machine.specs.Machine.{State, act_of, acted, after, at_node, changed, does, follow, messages_to, nth_from_one, opening, posted, step, taking_of}
 use Rattle.pair_machine.specs.Messages.{Act, AsksBack, AsksStop, Dies, Envelope, Makes, Message, Refusal, Takes, Works}
 use Rattle.pair_machine.specs.Numbers.{Node, is_node}
 use Rattle.pair_machine.specs.Sound.{IsSound}
@@ -235,25 +236,31 @@ module _ (f : Flow) (ok : IsFlow f) (Stands : LinkId → Body → Message → Ty
         asked k false e = st.asked k
 
   -- the joint course is legal, and each node's replay gives its numbers in the state that it reaches
-  pub record Reached (s : State) (events : List Event) : Type 0 where
+  pub record Reached (s : State) (front rest : List Stored) : Type 0 where
     pub so_far : NodeId → List Moment
     pub acts : NodeId → List Act
     pub state : State
-    pub legal : Leads f s events state
-    pub stage : Stage so_far [] acts state
+    pub legal : IsLegalFrom f s (events_of front) state
+    pub stage : Stage so_far rest acts state
 
-  law : (so_far : NodeId → List Moment) (todo : List Stored) (acts : NodeId → List Act) (s : State) → AreInOrder todo → Stage so_far todo acts s → Reached s (events_of todo)
-  law so_far [] acts s order st = record { so_far = so_far; acts = acts; state = s; legal = refl; stage = st }
-  law so_far (t ∷ rest) acts s order st =
+  law : (so_far : NodeId → List Moment) (front rest : List Stored) (acts : NodeId → List Act) (s : State) → AreInOrder (front ++ rest) → Stage so_far (front ++ rest) acts s → Reached s front rest
+  law so_far [] rest acts s order st = record { so_far = so_far; acts = acts; state = s; legal = record { there = tt; leads = refl }; stage = st }
+  law so_far (t ∷ front) rest acts s order st =
       let n = t.at in let m = t.moment in
-      let x = next so_far n m rest acts s st order.0 in
-      let r = law (extended n m so_far) rest (acting n x.act acts) (put n s x.done.0 x.done.1) order.1 (stage_next so_far n m rest acts s st order.0 x) in
-      record { so_far = r.so_far; acts = r.acts; state = r.state; legal = ap (follow f (events_of rest)) x.stepped ∙ r.legal; stage = r.stage }
+      let x = next so_far n m (front ++ rest) acts s st order.0 in
+      let r = law (extended n m so_far) front rest (acting n x.act acts) (put n s x.done.0 x.done.1) order.1 (stage_next so_far n m (front ++ rest) acts s st order.0 x) in
+      record {
+        so_far = r.so_far;
+        acts = r.acts;
+        state = r.state;
+        legal = record { there = (there so_far n m (front ++ rest) acts s st order.0, r.legal.there); leads = ap (follow f (events_of front)) x.stepped ∙ r.legal.leads };
+        stage = r.stage;
+      }
 
-  pub law_of_courses : (joint : List Stored) → IsJoint courses joint → Reached opening (events_of joint)
-  law_of_courses joint j = law (λ n. []) joint (λ n. []) opening j.in_order (record {
+  pub law_of_courses : (joint : List Stored) → IsJoint courses joint → (front rest : List Stored) → front ++ rest ≡ joint → Reached opening front rest
+  law_of_courses joint j front rest e = law (λ n. []) front rest (λ n. []) opening (subst AreInOrder (sym e) j.in_order) (record {
     sound = opening_sound f ok;
-    split = j.whole;
+    split = λ n. subst (λ ss. of_node n ss ≡ courses n) (sym e) (j.whole n);
     acts_for = λ n. tt;
     asked = λ n. tt;
     replays = λ n. ([], refl, λ to. refl);

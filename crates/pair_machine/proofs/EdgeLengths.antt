@@ -1,28 +1,31 @@
--- No stage sends more rows than there are trades, so each edge is short.
-use Rattle.std.proofs.Common.{◌≡◌, ◌<◌, ◌≤◌, ℕ, zero, suc, Bool, true, false, List, [], ◌∷◌, ◌++◌, ◌+◌, Option, None, Some, get_or, length, map, refl, sym, ap, ◌∙◌, subst, arith, take, append_assoc}
-use Rattle.std.specs.Prelude.{All, filter, fold, if◌then◌else◌, ◌==◌, ◌||◌, ◌%◌}
+-- A stage sends at most so many rows for each that it takes, as its operator answers one with, so each edge is short.
+use Rattle.std.proofs.Common.{◌≡◌, ◌<◌, ◌≤◌, ◌⊎◌, inl, inr, ℕ, zero, suc, Bool, true, false, List, [], ◌∷◌, ◌++◌, ◌+◌, ◌-◌, ◌*◌, Option, None, Some, get_or, length, map, refl, sym, ap, ◌∙◌, subst, arith, take, append_assoc}
+use Rattle.std.specs.Prelude.{All, filter, fold, if◌then◌else◌, ◌==◌, ◌%◌}
 use Rattle.std.specs.List.{range_with_len}
-use Rattle.std.proofs.lemmas.Bool.{eqb-true, eqb-false}
-use Rattle.std.proofs.lemmas.List.{append-nil, length-append}
+use Rattle.std.proofs.lemmas.Bool.{cases_lt, eqb-true}
+use Rattle.std.proofs.lemmas.List.{append-nil, length-append, take_all, take-take}
 use Rattle.std.proofs.lemmas.List.Elements.{All-head, All-tail, All-take}
+use Rattle.tuple_edge.specs.Input.{Input}
 use Rattle.tuple_edge.specs.declared.item.Item.{Item}
 use Rattle.tuple_edge.specs.declared.item.Item.TheVariants as item
 use Rattle.tuple_edge.specs.declared.row.Row.{Row}
 use Rattle.tuple_edge.specs.Row.{route_of}
 use Rattle.tuple_edge.specs.Item.{stamp_of}
 use Rattle.merge_order.specs.Edges.{AllFrom, IsEdge}
-use Rattle.merge_order.specs.Merged.{Place, all_rows_at, has_mark_at, is_row_at, items, mark_at, merged, rows_at, stamp_at, stamps_upto}
+use Rattle.merge_order.specs.Merged.{Place, all_rows_at, is_row_at, items, mark_at, merged, rows_at, stamp_at, stamps_upto}
 use Rattle.merge_order.proofs.Choices.{if_elim}
-use Rattle.merge_order.proofs.Forms.{items-append, merged_edge, merged_marks}
-use Rattle.merge_order.proofs.Taken.{mark_none, rows_cons, rows_if, some_mark_at}
-use Rattle.stream_ops.proofs.AnswerLaws.{length-answers}
+use Rattle.merge_order.proofs.Forms.{items-append, merged_edge}
+use Rattle.merge_order.proofs.Taken.{rows_cons, rows_if, some_mark_at}
+use Rattle.stream_ops.proofs.AnswerLaws.{length-answers, most_rows-few, most_rows-plain}
+use Rattle.stream_ops.specs.Limits.{max_join_rows}
+use Rattle.stream_ops.specs.Spec.{most_rows}
 use Rattle.stream_ops.proofs.Counts.{rows_of-append}
 use Rattle.stream_ops.specs.Answers.{IsOpen, answer, answers, end_answer, rows_of}
 use Rattle.stream_ops.specs.declared.spec.OpSpec.{OpSpec}
-use Rattle.plan_reader.specs.PlanView.{IsPlan, PlanView}
+use Rattle.plan_reader.specs.PlanView.{IsJoinLast, IsPlan, IsStage, PlanView, is_joining}
 use Rattle.plan_reader.specs.declared.stage.Stage.{Stage}
-use Rattle.pair_machine.specs.Ingress.{last_stamp, mark_after, sent_by_ingress, sent_from}
-use Rattle.pair_machine.specs.Edges.{answered, edge_to, edges_to, goes_to, passed, sent_by, sent_by_part, sent_by_stage, stamped}
+use Rattle.pair_machine.specs.Ingress.{last_stamp, mark_after, row_of_source, sent_by_ingress, sent_by_source, sent_from}
+use Rattle.pair_machine.specs.Edges.{answered, edge_to, edges_to, goes_to, most_sent, passed, sent_by, sent_by_part, sent_by_stage, stamped}
 use Rattle.pair_machine.proofs.Sending.{edges_to_edges, merged_part}
 use Rattle.pair_machine.proofs.Stages.{HasPart, Send, ingress_marks, ingress_sends, send_edges, stage_sends, stages_have_parts}
 
@@ -178,7 +181,7 @@ routed_count stage (item.Row s r ∷ is) q n = let once = row_goes stage s r is 
 routed_count stage (item.Mark s ∷ is) q n = omega (arith, sign_goes stage (item.Mark s) is (λ k. refl) q n, routed_count stage is q n)
 routed_count stage (item.End s ∷ is) q n = omega (arith, sign_goes stage (item.End s) is (λ k. refl) q n, routed_count stage is q n)
 
--- an operator answers no more rows than it is given ----------------------------------------
+-- an operator answers each row with at most so many ---------------------------------------
 
 rows_of-stamped : (s : ℕ) (rows : List Row) (is : List Item) → rows_of (stamped s rows ++ is) ≡ rows ++ rows_of is
 rows_of-stamped s [] is = refl
@@ -214,59 +217,139 @@ ended last (item.Row s r ∷ is) e = let h = ended last is e.3 in record { front
 ended last (item.Mark s ∷ is) e = let h = ended last is e.3 in record { front = item.Mark s ∷ h.front; unended = h.unended; whole = ap (λ x. item.Mark s ∷ x) h.whole }
 ended last (item.End s ∷ is) e = record { front = []; unended = tt; whole = ap (λ k. item.End k ∷ is) e.1 ∙ ap (λ x. item.End last ∷ x) e.2 }
 
-answers_most : (op : OpSpec) (front : List Item) (last : ℕ) → IsOpen front → length (answers op [] (front ++ item.End last ∷ [])) ≤ row_count (front ++ item.End last ∷ [])
+-- more rows are at most so many more
+times_more : (m : ℕ) {a b : ℕ} → a ≤ b → m * a ≤ m * b
+times_more zero l = omega arith
+times_more (suc m) l = let more = times_more m l in omega arith
+
+answers_most : (op : OpSpec) (front : List Item) (last : ℕ) → IsOpen front → length (answers op [] (front ++ item.End last ∷ [])) ≤ most_rows op * row_count (front ++ item.End last ∷ [])
 answers_most op front last unended =
     let split : length (answers op [] (front ++ item.End last ∷ [])) ≡ length (answers op [] front) + length (end_answer op front) =
     ap length (answers-append op [] front (item.End last ∷ []) ∙ ap (λ x. answers op [] front ++ x) (append-nil (end_answer op front)))
     ∙ length-append (answers op [] front) (end_answer op front) in
-    omega (arith, split, length-answers op front unended, row_count-append front (item.End last ∷ []))
+    let most = length-answers op front unended in
+    let same : row_count front ≤ row_count (front ++ item.End last ∷ []) = omega (arith, row_count-append front (item.End last ∷ [])) in
+    let more = times_more (most_rows op) same in
+    omega (arith, split, most, more)
 
-pub answered_count : (op : OpSpec) (last : ℕ) (is : List Item) → IsEdge last is → row_count (answered op [] is) ≤ row_count is
+pub answered_count : (op : OpSpec) (last : ℕ) (is : List Item) → IsEdge last is → row_count (answered op [] is) ≤ most_rows op * row_count is
 answered_count op last is e =
     let h = ended last is e in
-    let P : List Item → Type 0 = λ x. length (answers op [] x) ≤ row_count x in
-    let most : length (answers op [] is) ≤ row_count is = subst P (sym h.whole) (answers_most op h.front last h.unended) in
+    let P : List Item → Type 0 = λ x. length (answers op [] x) ≤ most_rows op * row_count x in
+    let most : length (answers op [] is) ≤ most_rows op * row_count is = subst P (sym h.whole) (answers_most op h.front last h.unended) in
     omega (arith, ap length (rows_of-answered op [] is), most)
 
 -- from stage to stage ---------------------------------------------------------------------
 
 part_sends_count : (last : ℕ) (carries : ℕ → Bool) (sent : List (List Item)) → Send last carries sent → (stage : Stage) (q : ℕ)
-    → row_count (sent_by_part last sent stage q) ≤ part_count stage (items (merged last sent)) q
+    → row_count (sent_by_part last sent stage q) ≤ most_rows stage.op * part_count stage (items (merged last sent)) q
 part_sends_count last carries sent s stage q =
     let into = edges_to (Some stage) q sent in
     let edge_is = merged_edge last into (edges_to_edges (Some stage) q last sent (send_edges last carries sent s)) in
-    omega (arith, answered_count stage.op last (items (merged last into)) edge_is, ap row_count (merged_part stage q last sent))
+    omega (arith, answered_count stage.op last (items (merged last into)) edge_is, ap (λ is. most_rows stage.op * row_count is) (merged_part stage q last sent))
 
 parts_send_count : (last : ℕ) (carries : ℕ → Bool) (sent : List (List Item)) → Send last carries sent → (stage : Stage) (q n : ℕ)
-    → all_row_count (map (sent_by_part last sent stage) (range_with_len q n)) ≤ parts_count stage (items (merged last sent)) q n
+    → all_row_count (map (sent_by_part last sent stage) (range_with_len q n)) ≤ most_rows stage.op * parts_count stage (items (merged last sent)) q n
 parts_send_count last carries sent s stage q zero = omega arith
 parts_send_count last carries sent s stage q (suc n) = omega (arith, part_sends_count last carries sent s stage q, parts_send_count last carries sent s stage (q + 1) n)
 
-stage_count : (last : ℕ) (carries : ℕ → Bool) (sent : List (List Item)) → Send last carries sent → (stage : Stage) → all_row_count (sent_by_stage last sent stage) ≤ all_row_count sent
+stage_count : (last : ℕ) (carries : ℕ → Bool) (sent : List (List Item)) → Send last carries sent → (stage : Stage) → all_row_count (sent_by_stage last sent stage) ≤ most_rows stage.op * all_row_count sent
 stage_count last carries sent s stage =
-    omega (arith, parts_send_count last carries sent s stage 0 stage.parts, routed_count stage (items (merged last sent)) 0 stage.parts, merged_count last sent)
+    let given : parts_count stage (items (merged last sent)) 0 stage.parts ≤ all_row_count sent = omega (arith, routed_count stage (items (merged last sent)) 0 stage.parts, merged_count last sent) in
+    omega (arith, parts_send_count last carries sent s stage 0 stage.parts, times_more (most_rows stage.op) given)
 
 stages_count : (last : ℕ) (carries : ℕ → Bool) (stages : List Stage) (sent : List (List Item)) → All HasPart stages → Send last carries sent
-    → all_row_count (fold (sent_by_stage last) sent stages) ≤ all_row_count sent
+    → all_row_count (fold (sent_by_stage last) sent stages) ≤ most_sent stages * all_row_count sent
 stages_count last carries [] sent parts s = omega arith
 stages_count last carries (stage ∷ stages) sent parts s =
     let next = stage_sends last carries sent stage (All-head HasPart stage stages parts) s in
-    omega (arith, stage_count last carries sent s stage, stages_count last carries stages (sent_by_stage last sent stage) (All-tail HasPart stage stages parts) next)
+    let more = times_more (most_sent stages) (stage_count last carries sent s stage) in
+    omega (arith, stages_count last carries stages (sent_by_stage last sent stage) (All-tail HasPart stage stages parts) next, more)
 
-trades_count : (mark n : ℕ) (rows : List Row) → row_count (sent_from mark n rows) ≡ length rows
-trades_count mark n [] = refl
-trades_count mark n (r ∷ rows) =
+-- each input goes to one source
+source_count : (q mark n : ℕ) (r : Input) (inputs : List Input) → row_count (sent_from q mark n (r ∷ inputs)) ≡ as_one (r.source == q) + row_count (sent_from q mark (n + 1) inputs)
+source_count q mark n r inputs =
     let none : row_count (mark_after mark n) ≡ 0 = if_elim (λ is. row_count is ≡ 0) (n % mark == 0) (item.Mark n ∷ []) [] (λ e. refl) (λ e. refl) in
-    omega (arith, row_count-append (mark_after mark n) (sent_from mark (n + 1) rows), none, trades_count mark (n + 1) rows)
-
--- no stage sends more rows than there are trades
-pub sent_count : (plan : PlanView) (rows : List Row) → IsPlan plan → (s : ℕ) → all_row_count (sent_by plan rows s) ≤ length rows
-sent_count plan rows p s =
     omega (
       arith,
-      stages_count (last_stamp rows) (ingress_marks plan rows) (take s plan.stages) (sent_by_ingress plan rows ∷ []) (All-take HasPart s plan.stages (stages_have_parts plan p)) (ingress_sends plan rows),
-      trades_count plan.mark 1 rows,
+      row_count-append (row_of_source q n r) (mark_after mark n ++ sent_from q mark (n + 1) inputs),
+      row_count-append (mark_after mark n) (sent_from q mark (n + 1) inputs),
+      one (r.source == q),
+      none,
     )
+  where
+    one : (b : Bool) → row_count (if b then item.Row n r.row ∷ [] else []) ≡ as_one b
+    one true = refl
+    one false = refl
+
+-- how many rows the sources from q on send, so many of them
+abbrev sources_count : (mark n : ℕ) → List Input → (q sources : ℕ) → ℕ
+sources_count mark n inputs q zero = 0
+sources_count mark n inputs q (suc sources) = row_count (sent_from q mark n inputs) + sources_count mark n inputs (q + 1) sources
+
+no_inputs : (mark n q sources : ℕ) → sources_count mark n [] q sources ≡ 0
+no_inputs mark n q zero = refl
+no_inputs mark n q (suc sources) = omega (arith, no_inputs mark n (q + 1) sources)
+
+one_source : (mark n : ℕ) (r : Input) (inputs : List Input) (q sources : ℕ)
+    → CountedOnce (r.source < q) (sources_count mark n (r ∷ inputs) q sources) (sources_count mark (n + 1) inputs q sources)
+one_source mark n r inputs q zero = record { before = λ l. refl; most = omega arith }
+one_source mark n r inputs q (suc sources) = go (r.source == q) (eqb-true r.source q) (source_count q mark n r inputs) (one_source mark n r inputs (q + 1) sources)
+  where
+    go : (b : Bool) → (b ≡ true → r.source ≡ q) → row_count (sent_from q mark n (r ∷ inputs)) ≡ as_one b + row_count (sent_from q mark (n + 1) inputs)
+        → CountedOnce (r.source < q + 1) (sources_count mark n (r ∷ inputs) (q + 1) sources) (sources_count mark (n + 1) inputs (q + 1) sources)
+        → CountedOnce (r.source < q) (row_count (sent_from q mark n (r ∷ inputs)) + sources_count mark n (r ∷ inputs) (q + 1) sources)
+        (row_count (sent_from q mark (n + 1) inputs) + sources_count mark (n + 1) inputs (q + 1) sources)
+    go true is_here count old = let same = is_here refl in record { before = λ l. absurd (omega arith); most = omega (arith, count, old.before (omega arith)) }
+    go false is_here count old = record { before = λ l. omega (arith, count, old.before (omega arith)); most = omega (arith, count, old.most) }
+
+inputs_count : (mark n : ℕ) (inputs : List Input) (q sources : ℕ) → sources_count mark n inputs q sources ≤ length inputs
+inputs_count mark n [] q sources = omega (arith, no_inputs mark n q sources)
+inputs_count mark n (r ∷ inputs) q sources = let once = one_source mark n r inputs q sources in omega (arith, once.most, inputs_count mark (n + 1) inputs q sources)
+
+ingress_count : (plan : PlanView) (inputs : List Input) (q sources : ℕ) → all_row_count (map (sent_by_source plan inputs) (range_with_len q sources)) ≡ sources_count plan.mark 1 inputs q sources
+ingress_count plan inputs q zero = refl
+ingress_count plan inputs q (suc sources) = omega (arith, ingress_count plan inputs (q + 1) sources)
+
+-- a stage sends at most so many rows for each input
+pub sent_count : (plan : PlanView) (inputs : List Input) → IsPlan plan → (s : ℕ) → all_row_count (sent_by plan inputs s) ≤ most_sent (take s plan.stages) * length inputs
+sent_count plan inputs p s =
+    let given : all_row_count (sent_by_ingress plan inputs) ≤ length inputs = omega (arith, ingress_count plan inputs 0 plan.version, inputs_count plan.mark 1 inputs 0 plan.version) in
+    omega (
+      arith,
+      stages_count (last_stamp inputs) (ingress_marks plan inputs) (take s plan.stages) (sent_by_ingress plan inputs) (All-take HasPart s plan.stages (stages_have_parts plan p)) (ingress_sends plan inputs p),
+      times_more (most_sent (take s plan.stages)) given,
+    )
+
+-- how many that are -----------------------------------------------------------------------
+
+plain_stages : (stages : List Stage) → All (λ s. is_joining s ≡ false) stages → most_sent stages ≡ 1
+plain_stages [] plain = refl
+plain_stages (stage ∷ stages) plain =
+    let P : Stage → Type 0 = λ s. is_joining s ≡ false in
+    omega (arith, ap (λ m. m * most_sent stages) (most_rows-plain stage.op (All-head P stage stages plain)), plain_stages stages (All-tail P stage stages plain))
+
+-- the stages before the last one send at most a row for each
+pub before_last : (stages : List Stage) (s : ℕ) → IsJoinLast stages → s < length stages → most_sent (take s stages) ≡ 1
+before_last stages s last l =
+    let P : Stage → Type 0 = λ s. is_joining s ≡ false in
+    let front : take s (take (length stages - 1) stages) ≡ take s stages = take-take s (length stages - 1) stages (omega arith) in
+    plain_stages (take s stages) (subst (All P) front (All-take P s (take (length stages - 1) stages) last))
+
+few_of : (stages : List Stage) (k : ℕ) → length stages ≤ k + 1 → All (λ s. is_joining s ≡ false) (take k stages) → All IsStage stages → most_sent stages ≤ max_join_rows
+few_of [] k l plain limits = omega arith
+few_of (stage ∷ []) zero l plain limits = let few = most_rows-few stage.op (All-head IsStage stage [] limits).op in omega (arith, few.1)
+few_of (stage ∷ next ∷ stages) zero l plain limits = absurd (omega arith)
+few_of (stage ∷ stages) (suc k) l plain limits =
+    let P : Stage → Type 0 = λ s. is_joining s ≡ false in
+    omega (arith, ap (λ m. m * most_sent stages) (most_rows-plain stage.op (All-head P stage (take k stages) plain)), few_of stages k (omega arith) (All-tail P stage (take k stages) plain) (All-tail IsStage stage stages limits))
+
+pub few_sent : (plan : PlanView) (s : ℕ) → IsPlan plan → most_sent (take s plan.stages) ≤ max_join_rows
+few_sent plan s p = by (cases_lt s (length plan.stages))
+  where
+    by : (s < length plan.stages) ⊎ (length plan.stages ≤ s) → most_sent (take s plan.stages) ≤ max_join_rows
+    by (inl l) = omega (arith, before_last plan.stages s p.join_last l)
+    by (inr l) = subst (λ stages. most_sent stages ≤ max_join_rows) (sym (take_all s plan.stages l)) (few_of plan.stages (length plan.stages - 1) (omega arith) p.join_last p.stages)
 
 -- the length of an edge -----------------------------------------------------------------------
 
@@ -300,79 +383,3 @@ pub count_at : (es : List (List Item)) (q : ℕ) → row_count (get_or es q []) 
 count_at [] q = omega arith
 count_at (e ∷ es) zero = omega arith
 count_at (e ∷ es) (suc q) = omega (arith, count_at es q)
-
--- a stage sends no more items than it takes ----------------------------------------------------
-
-abbrev pub mark_count_of : List Item → ℕ
-mark_count_of [] = 0
-mark_count_of (item.Row s r ∷ is) = mark_count_of is
-mark_count_of (item.Mark s ∷ is) = 1 + mark_count_of is
-mark_count_of (item.End s ∷ is) = mark_count_of is
-
--- at how many of the stamps up to one an edge carries a mark
-abbrev marks_upto : ℕ → List Item → ℕ
-marks_upto zero e = 0
-marks_upto (suc n) e = marks_upto n e + as_one (has_mark_at (suc n) e)
-
-no_marks_upto : (n : ℕ) → marks_upto n [] ≡ 0
-no_marks_upto zero = refl
-no_marks_upto (suc n) = omega (arith, no_marks_upto n)
-
-ended_upto : (n s : ℕ) (is : List Item) → is ≡ [] → marks_upto n (item.End s ∷ is) ≡ 0
-ended_upto zero s is e = refl
-ended_upto (suc n) s is e = omega (arith, ended_upto n s is e, ap (λ x. as_one (has_mark_at (suc n) x)) e)
-
-rows_upto : (n s : ℕ) (r : Row) (is : List Item) → marks_upto n (item.Row s r ∷ is) ≡ marks_upto n is
-rows_upto zero s r is = refl
-rows_upto (suc n) s r is = omega (arith, rows_upto n s r is)
-
-one_mark_upto : (n s : ℕ) (is : List Item) → AllFrom (s + 1) is → (n < s → marks_upto n (item.Mark s ∷ is) ≡ marks_upto n is) × (1 ≤ s → s ≤ n → marks_upto n (item.Mark s ∷ is) ≡ marks_upto n is + 1)
-one_mark_upto zero s is f = (λ l. refl, λ one l. absurd (omega arith))
-one_mark_upto (suc n) s is f = go (s == suc n) (eqb-true s (suc n)) (eqb-false s (suc n)) (one_mark_upto n s is f)
-  where
-    none : s ≡ suc n → as_one (has_mark_at (suc n) is) ≡ 0
-    none e = ap as_one (mark_none (suc n) (s + 1) is (omega arith) f)
-
-    go : (b : Bool) → (b ≡ true → s ≡ suc n) → (b ≡ false → s ≡ suc n → ⊥)
-        → ((n < s → marks_upto n (item.Mark s ∷ is) ≡ marks_upto n is) × (1 ≤ s → s ≤ n → marks_upto n (item.Mark s ∷ is) ≡ marks_upto n is + 1))
-        → (suc n < s → marks_upto n (item.Mark s ∷ is) + as_one (b || has_mark_at (suc n) is) ≡ marks_upto n is + as_one (has_mark_at (suc n) is))
-        × (1 ≤ s → s ≤ suc n → marks_upto n (item.Mark s ∷ is) + as_one (b || has_mark_at (suc n) is) ≡ (marks_upto n is + as_one (has_mark_at (suc n) is)) + 1)
-    go true here not_here old =
-        let same = here refl in
-        (λ l. absurd (omega arith), λ one l. omega (arith, old.0 (omega arith), none same))
-    go false here not_here old =
-        let apart = not_here refl in
-        (λ l. omega (arith, old.0 (omega arith)), λ one l. omega (arith, old.1 one (omega (arith, apart))))
-
--- an edge has one mark for each stamp at which it carries one
-marks_are : (last : ℕ) (e : List Item) → IsEdge last e → mark_count_of e ≡ marks_upto last e
-marks_are last [] e = absurd e
-marks_are last (item.Row s r ∷ is) e = omega (arith, rows_upto last s r is, marks_are last is e.3)
-marks_are last (item.Mark s ∷ is) e = omega (arith, (one_mark_upto last s is e.2).1 e.0 e.1, marks_are last is e.3)
-marks_are last (item.End s ∷ is) e = omega (arith, ended_upto last s is e.2, ap mark_count_of e.2)
-
-same_upto : (n : ℕ) (d e : List Item) → ((k : ℕ) → has_mark_at k d ≡ has_mark_at k e) → marks_upto n d ≡ marks_upto n e
-same_upto zero d e same = refl
-same_upto (suc n) d e same = omega (arith, same_upto n d e same, ap as_one (same (suc n)))
-
-parts_are : (last : ℕ) (e : List Item) → IsEdge last e → length e ≡ (row_count e + mark_count_of e) + 1
-parts_are last [] e = absurd e
-parts_are last (item.Row s r ∷ is) e = omega (arith, parts_are last is e.3)
-parts_are last (item.Mark s ∷ is) e = omega (arith, parts_are last is e.3)
-parts_are last (item.End s ∷ is) e = omega (arith, ap length e.2, ap row_count e.2, ap mark_count_of e.2)
-
--- edges with the same marks are as long as their rows make them
-longer_by_rows : (last : ℕ) (d e : List Item) → IsEdge last d → IsEdge last e → ((k : ℕ) → has_mark_at k d ≡ has_mark_at k e) → row_count d ≤ row_count e → length d ≤ length e
-longer_by_rows last d e is_d is_e same l = omega (arith, parts_are last d is_d, parts_are last e is_e, marks_are last d is_d, marks_are last e is_e, same_upto last d e same)
-
--- what the partitions of a stage send is, merged, no longer than what its sources sent, merged
-pub stage_shorter : (last : ℕ) (carries : ℕ → Bool) (sent : List (List Item)) → Send last carries sent → (stage : Stage) → HasPart stage
-    → length (items (merged last (sent_by_stage last sent stage))) ≤ length (items (merged last sent))
-stage_shorter last carries sent s stage part =
-    let next = stage_sends last carries sent stage part s in
-    let after = sent_by_stage last sent stage in
-    let edges = send_edges last carries sent s in
-    let edges_after = send_edges last carries after next in
-    longer_by_rows last (items (merged last after)) (items (merged last sent)) (merged_edge last after edges_after) (merged_edge last sent edges)
-    (λ k. merged_marks last after edges_after k ∙ sym (merged_marks last sent edges k))
-    (omega (arith, merged_count last after, parts_send_count last carries sent s stage 0 stage.parts, routed_count stage (items (merged last sent)) 0 stage.parts))

@@ -2,7 +2,7 @@
 use Rattle.std.proofs.Common.{◌≡◌, ◌<◌, ℕ, zero, suc, List, [], ◌∷◌, ◌∙◌, None, Some, ap, arith, get_or, length, refl}
 use Rattle.std.specs.Prelude.{slice_get}
 use Rattle.tuple_edge.specs.declared.item.Item.{Item}
-use Rattle.tuple_edge.specs.declared.row.Row.{Row}
+use Rattle.tuple_edge.specs.Input.{Input}
 use Rattle.merge_order.specs.Merged.{items, merged}
 use Rattle.stream_ops.specs.Answers.{rows_of}
 use Rattle.plan_reader.specs.PlanView.{PlanView}
@@ -25,8 +25,8 @@ all_goes t [] = refl
 all_goes t (e ∷ sent) = ap (λ x. e ∷ x) (all_goes t sent)
 
 -- the output is the rows of the merged list of what the last stage sends
-pub output-is : (plan : PlanView) (rows : List Row) → output plan rows ≡ rows_of (items (merged (last_stamp rows) (sent_by plan rows (length plan.stages))))
-output-is plan rows =
-    let last = last_stamp rows in
-    let sent = sent_by plan rows (length plan.stages) in
+pub output-is : (plan : PlanView) (inputs : List Input) → output plan inputs ≡ rows_of (items (merged (last_stamp inputs) (sent_by plan inputs (length plan.stages))))
+output-is plan inputs =
+    let last = last_stamp inputs in
+    let sent = sent_by plan inputs (length plan.stages) in
     ap (λ o. rows_of (items (merged last (edges_to o 0 sent)))) (no_stage plan.stages) ∙ ap (λ es. rows_of (items (merged last es))) (all_goes 0 sent)

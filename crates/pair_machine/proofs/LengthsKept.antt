@@ -3,7 +3,7 @@ use Rattle.std.proofs.Common.{◌≡◌, ◌≢◌, ◌<◌, ◌≤◌, ℕ, zer
 use Rattle.std.specs.Prelude.{max, min, ◌==◌, if◌then◌else◌, nat_lt, nat_le, length}
 use Rattle.std.proofs.lemmas.Bool.{eqb-true, eq-eqb, ltb-true}
 use Rattle.tuple_edge.specs.declared.node.NodeId.TheVariants as node
-use Rattle.pair_machine.specs.Boundary.{egress_does, egress_partition, egress_takes, egress_tells, ingress_does, ingress_partition, ingress_sends, ingress_takes}
+use Rattle.pair_machine.specs.Boundary.{egress_does, egress_partition, egress_takes, egress_tells, ingress_does, ingress_source, ingress_takes, source_made, with_producer}
 use Rattle.pair_machine.specs.Consumers.{all_below, is_ready, merged_one, offered, telling, untold, with_at}
 use Rattle.pair_machine.specs.Controllers.{controller_takes}
 use Rattle.pair_machine.specs.Flow.{Flow, IsFlow}
@@ -25,6 +25,7 @@ use Rattle.pair_machine.proofs.Frame.{EnvelopesMeet, framed}
 use Rattle.pair_machine.proofs.CountedKept.{run_up-above}
 use Rattle.pair_machine.proofs.LinksKept.{controller_fit}
 use Rattle.pair_machine.proofs.Found.{IsDue, is_due}
+use Rattle.pair_machine.proofs.Sources.{each_producer, works_by}
 use Rattle.pair_machine.proofs.Tests.{both, if_elim}
 
 all_holds : (n : ℕ) (p : ℕ → Bool) → all_below n p ≡ true → (q : ℕ) → q < n → p q ≡ true
@@ -231,24 +232,30 @@ module _ (f : Flow) (ok : IsFlow f) where
     does_bound (Pulls q) (Gathering g) h c = tt
 
   -- ingress and egress
+  abbrev IngressBound : Ingress → Type 0
+  IngressBound x = (x.makes ≤ f.makes) × ((q : ℕ) → ProducerBound (x.producers q))
+
+  of_source_bound : (x : Ingress) (q : ℕ) (y : Producer) → ProducerBound y → IngressBound x → IngressBound (with_producer x q y)
+  of_source_bound x q y h c = (c.0, each_producer (λ j. ProducerBound) x q y h c.1)
+
   abbrev IngressBoundOk : Result (Ingress × List Envelope) Refusal → Type 0
-  IngressBoundOk (Ok d) = ((d.0.makes ≤ f.makes) × ProducerBound d.0.producer) × EnvelopesMeet (MessageBound f) node.Ingress d.1
+  IngressBoundOk (Ok d) = IngressBound d.0 × EnvelopesMeet (MessageBound f) node.Ingress d.1
   IngressBoundOk (Err e) = Unit {0}
 
-  ingress_takes_bound : (from : NodeId) (m : Message) (x : Ingress) → (x.makes ≤ f.makes) × ProducerBound x.producer → ((ingress_takes from m x).makes ≤ f.makes) × ProducerBound (ingress_takes from m x).producer
-  ingress_takes_bound from (Ack e u) x c = (c.0, acked_bound x.producer e.to u c.1)
-  ingress_takes_bound from (Want e n) x c = (c.0, wanted_bound x.producer e.to (which_of from) n c.1)
+  ingress_takes_bound : (from : NodeId) (m : Message) (x : Ingress) → IngressBound x → IngressBound (ingress_takes from m x)
+  ingress_takes_bound from (Ack e u) x c = of_source_bound x e.from (acked_to (x.producers e.from) e.to u) (acked_bound (x.producers e.from) e.to u (c.1 e.from)) c
+  ingress_takes_bound from (Want e n) x c = of_source_bound x e.from (wanted (x.producers e.from) e.to (which_of from) n) (wanted_bound (x.producers e.from) e.to (which_of from) n (c.1 e.from)) c
   ingress_takes_bound from message x c = c
 
-  ingress_sends_bound : (x : Ingress) (d : Option Due) → IsDue (made_by f ingress_partition x.makes) x.producer (f.targets 0) d → (x.makes ≤ f.makes) × ProducerBound x.producer → IngressBoundOk (ingress_sends f x d)
-  ingress_sends_bound x None h c = tt
-  ingress_sends_bound x (Some d) h c =
-      let l = c.1.above d.to d.copy in let most = ok.makes_most d.to x.makes in
-      ((c.0, sent_bound x.producer d h.1 c.1), ((omega (arith, h.1), omega (arith, h.2)), tt))
+  source_sends_bound : (x : Ingress) (q : ℕ) (d : Due) → IsDue (source_made f x q) (x.producers q) (f.targets 0) (Some d) → IngressBound x
+      → IngressBoundOk (Ok (with_producer x q (sent_on (x.producers q) d), sends_due f (ingress_source q) d))
+  source_sends_bound x q d h c =
+      let l = (c.1 q).above d.to d.copy in let most = ok.makes_most q d.to x.makes in
+      (of_source_bound x q (sent_on (x.producers q) d) (sent_bound (x.producers q) d h.1 (c.1 q)) c, ((omega (arith, h.1), omega (arith, h.2)), tt))
 
-  ingress_bound : (a : Act) (x : Ingress) → (x.makes ≤ f.makes) × ProducerBound x.producer → IngressBoundOk (ingress_does f a x)
+  ingress_bound : (a : Act) (x : Ingress) → IngressBound x → IngressBoundOk (ingress_does f a x)
   ingress_bound (Takes from m) x c = (ingress_takes_bound from m x c, tt)
-  ingress_bound Works x c = ingress_sends_bound x (due f ingress_partition (made_by f ingress_partition x.makes) x.producer) (is_due f ingress_partition (made_by f ingress_partition x.makes) x.producer) c
+  ingress_bound Works x c = works_by f x IngressBoundOk tt (λ q d l h. source_sends_bound x q d h c)
   ingress_bound Makes x c = if_elim IngressBoundOk (nat_lt x.makes f.makes) _ _ (λ e. let l = ltb-true x.makes f.makes e in ((omega arith, c.1), tt)) (λ e. tt)
   ingress_bound act x c = tt
 
@@ -296,11 +303,11 @@ module _ (f : Flow) (ok : IsFlow f) where
   replica_buffer p t (Gathering g) o s within few c e = cc
   replica_buffer p t (Running x) o s within few c e = let z : buffer (x.producer.lows t) (made_by f p x.consumer.count t) ≡ o = cc in let y = ap (λ (v : Buffer). v.produced) z in let m = ok.made_most p t x.consumer.count s within few in omega arith
 
-  buffer_most : (e : EdgeId) (n : NodeId) (x : Node) (o : Buffer) → NodeBound f n x → HasNode f n → IsProducer e n → buffer_of f e.to n x ≡ Some o → o.produced ≤ f.length e
+  buffer_most : (e : EdgeId) (n : NodeId) (x : Node) (o : Buffer) → NodeBound f n x → HasNode f n → IsProducer f e n → buffer_of f e.from e.to n x ≡ Some o → o.produced ≤ f.length e
   buffer_most e node.Ingress x o b h g inner =
-      let same = ap f.length (edge_as e 0 0 e.to g.0 g.1 refl) in
-      let z : buffer ((ingress_in x).producer.lows e.to) (made_by f ingress_partition (ingress_in x).makes e.to) ≡ o = cc in let y = ap (λ (v : Buffer). v.produced) z in
-      let m = ok.makes_most e.to (ingress_in x).makes in omega arith
+      let same = ap f.length (edge_as e 0 e.from e.to g.0 refl refl) in
+      let z : buffer (((ingress_in x).producers e.from).lows e.to) (source_made f (ingress_in x) e.from e.to) ≡ o = cc in let y = ap (λ (v : Buffer). v.produced) z in
+      let m = ok.makes_most e.from e.to (ingress_in x).makes in omega arith
   buffer_most e (node.Replica s p w) x o b h g inner =
       let same = ap f.length (edge_as e s p e.to g.1 g.2 refl) in
       let m = replica_buffer (record { stage = s; part = p }) e.to (replica_in x) o h.0.0 h.0.1 h.1 b inner in omega arith

@@ -3,7 +3,7 @@ use Rattle.std.proofs.Common.{◌≡◌, ◌≢◌, ◌<◌, ◌≤◌, ℕ, zer
 use Rattle.std.specs.Prelude.{◌==◌, nat_lt, nat_le}
 use Rattle.std.proofs.lemmas.Bool.{eqb-true, eq-eqb, leb-true}
 use Rattle.tuple_edge.specs.declared.node.NodeId.TheVariants as node
-use Rattle.pair_machine.specs.Boundary.{egress_does, egress_partition, egress_tells, ingress_does, ingress_partition, ingress_sends}
+use Rattle.pair_machine.specs.Boundary.{egress_does, egress_partition, egress_tells, ingress_does, ingress_source, source_made}
 use Rattle.pair_machine.specs.Consumers.{is_ready, untold}
 use Rattle.std.specs.Option.{is_none}
 use Rattle.pair_machine.specs.Controllers.{acks, acks_from, backs, controller_hears, controller_takes, counts, goes_down, is_catching, is_down, is_up, leads_now, least, stops, then_do}
@@ -22,6 +22,7 @@ use Rattle.pair_machine.proofs.Lists.{each_append}
 use Rattle.pair_machine.proofs.StepTurns.{HoldsOnOk, step_by}
 use Rattle.pair_machine.proofs.Frame.{EnvelopesMeet, framed}
 use Rattle.pair_machine.proofs.Found.{FoundIn, first_found, IsDue, is_due}
+use Rattle.pair_machine.proofs.Sources.{works_by}
 use Rattle.pair_machine.proofs.Tests.{both, if_elim}
 
 module _ (f : Flow) (ok : IsFlow f) where
@@ -30,15 +31,15 @@ module _ (f : Flow) (ok : IsFlow f) where
 
   -- the producers of an in-edge
   producers_fit : (p : Partition) (from : NodeId) (q : ℕ) (m : Message) → 1 ≤ p.stage → p.stage ≤ f.stages + 1 → q < f.sources p.stage →
-      ((to : NodeId) → IsProducer (in_edge p q) to → Carries f (link from to) m) → Fit from (to_producers p q m)
+      ((to : NodeId) → IsProducer f (in_edge p q) to → Carries f (link from to) m) → Fit from (to_producers p q m)
   producers_fit p from q m s within l h = if_elim (Fit from) (p.stage == 1) _ _
-      (λ e. let one = eqb-true p.stage 1 e in let few = ap f.sources one in let first = ok.first_sources in (h node.Ingress (omega arith, omega arith), tt))
+      (λ e. let one = eqb-true p.stage 1 e in let few = ap f.sources one in (h node.Ingress (omega arith, omega arith), tt))
       (λ e. let far : 1 ≤ p.stage - 1 = not_one p.stage s e in (h (node.Replica (p.stage - 1) q A) (far, refl, refl), (h (node.Replica (p.stage - 1) q B) (far, refl, refl), tt)))
     where
       not_one : (t : ℕ) → 1 ≤ t → (t == 1) ≡ false → 1 ≤ t - 1
       not_one t l e = let ne : t ≢ 1 = λ z. (let y = eq-eqb t 1 z in cc) in omega arith
 
-  due_fit : (p : Partition) (from : NodeId) (made : ℕ → ℕ) (x : Producer) (d : Due) → IsDue made x (f.targets p.stage) (Some d) → IsProducer (out_edge p d.to) from → Fit from (sends_due f p d)
+  due_fit : (p : Partition) (from : NodeId) (made : ℕ → ℕ) (x : Producer) (d : Due) → IsDue made x (f.targets p.stage) (Some d) → IsProducer f (out_edge p d.to) from → Fit from (sends_due f p d)
   due_fit p from made x d h o = if_elim (λ n. Fit from (envelope n (Tuple (out_edge p d.to) d.number) ∷ [])) (p.stage == f.stages) _ _
       (λ e. let last = eqb-true p.stage f.stages e in let few = ap f.targets last in let only = ok.last_targets in let l = h.0 in ((o, (last, omega arith)), tt))
       (λ e. ((o, (refl, refl)), tt))
@@ -158,13 +159,9 @@ module _ (f : Flow) (ok : IsFlow f) where
   IngressFits (Ok d) = Fit node.Ingress d.1
   IngressFits (Err e) = Unit {0}
 
-  ingress_sends_fit : (x : Ingress) (made : ℕ → ℕ) (d : Option Due) → IsDue made x.producer (f.targets 0) d → IngressFits (ingress_sends f x d)
-  ingress_sends_fit x made None h = tt
-  ingress_sends_fit x made (Some d) h = due_fit ingress_partition node.Ingress made x.producer d h (refl, refl)
-
   ingress_fit : (a : Act) (x : Ingress) → IngressFits (ingress_does f a x)
   ingress_fit (Takes from m) x = tt
-  ingress_fit Works x = ingress_sends_fit x (made_by f ingress_partition x.makes) (due f ingress_partition (made_by f ingress_partition x.makes) x.producer) (is_due f ingress_partition (made_by f ingress_partition x.makes) x.producer)
+  ingress_fit Works x = works_by f x IngressFits tt (λ q d l h. due_fit (ingress_source q) node.Ingress (source_made f x q) (x.producers q) d h (refl, l))
   ingress_fit Makes x = if_elim IngressFits (nat_lt x.makes f.makes) _ _ (λ e. tt) (λ e. tt)
   ingress_fit act x = tt
 

@@ -1,7 +1,7 @@
 -- The laws, for each plan.
-use Rattle.std.proofs.Common.{◌≡◌, ◌≤◌, ℕ, List, Ok, refl, sym, subst}
+use Rattle.std.proofs.Common.{◌≡◌, ℕ, List, ◌++◌, Ok, refl, sym, subst}
 use Rattle.tuple_edge.specs.declared.node.NodeId.TheVariants as node
-use Rattle.tuple_edge.specs.declared.row.Row.{Row}
+use Rattle.tuple_edge.specs.Input.{Input}
 use Rattle.plan_reader.specs.PlanView.{IsPlan, PlanView}
 use Rattle.pair_machine.specs.declared.order.Order.{Order}
 use Rattle.pair_machine.specs.Scripts.{AreWithin, IsSafe}
@@ -11,15 +11,16 @@ use Rattle.pair_machine.specs.Counts.{flow_of}
 use Rattle.pair_machine.specs.Courses.{Agree, IsTrueCourse, Moment}
 use Rattle.pair_machine.specs.Flow.{Flow}
 use Rattle.pair_machine.specs.Joint.{IsJoint, IsLegalJoint, Stored}
+use Rattle.pair_machine.specs.Legal.{AreServedThroughout, IsLegal, IsOwedThroughout}
 use Rattle.pair_machine.specs.Lengths.{MessageBound}
 use Rattle.pair_machine.specs.Links.{Carries, HasNode, IsThere, link}
-use Rattle.pair_machine.specs.Lists.{Among, Each}
+use Rattle.pair_machine.specs.Lists.{Among}
 use Rattle.pair_machine.specs.MachineLaws.{GivesWhatIsAsked}
-use Rattle.pair_machine.specs.Machine.{Leads, State, opening, replica_in, step}
+use Rattle.pair_machine.specs.Machine.{State, opening, replica_in, step}
 use Rattle.pair_machine.specs.Messages.{Act, Chunk, ChunkEnd, Message, Takes}
 use Rattle.pair_machine.specs.Numbers.{Gathering, Gone, Partition, Replica, Running, other}
 use Rattle.pair_machine.specs.Pairs.{IsOneMove, IsPairSound, Side, in_chunk, in_end, in_gatherer, side_of}
-use Rattle.pair_machine.specs.Sound.{IsOwed, IsServed, IsSound}
+use Rattle.pair_machine.specs.Sound.{IsOwed, IsSound}
 use Rattle.tuple_edge.specs.declared.event.Event.{Event}
 use Rattle.tuple_edge.specs.declared.node.NodeId.{NodeId}
 use Rattle.tuple_edge.specs.declared.node.Which.{Which}
@@ -30,15 +31,17 @@ use Rattle.pair_machine.proofs.PlanFlow.{plan_is_flow}
 use Rattle.pair_machine.proofs.SoundKept.{opening_sound, owed_always, sound_kept, sound_owed}
 use Rattle.pair_machine.proofs.SafeRun.{never_lost}
 use Rattle.pair_machine.proofs.CourseLaw.{law_of_courses}
+use Rattle.pair_machine.proofs.Legal.{legal_front}
+use Rattle.pair_machine.proofs.Within.{within_front}
 
-pub steps_keep_sound : (plan : PlanView) (rows : List Row) → IsPlan plan → (s t : State) (e : Event) → IsThere (flow_of plan rows) e → IsSound (flow_of plan rows) s → step (flow_of plan rows) s e ≡ Ok t → IsSound (flow_of plan rows) t
-steps_keep_sound plan rows h s t e there sound done = let f = flow_of plan rows in subst (HoldsOnOk (IsSound f)) done (sound_kept f (plan_is_flow plan rows h) s e there sound)
+pub steps_keep_sound : (plan : PlanView) (inputs : List Input) → IsPlan plan → (s t : State) (e : Event) → IsThere (flow_of plan inputs) e → IsSound (flow_of plan inputs) s → step (flow_of plan inputs) s e ≡ Ok t → IsSound (flow_of plan inputs) t
+steps_keep_sound plan inputs h s t e there sound done = let f = flow_of plan inputs in subst (HoldsOnOk (IsSound f)) done (sound_kept f (plan_is_flow plan inputs h) s e there sound)
 
-pub plan_opens_sound : (plan : PlanView) (rows : List Row) → IsPlan plan → IsSound (flow_of plan rows) opening
-plan_opens_sound plan rows h = opening_sound (flow_of plan rows) (plan_is_flow plan rows h)
+pub plan_opens_sound : (plan : PlanView) (inputs : List Input) → IsPlan plan → IsSound (flow_of plan inputs) opening
+plan_opens_sound plan inputs h = opening_sound (flow_of plan inputs) (plan_is_flow plan inputs h)
 
-pub plan_owed : (plan : PlanView) (rows : List Row) → IsPlan plan → (es : List Event) (t : State) → Each (IsThere (flow_of plan rows)) es → Leads (flow_of plan rows) opening es t → IsOwed (flow_of plan rows) t
-plan_owed plan rows h es t there e = owed_always (flow_of plan rows) (plan_is_flow plan rows h) es t there e
+pub plan_owed : (plan : PlanView) (inputs : List Input) → IsPlan plan → (es : List Event) (t : State) → IsLegal (flow_of plan inputs) es t → IsOwedThroughout (flow_of plan inputs) es
+plan_owed plan inputs h es t legal front rest m e l = let f = flow_of plan inputs in owed_always f (plan_is_flow plan inputs h) front m (legal_front f opening t m es front rest legal e l).there l
 
 -- a part of a move came from the partner
 abbrev Partly : Side → Message → Type 0
@@ -90,11 +93,11 @@ act_asks f s n act h sound c = tt
 pub sound_asks : (f : Flow) (s : State) (n : NodeId) (a : Act) → HasNode f n → IsSound f s → WasSent f s n a → Asks f n (s.nodes n) a
 sound_asks f s n a h sound c = (sound.bound.nodes n, act_asks f s n a h sound c)
 
-pub plan_courses : (plan : PlanView) (rows : List Row) → IsPlan plan → (courses : NodeId → List Moment) →
-    ((n : NodeId) → IsTrueCourse (flow_of plan rows) (BodyStands plan rows) (Asks (flow_of plan rows)) n (courses n)) → Agree courses → (joint : List Stored) → IsJoint courses joint → IsLegalJoint plan rows courses joint
-plan_courses plan rows h courses truth agree joint j =
-    let f = flow_of plan rows in
-    let r = law_of_courses f (plan_is_flow plan rows h) (BodyStands plan rows) (Asks f) (sound_asks f) courses truth agree joint j in
+pub plan_courses : (plan : PlanView) (inputs : List Input) → IsPlan plan → (courses : NodeId → List Moment) →
+    ((n : NodeId) → IsTrueCourse (flow_of plan inputs) (BodyStands plan inputs) (Asks (flow_of plan inputs)) n (courses n)) → Agree courses → (joint : List Stored) → IsJoint courses joint → (front rest : List Stored) → front ++ rest ≡ joint → IsLegalJoint plan inputs courses front rest
+plan_courses plan inputs h courses truth agree joint j front rest e =
+    let f = flow_of plan inputs in
+    let r = law_of_courses f (plan_is_flow plan inputs h) (BodyStands plan inputs) (Asks f) (sound_asks f) courses truth agree joint j front rest e in
     record {
       reached = r.state;
       legal = r.legal;
@@ -102,11 +105,13 @@ plan_courses plan rows h courses truth agree joint j =
       replayed = λ n. record { before = r.so_far n; acts = r.acts n; sent = (r.stage.replays n).0; whole = r.stage.split n; acts_for = r.stage.acts_for n; asked = r.stage.asked n; replayed = (r.stage.replays n).1 };
     }
 
-pub plan_safe : (plan : PlanView) (rows : List Row) → IsPlan plan → (script : List Order) → IsSafe script → (es : List Event) (t : State) → Each (IsThere (flow_of plan rows)) es → AreWithin (flow_of plan rows) script es → Leads (flow_of plan rows) opening es t → (p : Partition) → 1 ≤ p.stage → IsServed t p
-plan_safe plan rows h script safe es t there within e p l = never_lost (flow_of plan rows) (plan_is_flow plan rows h) script safe es t there within e p l
+pub plan_safe : (plan : PlanView) (inputs : List Input) → IsPlan plan → (script : List Order) → IsSafe script → (es : List Event) (t : State) → IsLegal (flow_of plan inputs) es t → AreWithin (flow_of plan inputs) script es → AreServedThroughout (flow_of plan inputs) es
+plan_safe plan inputs h script safe es t legal within front rest m e l p at =
+    let f = flow_of plan inputs in
+    never_lost f (plan_is_flow plan inputs h) script safe front m (legal_front f opening t m es front rest legal e l).there (within_front f script front rest (subst (AreWithin f script) (sym e) within)) l p at
 
-pub sound_owes : (plan : PlanView) (rows : List Row) → IsPlan plan → (s : State) → IsSound (flow_of plan rows) s → IsOwed (flow_of plan rows) s
-sound_owes plan rows h s sound = sound_owed (flow_of plan rows) s sound
+pub sound_owes : (plan : PlanView) (inputs : List Input) → IsPlan plan → (s : State) → IsSound (flow_of plan inputs) s → IsOwed (flow_of plan inputs) s
+sound_owes plan inputs h s sound = sound_owed (flow_of plan inputs) s sound
 
-pub sound_gives : (plan : PlanView) (rows : List Row) → IsPlan plan → (s : State) → IsSound (flow_of plan rows) s → GivesWhatIsAsked plan rows s
-sound_gives plan rows h s sound = record { nodes = sound.bound.nodes; messages = λ n from m at c. taken_asks (flow_of plan rows) s n from m at sound c }
+pub sound_gives : (plan : PlanView) (inputs : List Input) → IsPlan plan → (s : State) → IsSound (flow_of plan inputs) s → GivesWhatIsAsked plan inputs s
+sound_gives plan inputs h s sound = record { nodes = sound.bound.nodes; messages = λ n from m at c. taken_asks (flow_of plan inputs) s n from m at sound c }

@@ -6,7 +6,7 @@ use Rattle.std.proofs.lemmas.List.{append-nil}
 use Rattle.std.proofs.lemmas.List.Elements.{filter-append}
 use Rattle.tuple_edge.specs.declared.item.Item.{Item}
 use Rattle.tuple_edge.specs.declared.item.Item.TheVariants as item
-use Rattle.tuple_edge.specs.declared.row.Row.{Row}
+use Rattle.tuple_edge.specs.Input.{Input}
 use Rattle.tuple_edge.specs.Item.{stamp_of}
 use Rattle.merge_order.proofs.AfterNext.{front_more}
 use Rattle.merge_order.proofs.Choices.{if_elim}
@@ -15,9 +15,9 @@ use Rattle.plan_reader.specs.declared.stage.Stage.{Stage}
 use Rattle.pair_machine.specs.CountLaws.{made_for, sent_for}
 use Rattle.pair_machine.specs.Counts.{sent_after}
 use Rattle.pair_machine.specs.Edges.{answered, edge_to, goes_to, passed, stamped}
-use Rattle.pair_machine.specs.Ingress.{mark_after, sent_from}
+use Rattle.pair_machine.specs.Ingress.{mark_after, row_of_source, sent_from}
 use Rattle.pair_machine.proofs.Made.{answered-append, edge_to-append, is_upto, none_upto}
-use Rattle.pair_machine.proofs.Sending.{trades_from}
+use Rattle.pair_machine.proofs.Sending.{source_from}
 
 -- ---- one more merged item
 
@@ -43,40 +43,49 @@ upto_yes n i is l = ap (λ b. if b then i ∷ filter (is_upto n) is else filter 
 upto_mark : (mark stamp n : ℕ) → stamp ≤ n → filter (is_upto n) (mark_after mark stamp) ≡ mark_after mark stamp
 upto_mark mark stamp n l = if_elim (λ is. filter (is_upto n) is ≡ is) (stamp % mark == 0) (item.Mark stamp ∷ []) [] (λ e. upto_yes n (item.Mark stamp) [] l) (λ e. refl)
 
--- what comes of a trade stays whole
-upto_trade : (mark stamp n : ℕ) (row : Row) (rest : List Item) → stamp ≤ n
-    → filter (is_upto n) (item.Row stamp row ∷ mark_after mark stamp ++ rest) ≡ item.Row stamp row ∷ (mark_after mark stamp ++ filter (is_upto n) rest)
-upto_trade mark stamp n row rest l =
-    upto_yes n (item.Row stamp row) (mark_after mark stamp ++ rest) l
-    ∙ ap (λ x. item.Row stamp row ∷ x) (filter-append (is_upto n) (mark_after mark stamp) rest ∙ ap (λ x. x ++ filter (is_upto n) rest) (upto_mark mark stamp n l))
+-- so is the row of an input
+upto_row : (q stamp n : ℕ) (r : Input) → stamp ≤ n → filter (is_upto n) (row_of_source q stamp r) ≡ row_of_source q stamp r
+upto_row q stamp n r l = if_elim (λ is. filter (is_upto n) is ≡ is) (r.source == q) (item.Row stamp r.row ∷ []) [] (λ e. upto_yes n (item.Row stamp r.row) [] l) (λ e. refl)
 
--- of what ingress sends from stamp k + 1 on, the items up to one more stamp are those up to the stamp before and what the make gives
-makes_more : (mark k m : ℕ) (rows : List Row) → m ≤ length rows
-    → filter (is_upto (k + m + 1)) (sent_from mark (k + 1) rows) ≡ filter (is_upto (k + m)) (sent_from mark (k + 1) rows) ++ made_for mark (k + m + 1) (slice_get rows m)
-makes_more mark k zero [] l =
+-- what comes of an input stays whole
+upto_input : (q mark stamp n : ℕ) (r : Input) (rest : List Item) → stamp ≤ n
+    → filter (is_upto n) (row_of_source q stamp r ++ (mark_after mark stamp ++ rest)) ≡ (row_of_source q stamp r ++ mark_after mark stamp) ++ filter (is_upto n) rest
+upto_input q mark stamp n r rest l =
+    let row = row_of_source q stamp r in
+    let sign = mark_after mark stamp in
+    filter-append (is_upto n) row (sign ++ rest)
+    ∙ (ap (λ x. x ++ filter (is_upto n) (sign ++ rest)) (upto_row q stamp n r l)
+    ∙ (ap (λ x. row ++ x) (filter-append (is_upto n) sign rest ∙ ap (λ x. x ++ filter (is_upto n) rest) (upto_mark mark stamp n l))
+    ∙ sym (append_assoc row sign (filter (is_upto n) rest))))
+
+-- of what a source sends from stamp k + 1 on, the items up to one more stamp are those up to the stamp before and what the make gives
+makes_more : (q mark k m : ℕ) (inputs : List Input) → m ≤ length inputs
+    → filter (is_upto (k + m + 1)) (sent_from q mark (k + 1) inputs) ≡ filter (is_upto (k + m)) (sent_from q mark (k + 1) inputs) ++ made_for q mark (k + m + 1) (slice_get inputs m)
+makes_more q mark k zero [] l =
     let here : k + 0 ≡ k = omega arith in
     subst (λ n. filter (is_upto (n + 1)) (item.End (k + 1) ∷ []) ≡ filter (is_upto n) (item.End (k + 1) ∷ []) ++ item.End (n + 1) ∷ []) (sym here)
     (upto_yes (k + 1) (item.End (k + 1)) [] (omega arith) ∙ ap (λ x. x ++ item.End (k + 1) ∷ []) (sym (none_upto k (k + 1) (item.End (k + 1) ∷ []) (omega arith) (omega arith, tt))))
-makes_more mark k (suc m) [] l = absurd (omega arith)
-makes_more mark k zero (r ∷ rows) l =
+makes_more q mark k (suc m) [] l = absurd (omega arith)
+makes_more q mark k zero (r ∷ inputs) l =
     let here : k + 0 ≡ k = omega arith in
-    let sent = sent_from mark (k + 1) (r ∷ rows) in
-    let made = item.Row (k + 1) r ∷ mark_after mark (k + 1) in
-    let rest = sent_from mark (k + 1 + 1) rows in
-    subst (λ n. filter (is_upto (n + 1)) sent ≡ filter (is_upto n) sent ++ (item.Row (n + 1) r ∷ mark_after mark (n + 1))) (sym here)
-    (upto_trade mark (k + 1) (k + 1) r rest (omega arith)
-    ∙ (ap (λ x. made ++ x) (none_upto (k + 1) (k + 1 + 1) rest (omega arith) (trades_from mark (k + 1 + 1) rows))
-    ∙ (append-nil made ∙ ap (λ x. x ++ made) (sym (none_upto k (k + 1) sent (omega arith) (trades_from mark (k + 1) (r ∷ rows)))))))
-makes_more mark k (suc m) (r ∷ rows) l =
+    let sent = sent_from q mark (k + 1) (r ∷ inputs) in
+    let made = row_of_source q (k + 1) r ++ mark_after mark (k + 1) in
+    let rest = sent_from q mark (k + 1 + 1) inputs in
+    subst (λ n. filter (is_upto (n + 1)) sent ≡ filter (is_upto n) sent ++ (row_of_source q (n + 1) r ++ mark_after mark (n + 1))) (sym here)
+    (upto_input q mark (k + 1) (k + 1) r rest (omega arith)
+    ∙ (ap (λ x. made ++ x) (none_upto (k + 1) (k + 1 + 1) rest (omega arith) (source_from q mark (k + 1 + 1) inputs))
+    ∙ (append-nil made ∙ ap (λ x. x ++ made) (sym (none_upto k (k + 1) sent (omega arith) (source_from q mark (k + 1) (r ∷ inputs)))))))
+makes_more q mark k (suc m) (r ∷ inputs) l =
     let here : k + 1 + m ≡ k + suc m = omega arith in
-    let rest = sent_from mark (k + 1 + 1) rows in
-    let made = item.Row (k + 1) r ∷ mark_after mark (k + 1) in
-    let more : filter (is_upto (k + suc m + 1)) rest ≡ filter (is_upto (k + suc m)) rest ++ made_for mark (k + suc m + 1) (slice_get rows m) =
-    subst (λ n. filter (is_upto (n + 1)) rest ≡ filter (is_upto n) rest ++ made_for mark (n + 1) (slice_get rows m)) here (makes_more mark (k + 1) m rows (omega arith)) in
-    upto_trade mark (k + 1) (k + suc m + 1) r rest (omega arith)
+    let rest = sent_from q mark (k + 1 + 1) inputs in
+    let made = row_of_source q (k + 1) r ++ mark_after mark (k + 1) in
+    let next = made_for q mark (k + suc m + 1) (slice_get inputs m) in
+    let more : filter (is_upto (k + suc m + 1)) rest ≡ filter (is_upto (k + suc m)) rest ++ next =
+    subst (λ n. filter (is_upto (n + 1)) rest ≡ filter (is_upto n) rest ++ made_for q mark (n + 1) (slice_get inputs m)) here (makes_more q mark (k + 1) m inputs (omega arith)) in
+    upto_input q mark (k + 1) (k + suc m + 1) r rest (omega arith)
     ∙ (ap (λ x. made ++ x) more
-    ∙ (sym (append_assoc made (filter (is_upto (k + suc m)) rest) (made_for mark (k + suc m + 1) (slice_get rows m)))
-    ∙ ap (λ x. x ++ made_for mark (k + suc m + 1) (slice_get rows m)) (sym (upto_trade mark (k + 1) (k + suc m) r rest (omega arith)))))
+    ∙ (sym (append_assoc made (filter (is_upto (k + suc m)) rest) next)
+    ∙ ap (λ x. x ++ next) (sym (upto_input q mark (k + 1) (k + suc m) r rest (omega arith)))))
 
 picked : (p : Item → Bool) (i : Item) (is : List Item) → p i ≡ true → filter p (i ∷ is) ≡ i ∷ filter p is
 picked p i is e = ap (λ b. if b then i ∷ filter p is else filter p is) e
@@ -101,15 +110,15 @@ upto_edge None t n is = refl
 upto_edge (Some stage) t n is = tests_swap (is_upto n) (goes_to stage t) is
 
 -- the same of what goes to a target, from the first make on
-pub make_next : (next : Option Stage) (t mark makes : ℕ) (rows : List Row) → makes ≤ length rows
-    → filter (is_upto (makes + 1)) (edge_to next t (sent_from mark 1 rows))
-    ≡ filter (is_upto makes) (edge_to next t (sent_from mark 1 rows)) ++ edge_to next t (made_for mark (makes + 1) (slice_get rows makes))
-make_next next t mark makes rows l =
-    let sent = sent_from mark 1 rows in
-    let made = made_for mark (makes + 1) (slice_get rows makes) in
+pub make_next : (next : Option Stage) (t q mark makes : ℕ) (inputs : List Input) → makes ≤ length inputs
+    → filter (is_upto (makes + 1)) (edge_to next t (sent_from q mark 1 inputs))
+    ≡ filter (is_upto makes) (edge_to next t (sent_from q mark 1 inputs)) ++ edge_to next t (made_for q mark (makes + 1) (slice_get inputs makes))
+make_next next t q mark makes inputs l =
+    let sent = sent_from q mark 1 inputs in
+    let made = made_for q mark (makes + 1) (slice_get inputs makes) in
     let first : 0 + makes ≡ makes = omega arith in
     let more : filter (is_upto (makes + 1)) sent ≡ filter (is_upto makes) sent ++ made =
-    subst (λ n. filter (is_upto (n + 1)) sent ≡ filter (is_upto n) sent ++ made_for mark (n + 1) (slice_get rows makes)) first (makes_more mark 0 makes rows l) in
+    subst (λ n. filter (is_upto (n + 1)) sent ≡ filter (is_upto n) sent ++ made_for q mark (n + 1) (slice_get inputs makes)) first (makes_more q mark 0 makes inputs l) in
     upto_edge next t (makes + 1) sent
     ∙ (ap (edge_to next t) more
     ∙ (edge_to-append next t (filter (is_upto makes) sent) made ∙ ap (λ x. x ++ edge_to next t made) (sym (upto_edge next t makes sent))))

@@ -8,7 +8,7 @@ use Rattle.tuple_edge.specs.declared.node.NodeId.{NodeId}
 use Rattle.tuple_edge.specs.declared.node.NodeId.TheVariants as node
 use Rattle.tuple_edge.specs.declared.node.Which.{Which}
 use Rattle.tuple_edge.specs.declared.node.Which.TheVariants.{A, B}
-use Rattle.pair_machine.specs.Boundary.{egress_does, egress_partition, egress_tells, ingress_does, ingress_partition, ingress_sends}
+use Rattle.pair_machine.specs.Boundary.{egress_does, egress_partition, egress_tells, ingress_does, ingress_source, source_made}
 use Rattle.pair_machine.specs.Consumers.{is_ready, untold}
 use Rattle.std.specs.Option.{is_none}
 use Rattle.pair_machine.specs.Controllers.{acks, acks_from, backs, controller_hears, controller_takes, counts, goes_down, is_catching, is_down, is_up, leads_now, least, stops, then_do}
@@ -24,6 +24,7 @@ use Rattle.pair_machine.proofs.Lists.{each_append, each_map}
 use Rattle.pair_machine.proofs.StepTurns.{HoldsOnOk, step_by}
 use Rattle.pair_machine.proofs.Frame.{framed}
 use Rattle.pair_machine.proofs.Found.{FoundIn, IsDue, first_found, is_due}
+use Rattle.pair_machine.proofs.Sources.{works_by}
 use Rattle.pair_machine.proofs.Tests.{both, if_elim}
 
 module _ (f : Flow) (ok : IsFlow f) where
@@ -150,14 +151,9 @@ module _ (f : Flow) (ok : IsFlow f) where
         (λ c. acks_there (f.sources p.stage) 0 c (omega arith))
 
   -- ingress and egress
-  ingress_sends_there : (x : Ingress) (made : ℕ → ℕ) (d : Option Due) → IsDue made x.producer (f.targets 0) d → ThereOnOk (ingress_sends f x d)
-  ingress_sends_there x made None h = tt
-  ingress_sends_there x made (Some d) h = due_there ingress_partition made x.producer d (omega arith) h
-
   ingress_there : (a : Act) (x : Ingress) → ThereOnOk (ingress_does f a x)
   ingress_there (Takes from m) x = tt
-  ingress_there Works x =
-      ingress_sends_there x (made_by f ingress_partition x.makes) (due f ingress_partition (made_by f ingress_partition x.makes) x.producer) (is_due f ingress_partition (made_by f ingress_partition x.makes) x.producer)
+  ingress_there Works x = works_by f x (ThereOnOk {X = Ingress}) tt (λ q d l h. due_there (ingress_source q) (source_made f x q) (x.producers q) d (omega arith) h)
   ingress_there Makes x = if_elim (ThereOnOk {X = Ingress}) (nat_lt x.makes f.makes) _ _ (λ e. tt) (λ e. tt)
   ingress_there act x = tt
 

@@ -2,6 +2,7 @@
 use Rattle.std.proofs.Common.{◌≡◌, ◌≤◌, ℕ, Bool, List, [], ◌∷◌, ◌++◌, ◌+◌, Option, None, Some, length, refl, sym, ap, ◌∙◌, subst, arith, append_assoc}
 use Rattle.std.specs.Prelude.{◌==◌, ◌%◌, ◌||◌, filter}
 use Rattle.std.proofs.lemmas.List.{length-map}
+use Rattle.tuple_edge.specs.Input.{Input}
 use Rattle.tuple_edge.specs.declared.item.Item.{Item}
 use Rattle.tuple_edge.specs.declared.item.Item.TheVariants as item
 use Rattle.tuple_edge.specs.declared.row.Row.{Row}
@@ -15,7 +16,7 @@ use Rattle.stream_ops.specs.Answers.{answer}
 use Rattle.stream_ops.specs.declared.spec.OpSpec.{OpSpec}
 use Rattle.plan_reader.specs.PlanView.{PlanView}
 use Rattle.plan_reader.specs.declared.stage.Stage.{Stage}
-use Rattle.pair_machine.specs.Ingress.{last_stamp, mark_after, sent_by_ingress, sent_from}
+use Rattle.pair_machine.specs.Ingress.{last_stamp, mark_after, row_of_source, sent_by_source, sent_from}
 use Rattle.pair_machine.specs.Edges.{answered, edge_to, edges_to, goes_to, passed, stamped}
 
 -- what goes to a partition -----------------------------------------------------------
@@ -97,22 +98,40 @@ module _ (op : OpSpec) where
 
 -- what ingress sends ----------------------------------------------------------------------
 
-pub trades_from : (mark n : ℕ) (rows : List Row) → AllFrom n (sent_from mark n rows)
-trades_from mark n [] = (omega arith, tt)
-trades_from mark n (r ∷ rows) =
-    let later = weaken n (n + 1) (sent_from mark (n + 1) rows) (omega arith) (trades_from mark (n + 1) rows) in
-    (omega arith, if_elim (λ xs. AllFrom n (xs ++ sent_from mark (n + 1) rows)) (n % mark == 0) (item.Mark n ∷ []) [] (λ e. (omega arith, later)) (λ e. later))
+pub source_from : (q mark n : ℕ) (inputs : List Input) → AllFrom n (sent_from q mark n inputs)
+source_from q mark n [] = (omega arith, tt)
+source_from q mark n (r ∷ inputs) =
+    let later = weaken n (n + 1) (sent_from q mark (n + 1) inputs) (omega arith) (source_from q mark (n + 1) inputs) in
+    let rest = mark_after mark n ++ sent_from q mark (n + 1) inputs in
+    let rest_from : AllFrom n rest =
+    if_elim (λ xs. AllFrom n (xs ++ sent_from q mark (n + 1) inputs)) (n % mark == 0) (item.Mark n ∷ []) [] (λ e. (omega arith, later)) (λ e. later) in
+    if_elim (λ xs. AllFrom n (xs ++ rest)) (r.source == q) (item.Row n r.row ∷ []) [] (λ e. (omega arith, rest_from)) (λ e. rest_from)
 
-trades_go : (last mark n : ℕ) (rows : List Row) → 1 ≤ n → n + length rows ≡ last → IsEdge last (sent_from mark n rows)
-trades_go last mark n [] one l = (one, omega arith, refl)
-trades_go last mark n (r ∷ rows) one l =
-    let old = trades_go last mark (n + 1) rows (omega arith) (omega arith) in
-    let later = trades_from mark (n + 1) rows in
-    let tail : Goes last n (mark_after mark n ++ sent_from mark (n + 1) rows) =
-    if_elim (λ xs. Goes last n (xs ++ sent_from mark (n + 1) rows)) (n % mark == 0) (item.Mark n ∷ []) []
-    (λ e. record { from = (omega arith, weaken n (n + 1) (sent_from mark (n + 1) rows) (omega arith) later); edge = (one, omega arith, later, old) })
-    (λ e. record { from = weaken n (n + 1) (sent_from mark (n + 1) rows) (omega arith) later; edge = old }) in
-    (one, omega arith, tail.from, tail.edge)
+source_goes : (last q mark n : ℕ) (inputs : List Input) → 1 ≤ n → n + length inputs ≡ last → IsEdge last (sent_from q mark n inputs)
+source_goes last q mark n [] one l = (one, omega arith, refl)
+source_goes last q mark n (r ∷ inputs) one l =
+    let old = source_goes last q mark (n + 1) inputs (omega arith) (omega arith) in
+    let later = source_from q mark (n + 1) inputs in
+    let rest = mark_after mark n ++ sent_from q mark (n + 1) inputs in
+    let tail : Goes last n rest =
+    if_elim (λ xs. Goes last n (xs ++ sent_from q mark (n + 1) inputs)) (n % mark == 0) (item.Mark n ∷ []) []
+    (λ e. record { from = (omega arith, weaken n (n + 1) (sent_from q mark (n + 1) inputs) (omega arith) later); edge = (one, omega arith, later, old) })
+    (λ e. record { from = weaken n (n + 1) (sent_from q mark (n + 1) inputs) (omega arith) later; edge = old }) in
+    if_elim (λ xs. IsEdge last (xs ++ rest)) (r.source == q) (item.Row n r.row ∷ []) [] (λ e. (one, omega arith, tail.from, tail.edge)) (λ e. tail.edge)
 
-pub ingress_edge : (plan : PlanView) (rows : List Row) → IsEdge (last_stamp rows) (sent_by_ingress plan rows)
-ingress_edge plan rows = trades_go (last_stamp rows) plan.mark 1 rows (omega arith) (omega arith)
+pub source_edge : (plan : PlanView) (inputs : List Input) (q : ℕ) → IsEdge (last_stamp inputs) (sent_by_source plan inputs q)
+source_edge plan inputs q = source_goes (last_stamp inputs) q plan.mark 1 inputs (omega arith) (omega arith)
+
+row_marks : (q stamp k : ℕ) (r : Input) (is : List Item) → has_mark_at k (row_of_source q stamp r ++ is) ≡ has_mark_at k is
+row_marks q stamp k r is = if_elim (λ xs. has_mark_at k (xs ++ is) ≡ has_mark_at k is) (r.source == q) (item.Row stamp r.row ∷ []) [] (λ e. refl) (λ e. refl)
+
+-- all sources send the same marks
+pub source_marks : (q v mark n k : ℕ) (inputs : List Input) → has_mark_at k (sent_from q mark n inputs) ≡ has_mark_at k (sent_from v mark n inputs)
+source_marks q v mark n k [] = refl
+source_marks q v mark n k (r ∷ inputs) =
+    let here = sent_from q mark (n + 1) inputs in
+    let there = sent_from v mark (n + 1) inputs in
+    let rest : has_mark_at k (mark_after mark n ++ here) ≡ has_mark_at k (mark_after mark n ++ there) =
+    if_elim (λ xs. has_mark_at k (xs ++ here) ≡ has_mark_at k (xs ++ there)) (n % mark == 0) (item.Mark n ∷ []) []
+    (λ e. ap (λ b. (n == k) || b) (source_marks q v mark (n + 1) k inputs)) (λ e. source_marks q v mark (n + 1) k inputs) in
+    row_marks q n k r (mark_after mark n ++ here) ∙ (rest ∙ sym (row_marks v n k r (mark_after mark n ++ there)))

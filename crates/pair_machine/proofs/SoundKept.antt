@@ -41,7 +41,7 @@ opening_acked : (f : Flow) → IsAckedAtMostReported f opening
 opening_acked f = record { nodes = nodes; sent = λ l. tt }
   where
     nodes : (n : NodeId) → NodeLows (acked_of f opening) n (opening.nodes n)
-    nodes node.Ingress = λ t. omega arith
+    nodes node.Ingress = λ q t. omega arith
     nodes (node.Replica s p w) = ((λ t. omega arith), tt)
     nodes (node.Control s p) = λ q w e. omega arith
     nodes node.Egress = tt
@@ -53,7 +53,7 @@ opening_bound f ok = record { nodes = nodes; sent = λ l. tt }
     consumer p = record { used = λ q l. let z = ok.used_none p q in omega arith; most = λ q. omega arith; told = λ q. omega arith; count = omega arith }
 
     nodes : (n : NodeId) → NodeBound f n (opening.nodes n)
-    nodes node.Ingress = (omega arith, record { above = λ t c. omega arith })
+    nodes node.Ingress = (omega arith, λ q. record { above = λ t c. omega arith })
     nodes (node.Replica s p w) = (consumer (record { stage = s; part = p }), record { above = λ t c. omega arith }, tt)
     nodes (node.Control s p) = tt
     nodes node.Egress = consumer (record { stage = f.stages + 1; part = 0 })

@@ -1,17 +1,18 @@
 -- A step of the machine is some turns of each pair.
-use Rattle.std.proofs.Common.{◌≡◌, inl, inr, ◌<◌, ◌≤◌, ℕ, Bool, true, false, List, [], ◌∷◌, Option, None, Some, Result, Ok, Err, ◌&&◌, refl, sym, subst, subst₂, zero, suc}
-use Rattle.std.specs.Prelude.{◌==◌, nat_lt, nat_le}
+use Rattle.std.proofs.Common.{◌≡◌, inl, inr, ◌<◌, ◌≤◌, ◌-◌, ℕ, Bool, true, false, List, [], ◌∷◌, Option, None, Some, Result, Ok, Err, ◌&&◌, refl, sym, subst, subst₂, zero, suc, arith}
+use Rattle.std.specs.Prelude.{◌==◌, nat_lt, nat_le, unwrap_or}
 use Rattle.std.proofs.lemmas.Bool.{eqb-true, ltb-true, leb-true}
 use Rattle.tuple_edge.specs.declared.event.Event.TheVariants as event
 use Rattle.tuple_edge.specs.declared.node.NodeId.TheVariants as node
 use Rattle.pair_machine.proofs.Orders.{IsOrderedEvent, Orders}
-use Rattle.pair_machine.specs.Boundary.{egress_does, ingress_does}
+use Rattle.pair_machine.specs.Boundary.{egress_does, ingress_does, source_made}
+use Rattle.pair_machine.specs.Consumers.{first_below}
 use Rattle.pair_machine.specs.Controllers.{controller_takes}
 use Rattle.pair_machine.specs.Flow.{Flow}
 use Rattle.pair_machine.specs.Links.{AreOnTheirLinks, Carries, HasEdge, HasNode, HasStage, IsAcross, IsConsumer, IsProducer, IsThere, IsUp, link}
 use Rattle.pair_machine.specs.Lists.{Among}
 use Rattle.tuple_edge.specs.Node.{part_of}
-use Rattle.pair_machine.specs.Machine.{Buffer, State, act_of, acted, after, as_egress, as_ingress, as_replica, at_node, buffer_of, changed, controller_does, controller_in, does, egress_in, ingress_in, mark_of, nth_from_one, partner_node, posted, pull_of, replica_in, step, taking_of}
+use Rattle.pair_machine.specs.Machine.{Buffer, State, act_of, acted, after, as_egress, as_ingress, as_replica, at_node, buffer_of, changed, controller_does, controller_in, does, egress_in, ingress_in, is_behind, mark_of, nth_from_one, partner_node, posted, pull_of, replica_in, source_pulled, step, taking_of}
 use Rattle.pair_machine.specs.Messages.{Ack, Act, AskBack, AskStop, AsksBack, AsksStop, Begin, Caught, Chunk, ChunkEnd, Dies, Down, Envelope, Lead, Makes, Message, Pulls, Refusal, Report, Serve, Stop, Takes, Tuple, Want, Works}
 use Rattle.pair_machine.specs.Numbers.{Consumer, Controller, ControllerNode, Ingress, Node, Partition, Replica, ReplicaNode, control_at, other, replica_at}
 use Rattle.pair_machine.specs.Pairs.{side_of}
@@ -22,6 +23,7 @@ use Rattle.tuple_edge.specs.declared.node.LinkId.{LinkId}
 use Rattle.tuple_edge.specs.declared.node.NodeId.{NodeId}
 use Rattle.tuple_edge.specs.declared.node.Which.{Which}
 use Rattle.tuple_edge.specs.declared.node.Which.TheVariants.{A, B}
+use Rattle.pair_machine.proofs.Found.{FoundIn, first_found}
 use Rattle.pair_machine.proofs.Lists.{each_at}
 use Rattle.pair_machine.proofs.PairKept.{Turns, none, swapped}
 use Rattle.pair_machine.proofs.ReplicaTurns.{Permits, Heard, HeardIn, DoneBy, DoneIfOk, does_done}
@@ -170,11 +172,11 @@ pub record IsPulled (f : Flow) (s : State) (n : NodeId) (q : ℕ) : Type 0 where
   pub from : NodeId
   pub edge : EdgeId
   pub has_node : HasNode f from
-  pub producer : IsProducer edge from
+  pub producer : IsProducer f edge from
   pub consumer : IsConsumer f edge n
   pub part : edge.from ≡ q
   pub buffer : Buffer
-  pub buffer_is : buffer_of f edge.to from (s.nodes from) ≡ Some buffer
+  pub buffer_is : buffer_of f edge.from edge.to from (s.nodes from) ≡ Some buffer
   pub mark : ℕ
   pub marks : mark_of q n (s.nodes n) ≡ Some mark
   pub above_low : buffer.low ≤ mark
@@ -223,11 +225,35 @@ nth_among f l k (suc j) s all [] h = tt
 nth_among f l k (suc zero) s all (x ∷ xs) h = h x (inl refl)
 nth_among f l k (suc (suc j)) s all (x ∷ xs) h = nth_among f l k (suc j) s all xs (λ m c. h m (inr c))
 
-part_of_producer : (e : EdgeId) (n : NodeId) → IsProducer e n → e.from ≡ part_of n
-part_of_producer e node.Ingress h = h.1
-part_of_producer e (node.Replica s p w) h = h.2
-part_of_producer e (node.Control s p) h = absurd h
-part_of_producer e node.Egress h = absurd h
+-- the one edge that a pull uses between its ends
+record UsedEdge (f : Flow) (from n : NodeId) (q : ℕ) : Type 0 where
+  edge : EdgeId
+  producer : IsProducer f edge from
+  consumer : IsConsumer f edge n
+  part : edge.from ≡ q
+
+-- where there is a source, the search gives one
+pub some_found : (sources : ℕ) (test : ℕ → Bool) → 1 ≤ sources → unwrap_or (first_below test (sources - 1)) (sources - 1) < sources
+some_found sources test l = by (first_below test (sources - 1)) (first_found (sources - 1) test)
+  where
+    by : (o : Option ℕ) → FoundIn test (sources - 1) o → unwrap_or o (sources - 1) < sources
+    by None h = omega arith
+    by (Some q) h = omega (arith, h.1)
+
+consumer_of_any : (f : Flow) (e : EdgeId) (q : ℕ) (n : NodeId) → IsConsumer f e n → IsConsumer f (record { stage = e.stage; from = q; to = e.to }) n
+consumer_of_any f e q node.Ingress h = h
+consumer_of_any f e q (node.Replica s p w) h = h
+consumer_of_any f e q (node.Control s p) h = h
+consumer_of_any f e q node.Egress h = h
+
+used_edge : (f : Flow) (from : NodeId) (x : Node) (n : NodeId) (y : Node) → HasEdge f from n → UsedEdge f from n (source_pulled f from x n y)
+used_edge f node.Ingress x n y g =
+    let q = source_pulled f node.Ingress x n y in
+    let within : q < f.sources 1 = some_found (f.sources 1) (λ j. is_behind (mark_of j n y) (source_made f (ingress_in x) j (part_of n))) (omega (arith, g.1.1)) in
+    record { edge = record { stage = g.0.stage; from = q; to = g.0.to }; producer = (g.1.0, within); consumer = consumer_of_any f g.0 q n g.2; part = refl }
+used_edge f (node.Replica s p w) x n y g = record { edge = g.0; producer = g.1; consumer = g.2; part = g.1.2 }
+used_edge f (node.Control s p) x n y g = absurd g.1
+used_edge f node.Egress x n y g = absurd g.1
 
 part_of_consumer : (f : Flow) (e : EdgeId) (n : NodeId) → IsConsumer f e n → e.to ≡ part_of n
 part_of_consumer f e node.Ingress h = absurd h
@@ -235,21 +261,21 @@ part_of_consumer f e (node.Replica s p w) h = h.1
 part_of_consumer f e (node.Control s p) h = absurd h
 part_of_consumer f e node.Egress h = h.1
 
-pull_sent : (f : Flow) (s : State) (from n : NodeId) → HasNode f from → HasEdge f from n → (o : Option (Buffer)) → buffer_of f (part_of n) from (s.nodes from) ≡ o →
-    (m : Option ℕ) → mark_of (part_of from) n (s.nodes n) ≡ m → ActSent f s n (pull_of (part_of from) o m)
-pull_sent f s from n h g None e m inner = tt
-pull_sent f s from n h g (Some o) e None inner = tt
-pull_sent f s from n h g (Some o) e (Some mark) inner = if_elim (ActSent f s n) (nat_le o.low mark && nat_lt mark o.produced) _ _
+pull_sent : (f : Flow) (s : State) (from n : NodeId) (q : ℕ) → HasNode f from → UsedEdge f from n q → (o : Option (Buffer)) → buffer_of f q (part_of n) from (s.nodes from) ≡ o →
+    (m : Option ℕ) → mark_of q n (s.nodes n) ≡ m → ActSent f s n (pull_of q o m)
+pull_sent f s from n q h g None e m inner = tt
+pull_sent f s from n q h g (Some o) e None inner = tt
+pull_sent f s from n q h g (Some o) e (Some mark) inner = if_elim (ActSent f s n) (nat_le o.low mark && nat_lt mark o.produced) _ _
     (λ z. let y = both (nat_le o.low mark) (nat_lt mark o.produced) z in
     record {
       from = from;
-      edge = g.0;
+      edge = g.edge;
       has_node = h;
-      producer = g.1;
-      consumer = g.2;
-      part = part_of_producer g.0 from g.1;
+      producer = g.producer;
+      consumer = g.consumer;
+      part = g.part;
       buffer = o;
-      buffer_is = rw (part_of_consumer f g.0 n g.2) e;
+      buffer_is = rw (g.part, part_of_consumer f g.edge n g.consumer) e;
       mark = mark;
       marks = inner;
       above_low = leb-true o.low mark y.0;
@@ -264,7 +290,9 @@ act_sent f s event.Make h = tt
 act_sent f s (event.Kill n) h = tt
 act_sent f s (event.AskStop n) h = tt
 act_sent f s (event.AskBack n) h = tt
-act_sent f s (event.Pull from to) h = pull_sent f s from to h.0 h.2 (buffer_of f (part_of to) from (s.nodes from)) refl (mark_of (part_of from) to (s.nodes to)) refl
+act_sent f s (event.Pull from to) h =
+    let q = source_pulled f from (s.nodes from) to (s.nodes to) in
+    pull_sent f s from to q h.0 (used_edge f from (s.nodes from) to (s.nodes to) h.2) (buffer_of f q (part_of to) from (s.nodes from)) refl (mark_of q to (s.nodes to)) refl
 
 partner_there : (f : Flow) (n : NodeId) → HasNode f n → HasNode f (partner_node n)
 partner_there f node.Ingress h = h
@@ -313,7 +341,8 @@ act_allowed f o s event.Make h = tt
 act_allowed f o s (event.Kill n) h = h
 act_allowed f o s (event.AskStop n) h = h
 act_allowed f o s (event.AskBack n) h = tt
-act_allowed f o s (event.Pull from to) h = pull_allowed o to (part_of from) (buffer_of f (part_of to) from (s.nodes from)) (mark_of (part_of from) to (s.nodes to))
+act_allowed f o s (event.Pull from to) h =
+    let q = source_pulled f from (s.nodes from) to (s.nodes to) in pull_allowed o to q (buffer_of f q (part_of to) from (s.nodes from)) (mark_of q to (s.nodes to))
 
 pub step_goes : (f : Flow) (o : Orders) (s : State) (e : Event) (p : Partition) → IsThere f e → IsOrderedEvent o e → AreOnTheirLinks f s → HoldsOnOk (Goes f p o s) (step f s e)
 unfolding step

@@ -3,6 +3,7 @@ use Rattle.std.proofs.Common.{ℕ, zero, suc, List, [], ◌∷◌, ◌++◌, ◌
 use Rattle.std.specs.Prelude.{All, filter, fold, ◌%◌, ◌==◌}
 use Rattle.std.specs.List.{range_with_len}
 use Rattle.std.proofs.lemmas.List.Elements.{All-append, All-cons, All-filter, All-head, All-map, All-nil, All-tail, All-take, All-weaker}
+use Rattle.tuple_edge.specs.Input.{Input}
 use Rattle.tuple_edge.specs.declared.item.Item.{Item}
 use Rattle.tuple_edge.specs.declared.item.Item.TheVariants as item
 use Rattle.tuple_edge.specs.declared.row.Row.{Row}
@@ -17,7 +18,7 @@ use Rattle.stream_ops.specs.Times.{IsTimely}
 use Rattle.stream_ops.specs.declared.spec.OpSpec.{OpSpec}
 use Rattle.plan_reader.specs.PlanView.{IsPlan, IsStage, PlanView}
 use Rattle.plan_reader.specs.declared.stage.Stage.{Stage}
-use Rattle.pair_machine.specs.Ingress.{last_stamp, mark_after, sent_by_ingress, sent_from}
+use Rattle.pair_machine.specs.Ingress.{last_stamp, mark_after, row_of_source, sent_by_ingress, sent_by_source, sent_from}
 use Rattle.pair_machine.specs.Edges.{answered, edge_to, edges_to, goes_to, passed, sent_by, sent_by_part, sent_by_stage, stamped}
 
 -- the items of each list are timely
@@ -30,13 +31,22 @@ AreTimely (e ∷ es) = All IsTimely e × AreTimely es
 sign_timely : (i : Item) → IsTimely i → All IsTimely (i ∷ [])
 sign_timely i h = All-cons IsTimely i [] h (All-nil IsTimely)
 
-trades_timely : (mark n : ℕ) (rows : List Row) → All IsTimelyRow rows → All IsTimely (sent_from mark n rows)
-trades_timely mark n [] t = sign_timely (item.End n) tt
-trades_timely mark n (r ∷ rows) t =
-    All-cons IsTimely (item.Row n r) (mark_after mark n ++ sent_from mark (n + 1) rows) (All-head IsTimelyRow r rows t)
-    (All-append IsTimely (mark_after mark n) (sent_from mark (n + 1) rows)
+-- an input's row is timely
+abbrev pub IsTimelyInput : Input → Type 0
+IsTimelyInput input = IsTimelyRow input.row
+
+source_timely : (q mark n : ℕ) (inputs : List Input) → All IsTimelyInput inputs → All IsTimely (sent_from q mark n inputs)
+source_timely q mark n [] t = sign_timely (item.End n) tt
+source_timely q mark n (r ∷ inputs) t =
+    All-append IsTimely (row_of_source q n r) (mark_after mark n ++ sent_from q mark (n + 1) inputs)
+    (if_elim (All IsTimely) (r.source == q) (item.Row n r.row ∷ []) [] (λ e. sign_timely (item.Row n r.row) (All-head IsTimelyInput r inputs t)) (λ e. All-nil IsTimely))
+    (All-append IsTimely (mark_after mark n) (sent_from q mark (n + 1) inputs)
     (if_elim (All IsTimely) (n % mark == 0) (item.Mark n ∷ []) [] (λ e. sign_timely (item.Mark n) tt) (λ e. All-nil IsTimely))
-    (trades_timely mark (n + 1) rows (All-tail IsTimelyRow r rows t)))
+    (source_timely q mark (n + 1) inputs (All-tail IsTimelyInput r inputs t)))
+
+sources_timely : (plan : PlanView) (inputs : List Input) → All IsTimelyInput inputs → (a n : ℕ) → AreTimely (map (sent_by_source plan inputs) (range_with_len a n))
+sources_timely plan inputs t a zero = tt
+sources_timely plan inputs t a (suc n) = (source_timely a plan.mark 1 inputs t, sources_timely plan inputs t (a + 1) n)
 
 -- in a merged list ----------------------------------------------------------------------
 
@@ -114,9 +124,9 @@ stages_timely last (stage ∷ stages) sent specs t =
 pub stages_have_specs : (plan : PlanView) → IsPlan plan → All HasSpec plan.stages
 stages_have_specs plan p = All-weaker IsStage HasSpec (λ stage s. s.op) plan.stages p.stages
 
-pub sent_timely : (plan : PlanView) (rows : List Row) → IsPlan plan → All IsTimelyRow rows → (s : ℕ) → AreTimely (sent_by plan rows s)
-sent_timely plan rows p t s =
-    stages_timely (last_stamp rows) (take s plan.stages) (sent_by_ingress plan rows ∷ []) (All-take HasSpec s plan.stages (stages_have_specs plan p)) (trades_timely plan.mark 1 rows t, tt)
+pub sent_timely : (plan : PlanView) (inputs : List Input) → IsPlan plan → All IsTimelyInput inputs → (s : ℕ) → AreTimely (sent_by plan inputs s)
+sent_timely plan inputs p t s =
+    stages_timely (last_stamp inputs) (take s plan.stages) (sent_by_ingress plan inputs) (All-take HasSpec s plan.stages (stages_have_specs plan p)) (sources_timely plan inputs t 0 plan.version)
 
 pub timely_at : (es : List (List Item)) → AreTimely es → (q : ℕ) → All IsTimely (get_or es q [])
 timely_at [] t q = All-nil IsTimely

@@ -36,7 +36,7 @@ abbrev pub ControllerAcks : Controller → Type 0
 ControllerAcks c = (q : ℕ) (w : Which) → is_down (c.watched w).status ≡ false → c.acked q ≤ (c.watched w).reports q
 
 abbrev pub NodeLows : (EdgeId → ℕ) → NodeId → Node → Type 0
-NodeLows acked node.Ingress n = (t : ℕ) → (ingress_in n).producer.lows t ≤ acked (ingress_edge t)
+NodeLows acked node.Ingress n = (q t : ℕ) → ((ingress_in n).producers q).lows t ≤ acked (ingress_edge q t)
 NodeLows acked (node.Replica s p w) n = ReplicaLows (λ t. acked (record { stage = s; from = p; to = t })) (replica_in n)
 NodeLows acked (node.Control s p) n = ControllerAcks (controller_in n)
 NodeLows acked node.Egress n = Unit {0}

@@ -1,31 +1,50 @@
--- What ingress and egress do, in numbers: ingress makes rows into items and sends them as a producer that always leads, and egress
+-- What ingress and egress do, in numbers: ingress makes inputs into items, and each of its sources sends them as a producer that always leads; egress
 -- merges what the last stage sends and acknowledges it. Neither ever fails.
-use Rattle.std.specs.Prelude.{ℕ, List, [], Option, None, Some, Result, Ok, Err, ◌+◌, if◌then◌else◌, nat_lt}
+use Rattle.std.specs.Prelude.{ℕ, List, [], Option, None, Some, Result, Ok, Err, ◌+◌, ◌==◌, if◌then◌else◌, is_some, nat_lt}
 use Rattle.tuple_edge.specs.declared.node.EdgeId.{EdgeId}
 use Rattle.tuple_edge.specs.declared.node.NodeId.{NodeId}
-use Rattle.pair_machine.specs.Numbers.{Consumer, Ingress, Partition, in_edge}
+use Rattle.pair_machine.specs.Numbers.{Consumer, Ingress, Partition, Producer, in_edge}
 use Rattle.pair_machine.specs.Messages.{Message, Tuple, Ack, Want, Envelope, Act, Takes, Works, Makes, Dies, AsksStop, AsksBack, Pulls, Refusal, NothingDue, NoMoreRows, NotRunning}
 use Rattle.pair_machine.specs.Flow.{Flow}
-use Rattle.pair_machine.specs.Consumers.{is_ready, merged_one, offered, pulled, telling, untold}
+use Rattle.pair_machine.specs.Consumers.{first_below, is_ready, merged_one, offered, pulled, telling, untold}
 use Rattle.pair_machine.specs.Producers.{Due, acked_to, due, sends_due, sent_on, to_producers, wanted}
 use Rattle.pair_machine.specs.Replicas.{made_by, which_of}
 
 -- ---- ingress
 
-abbrev pub ingress_partition : Partition
-ingress_partition = record { stage = 0; part = 0 }
+-- a source as a partition of stage 0
+abbrev pub ingress_source : ℕ → Partition
+ingress_source q = record { stage = 0; part = q }
 
+-- another producer for source q
+abbrev pub with_producer : Ingress → ℕ → Producer → Ingress
+with_producer x q y = record x { producers = λ j. if j == q then y else x.producers j }
+
+-- an acknowledgement, or a want, is for the producer of the edge's source
 abbrev pub ingress_takes : NodeId → Message → Ingress → Ingress
-ingress_takes from (Ack e k) x = record x { producer = acked_to x.producer e.to k }
-ingress_takes from (Want e n) x = record x { producer = wanted x.producer e.to (which_of from) n }
+ingress_takes from (Ack e k) x = with_producer x e.from (acked_to (x.producers e.from) e.to k)
+ingress_takes from (Want e n) x = with_producer x e.from (wanted (x.producers e.from) e.to (which_of from) n)
 ingress_takes from m x = x
 
-abbrev pub ingress_sends : Flow → Ingress → Option Due → Result (Ingress × List Envelope) Refusal
-ingress_sends f x None = Err NothingDue
-ingress_sends f x (Some d) = Ok (record x { producer = sent_on x.producer d }, sends_due f ingress_partition d)
+-- how many items of the edge from source q to target t are made
+abbrev pub source_made : Flow → Ingress → ℕ → ℕ → ℕ
+source_made f x q t = made_by f (ingress_source q) x.makes t
 
+-- what is due of source q
+abbrev pub source_due : Flow → Ingress → ℕ → Option Due
+source_due f x q = due f (ingress_source q) (source_made f x q) (x.producers q)
+
+abbrev pub source_sends : Flow → Ingress → ℕ → Option Due → Result (Ingress × List Envelope) Refusal
+source_sends f x q None = Err NothingDue
+source_sends f x q (Some d) = Ok (with_producer x q (sent_on (x.producers q) d), sends_due f (ingress_source q) d)
+
+abbrev pub ingress_sends : Flow → Ingress → Option ℕ → Result (Ingress × List Envelope) Refusal
+ingress_sends f x None = Err NothingDue
+ingress_sends f x (Some q) = source_sends f x q (source_due f x q)
+
+-- the first source that has something due sends it
 abbrev pub ingress_works : Flow → Ingress → Result (Ingress × List Envelope) Refusal
-ingress_works f x = ingress_sends f x (due f ingress_partition (made_by f ingress_partition x.makes) x.producer)
+ingress_works f x = ingress_sends f x (first_below (λ q. is_some (source_due f x q)) (f.sources 1))
 
 abbrev pub ingress_makes : Flow → Ingress → Result (Ingress × List Envelope) Refusal
 ingress_makes f x = if nat_lt x.makes f.makes then Ok (record x { makes = x.makes + 1 }, []) else Err NoMoreRows

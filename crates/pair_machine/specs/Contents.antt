@@ -1,6 +1,6 @@
 -- What the numbers stand for: the contents of a node and of a packet, as parts of the plan's edges. Each is a function of the plan, the
--- trades and numbers alone, whatever the machine has done.
-use Rattle.std.specs.Prelude.{◌≡◌, ℕ, zero, suc, List, [], ◌∷◌, ◌++◌, Some, ◌+◌, ◌-◌, drop, take}
+-- inputs and numbers alone, whatever the machine has done.
+use Rattle.std.specs.Prelude.{◌≡◌, ℕ, List, [], ◌∷◌, ◌++◌, Some, ◌+◌, ◌-◌, drop, take}
 use Rattle.tuple_edge.specs.declared.item.Item.{Item}
 use Rattle.tuple_edge.specs.declared.node.LinkId.{LinkId}
 use Rattle.tuple_edge.specs.declared.node.NodeId.{NodeId}
@@ -9,7 +9,8 @@ use Rattle.tuple_edge.specs.declared.packet.Body.{Body}
 use Rattle.tuple_edge.specs.declared.packet.Body.TheVariants as body
 use Rattle.tuple_edge.specs.declared.packet.Entry.{Entry}
 use Rattle.tuple_edge.specs.declared.packet.Entry.TheVariants as entry
-use Rattle.tuple_edge.specs.declared.row.Row.{Row}
+pub use Rattle.tuple_edge.specs.Entries.{each_below, numbered}
+use Rattle.tuple_edge.specs.Input.{Input}
 use Rattle.merge_order.specs.Edges.{item_at}
 use Rattle.plan_reader.specs.Nodes.{parts_of, sources_of}
 use Rattle.plan_reader.specs.PlanView.{PlanView}
@@ -25,34 +26,24 @@ abbrev pub between : ℕ → ℕ → List Item → List Item
 between low upto xs = take (upto - low) (drop low xs)
 
 -- what waits on in-edge q of a partition that has merged so many items and has that mark
-abbrev pub waiting : PlanView → List Row → Partition → ℕ → ℕ → ℕ → List Item
-waiting plan rows p count q mark = between (used_of plan rows p q count) mark (items_on plan rows (in_edge p q))
+abbrev pub waiting : PlanView → List Input → Partition → ℕ → ℕ → ℕ → List Item
+waiting plan inputs p count q mark = between (used_of plan inputs p q count) mark (items_on plan inputs (in_edge p q))
 
 -- what is kept for out-edge t of a partition that has merged so many items and has that low
-abbrev pub kept : PlanView → List Row → Partition → ℕ → ℕ → ℕ → List Item
-kept plan rows p count t low = between low (made_on plan rows (out_edge p t) count) (items_on plan rows (out_edge p t))
+abbrev pub kept : PlanView → List Input → Partition → ℕ → ℕ → ℕ → List Item
+kept plan inputs p count t low = between low (made_on plan inputs (out_edge p t) count) (items_on plan inputs (out_edge p t))
 
 -- ---- the list of a move
 
--- the lists of the numbers below n, one after another
-abbrev pub each_below : ℕ → (ℕ → List Entry) → List Entry
-each_below zero f = []
-each_below (suc n) f = each_below n f ++ f n
-
--- items as entries, numbered on from n
-abbrev pub numbered : (ℕ → Item → Entry) → ℕ → List Item → List Entry
-numbered f n [] = []
-numbered f n (x ∷ xs) = f (n + 1) x ∷ numbered f (n + 1) xs
-
 -- the list of a move, by its numbers: marks, the count, what waits, lows, what is kept, and what the operator keeps
-abbrev pub move_list : PlanView → List Row → Partition → MoveNumbers → List Entry
-move_list plan rows p m =
+abbrev pub move_list : PlanView → List Input → Partition → MoveNumbers → List Entry
+move_list plan inputs p m =
     each_below (sources_of plan p.stage) (λ q. entry.Mark q (m.marks q) ∷ [])
     ++ (entry.Count m.count ∷ [])
-    ++ each_below (sources_of plan p.stage) (λ q. numbered (λ n x. entry.Head q n x) (used_of plan rows p q m.count) (waiting plan rows p m.count q (m.marks q)))
-    ++ each_below (parts_of plan (p.stage + 1)) (λ t. entry.Low t (m.lows t) (made_on plan rows (out_edge p t) m.count) ∷ [])
-    ++ each_below (parts_of plan (p.stage + 1)) (λ t. numbered (λ n x. entry.Kept t n x) (m.lows t) (kept plan rows p m.count t (m.lows t)))
-    ++ entries_after plan rows p m.count
+    ++ each_below (sources_of plan p.stage) (λ q. numbered (λ n x. entry.Head q n x) (used_of plan inputs p q m.count) (waiting plan inputs p m.count q (m.marks q)))
+    ++ each_below (parts_of plan (p.stage + 1)) (λ t. entry.Low t (m.lows t) (made_on plan inputs (out_edge p t) m.count) ∷ [])
+    ++ each_below (parts_of plan (p.stage + 1)) (λ t. numbered (λ n x. entry.Kept t n x) (m.lows t) (kept plan inputs p m.count t (m.lows t)))
+    ++ entries_after plan inputs p m.count
 
 -- ---- what a packet carries
 
@@ -65,19 +56,19 @@ partition_of node.Egress = record { stage = 0; part = 0 }
 
 -- A packet's body stands for a message on a link: it has its numbers, a tuple carries the item of its number, and a chunk the entry at
 -- its place in the list of its move.
-abbrev pub BodyStands : PlanView → List Row → LinkId → Body → Message → Type 0
-BodyStands plan rows l (body.Tuple e n item) (Tuple edge number) = (e ≡ edge) × (n ≡ number) × (item_at (items_on plan rows edge) number ≡ Some item)
-BodyStands plan rows l (body.Chunk i n entry) (Chunk inc number m) = (i ≡ inc) × (n ≡ number) × (nth_from_one (move_list plan rows (partition_of l.from) m) number ≡ Some entry)
-BodyStands plan rows l (body.ChunkEnd i c) (ChunkEnd inc count m) = (i ≡ inc) × (c ≡ count)
-BodyStands plan rows l (body.Ack e k) (Ack edge upto) = (e ≡ edge) × (k ≡ upto)
-BodyStands plan rows l (body.Report i e k) (Report inc edge upto) = (i ≡ inc) × (e ≡ edge) × (k ≡ upto)
-BodyStands plan rows l (body.Lead i t) (Lead inc term) = (i ≡ inc) × (t ≡ term)
-BodyStands plan rows l (body.Serve i t) (Serve inc target) = (i ≡ inc) × (t ≡ target)
-BodyStands plan rows l (body.Begin i) (Begin inc) = i ≡ inc
-BodyStands plan rows l (body.Caught i) (Caught inc) = i ≡ inc
-BodyStands plan rows l (body.Want e n) (Want edge from) = (e ≡ edge) × (n ≡ from)
-BodyStands plan rows l (body.Down i) (Down inc) = i ≡ inc
-BodyStands plan rows l (body.Stop i) (Stop inc) = i ≡ inc
-BodyStands plan rows l (body.AskStop i) (AskStop inc) = i ≡ inc
-BodyStands plan rows l body.AskBack AskBack = Unit {0}
-BodyStands plan rows l b m = ⊥
+abbrev pub BodyStands : PlanView → List Input → LinkId → Body → Message → Type 0
+BodyStands plan inputs l (body.Tuple e n item) (Tuple edge number) = (e ≡ edge) × (n ≡ number) × (item_at (items_on plan inputs edge) number ≡ Some item)
+BodyStands plan inputs l (body.Chunk i n entry) (Chunk inc number m) = (i ≡ inc) × (n ≡ number) × (nth_from_one (move_list plan inputs (partition_of l.from) m) number ≡ Some entry)
+BodyStands plan inputs l (body.ChunkEnd i c) (ChunkEnd inc count m) = (i ≡ inc) × (c ≡ count)
+BodyStands plan inputs l (body.Ack e k) (Ack edge upto) = (e ≡ edge) × (k ≡ upto)
+BodyStands plan inputs l (body.Report i e k) (Report inc edge upto) = (i ≡ inc) × (e ≡ edge) × (k ≡ upto)
+BodyStands plan inputs l (body.Lead i t) (Lead inc term) = (i ≡ inc) × (t ≡ term)
+BodyStands plan inputs l (body.Serve i t) (Serve inc target) = (i ≡ inc) × (t ≡ target)
+BodyStands plan inputs l (body.Begin i) (Begin inc) = i ≡ inc
+BodyStands plan inputs l (body.Caught i) (Caught inc) = i ≡ inc
+BodyStands plan inputs l (body.Want e n) (Want edge from) = (e ≡ edge) × (n ≡ from)
+BodyStands plan inputs l (body.Down i) (Down inc) = i ≡ inc
+BodyStands plan inputs l (body.Stop i) (Stop inc) = i ≡ inc
+BodyStands plan inputs l (body.AskStop i) (AskStop inc) = i ≡ inc
+BodyStands plan inputs l body.AskBack AskBack = Unit {0}
+BodyStands plan inputs l b m = ⊥

@@ -176,6 +176,12 @@ module _ (f : Flow) (Stands : LinkId → Body → Message → Type 0) (Asks : No
     pub kept : IsTrueHistory n arrived sent history
     pub stands : (before : List Moment) → onto before [] ≡ course_of arrived sent history → (acts : List Act) → ActsFor f Stands Asks n before acts → AllAsked f Stands Asks n acts → StandsAt P (replay f n acts)
 
+  -- Before each event of a node's history its numbers meet N of that event: whatever messages its packets until then stand for, the replay of
+  -- what came before gives such numbers.
+  abbrev pub MeetsBeforeEach : (Event → Node → Type 0) → NodeId → Arrivals → (NodeId → List Packet) → List Stamped → Type 0
+  MeetsBeforeEach N n arrived sent history = (before : List Moment) (m : Moment) (later : List Moment) → onto before (m ∷ later) ≡ course_of arrived sent history
+      → (acts : List Act) → ActsFor f Stands Asks n before acts → AllAsked f Stands Asks n acts → StandsAt (N m.event) (replay f n acts)
+
   -- What one event owes: at whatever numbers the node stands for, the machine's step is one, the node stands for the numbers after it,
   -- and what it sent stands for the machine's messages.
   abbrev pub IsStep : NodeId → (P P_after : Node → Type 0) → Event → Option Packet → (NodeId → List Packet) → Type 0

@@ -1,13 +1,15 @@
 -- The edges of a plan: what each partition sends, what of it goes to which partition of the next stage, and what a partition merges.
-use Rattle.std.specs.Prelude.{ℕ, zero, suc, Bool, true, List, [], ◌∷◌, ◌++◌, Option, None, Some, ◌==◌, filter, fold, map, slice_get, slice_index_or, take}
+use Rattle.std.specs.Prelude.{ℕ, zero, suc, Bool, true, List, [], ◌∷◌, ◌++◌, Option, None, Some, ◌*◌, ◌==◌, filter, fold, map, slice_get, slice_index_or, take}
 use Rattle.std.specs.List.{range_with_len}
 use Rattle.tuple_edge.specs.declared.item.Item.{Item}
 use Rattle.tuple_edge.specs.declared.item.Item.TheVariants as item
 use Rattle.tuple_edge.specs.declared.row.Row.{Row}
+use Rattle.tuple_edge.specs.Input.{Input}
 use Rattle.tuple_edge.specs.Item.{stamp_of}
 use Rattle.tuple_edge.specs.Row.{route_of}
 use Rattle.merge_order.specs.Merged.{Place, items, merged}
 use Rattle.stream_ops.specs.Answers.{answer}
+use Rattle.stream_ops.specs.Spec.{most_rows}
 use Rattle.stream_ops.specs.declared.spec.OpSpec.{OpSpec}
 use Rattle.plan_reader.specs.PlanView.{PlanView}
 use Rattle.plan_reader.specs.declared.stage.Stage.{Stage}
@@ -57,19 +59,26 @@ sent_by_part last sent stage q = answered stage.op [] (items (merged last (edges
 abbrev pub sent_by_stage : ℕ → List (List Item) → Stage → List (List Item)
 sent_by_stage last sent stage = map (sent_by_part last sent stage) (range_with_len 0 stage.parts)
 
--- what each partition of stage s of a plan sends; stage 0 is ingress, which is one partition
-abbrev pub sent_by : PlanView → List Row → ℕ → List (List Item)
-sent_by plan rows s = fold (sent_by_stage (last_stamp rows)) (sent_by_ingress plan rows ∷ []) (take s plan.stages)
+-- what each partition of stage s of a plan sends; stage 0 is ingress, whose partitions are its sources
+abbrev pub sent_by : PlanView → List Input → ℕ → List (List Item)
+sent_by plan inputs s = fold (sent_by_stage (last_stamp inputs)) (sent_by_ingress plan inputs) (take s plan.stages)
 
 -- the edge from partition q of stage s to partition t of the next one
-abbrev pub edge : PlanView → List Row → ℕ → ℕ → ℕ → List Item
-edge plan rows s q t = edge_to (slice_get plan.stages s) t (slice_index_or (sent_by plan rows s) q [])
+abbrev pub edge : PlanView → List Input → ℕ → ℕ → ℕ → List Item
+edge plan inputs s q t = edge_to (slice_get plan.stages s) t (slice_index_or (sent_by plan inputs s) q [])
 
 -- the edges into partition q of stage s, source by source; none goes into ingress
-abbrev pub edges_into : PlanView → List Row → ℕ → ℕ → List (List Item)
-edges_into plan rows zero q = []
-edges_into plan rows (suc s) q = edges_to (slice_get plan.stages s) q (sent_by plan rows s)
+abbrev pub edges_into : PlanView → List Input → ℕ → ℕ → List (List Item)
+edges_into plan inputs zero q = []
+edges_into plan inputs (suc s) q = edges_to (slice_get plan.stages s) q (sent_by plan inputs s)
 
 -- the merged list of partition q of stage s
-abbrev pub merged_at : PlanView → List Row → ℕ → ℕ → List Place
-merged_at plan rows s q = merged (last_stamp rows) (edges_into plan rows s q)
+abbrev pub merged_at : PlanView → List Input → ℕ → ℕ → List Place
+merged_at plan inputs s q = merged (last_stamp inputs) (edges_into plan inputs s q)
+
+-- how many rows: --------------------------------------------------------------------------
+
+-- At most how many rows stages send for each row that the first of them is given: each sends as many for one as its operator answers one with.
+abbrev pub most_sent : List Stage → ℕ
+most_sent [] = 1
+most_sent (stage ∷ stages) = most_rows stage.op * most_sent stages

@@ -1,4 +1,4 @@
--- What the plan and the trades say in numbers: how many partitions, makes and items there are, and how many of them come from the
+-- What the plan and the inputs say in numbers: how many partitions, makes and items there are, and how many of them come from the
 -- first so many others. The machine's steps and laws are over these numbers alone, whatever plan they come from.
 use Rattle.std.specs.Prelude.{ℕ, ◌≡◌, ◌≤◌, ◌<◌, ◌+◌}
 use Rattle.tuple_edge.specs.declared.node.EdgeId.{EdgeId}
@@ -11,7 +11,7 @@ pub record Flow : Type 0 where
   pub sources : ℕ → ℕ
   -- the number of out-edges of each partition of a stage
   pub targets : ℕ → ℕ
-  -- how many makes there are: one for each trade, and one for the end
+  -- how many makes there are: one for each input, and one for the end
   pub makes : ℕ
   -- how many items of an edge come from the first merged items, or makes, of its producer
   pub made : EdgeId → ℕ → ℕ
@@ -24,11 +24,11 @@ pub record Flow : Type 0 where
   -- how many entries the operator of a partition keeps of the first items of its merged list
   pub entries : Partition → ℕ → ℕ
 
--- what holds of the numbers of every plan, whatever the trades
+-- what holds of the numbers of every plan, whatever the inputs
 pub record IsFlow (f : Flow) : Type 0 where
   pub some_stage : 1 ≤ f.stages
-  -- ingress is one source, egress one target
-  pub first_sources : f.sources 1 ≡ 1
+  -- ingress has one source, or two; egress is one target
+  pub first_sources : (1 ≤ f.sources 1) × (f.sources 1 ≤ 2)
   pub last_targets : f.targets f.stages ≡ 1
   -- a partition's targets are the partitions of the next stage
   pub next_parts : (s : ℕ) → s + 1 ≤ f.stages → f.targets s ≡ f.sources (s + 2)
@@ -40,4 +40,4 @@ pub record IsFlow (f : Flow) : Type 0 where
       ((q : ℕ) → q < f.sources p.stage → f.used p q c < f.length (in_edge p q)) → c < f.total p
   -- a partition never makes more than the whole edge
   pub made_most : (p : Partition) (t c : ℕ) → 1 ≤ p.stage → p.stage ≤ f.stages → p.part < f.sources (p.stage + 1) → f.made (out_edge p t) c ≤ f.length (out_edge p t)
-  pub makes_most : (t m : ℕ) → f.made (ingress_edge t) m ≤ f.length (ingress_edge t)
+  pub makes_most : (q t m : ℕ) → f.made (ingress_edge q t) m ≤ f.length (ingress_edge q t)

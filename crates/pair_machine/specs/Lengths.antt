@@ -50,7 +50,7 @@ ReplicaBound f p (Running x) = ConsumerBound f p x.consumer × ProducerBound x.p
 ReplicaBound f p (Gathering g) = MovedBound f p g.taken g.moved × ((q : ℕ) → Each (λ n. (1 ≤ n) × (n ≤ f.length (in_edge p q))) (g.held q))
 
 abbrev pub NodeBound : Flow → NodeId → Node → Type 0
-NodeBound f node.Ingress n = ((ingress_in n).makes ≤ f.makes) × ProducerBound (ingress_in n).producer
+NodeBound f node.Ingress n = ((ingress_in n).makes ≤ f.makes) × ((q : ℕ) → ProducerBound ((ingress_in n).producers q))
 NodeBound f (node.Replica s p w) n = ReplicaBound f (record { stage = s; part = p }) (replica_in n)
 NodeBound f (node.Control s p) n = Unit {0}
 NodeBound f node.Egress n = ConsumerBound f (egress_partition f) (egress_in n)

@@ -7,11 +7,14 @@ pub mod Controllers
 pub mod CountLaws
 pub mod Counts
 pub mod Courses
+pub mod Drain
 pub mod Edges
 pub mod Flow
 pub mod Ingress
 pub mod Joint
+pub mod Journal
 pub mod Laws
+pub mod Legal
 pub mod Lengths
 pub mod Links
 pub mod Lists
@@ -21,8 +24,12 @@ pub mod Messages
 pub mod Numbers
 pub mod Output
 pub mod Pairs
+pub mod PlanNodes
 pub mod Producers
+pub mod Receivers
 pub mod Replicas
 pub mod Scripts
+pub mod Small
 pub mod Sound
+pub mod Within
 pub mod WorkedRows

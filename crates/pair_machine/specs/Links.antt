@@ -37,12 +37,12 @@ HasPart f node.Egress = Unit {0}
 abbrev pub HasNode : Flow → NodeId → Type 0
 HasNode f n = HasStage f n × HasPart f n
 
--- the items of an edge come from this node
-abbrev pub IsProducer : EdgeId → NodeId → Type 0
-IsProducer e node.Ingress = (e.stage ≡ 0) × (e.from ≡ 0)
-IsProducer e (node.Replica s p w) = (1 ≤ s) × (e.stage ≡ s) × (e.from ≡ p)
-IsProducer e (node.Control s p) = ⊥
-IsProducer e node.Egress = ⊥
+-- the items of an edge come from this node; of ingress, from one of its sources
+abbrev pub IsProducer : Flow → EdgeId → NodeId → Type 0
+IsProducer f e node.Ingress = (e.stage ≡ 0) × (e.from < f.sources 1)
+IsProducer f e (node.Replica s p w) = (1 ≤ s) × (e.stage ≡ s) × (e.from ≡ p)
+IsProducer f e (node.Control s p) = ⊥
+IsProducer f e node.Egress = ⊥
 
 -- the items of an edge go to this node
 abbrev pub IsConsumer : Flow → EdgeId → NodeId → Type 0
@@ -53,7 +53,7 @@ IsConsumer f e node.Egress = (e.stage ≡ f.stages) × (e.to ≡ 0)
 
 -- an edge leads from one node to another
 abbrev pub HasEdge : Flow → NodeId → NodeId → Type 0
-HasEdge f from to = (e : EdgeId) × IsProducer e from × IsConsumer f e to
+HasEdge f from to = (e : EdgeId) × IsProducer f e from × IsConsumer f e to
 
 -- the event's nodes are the plan's, and an edge leads from a pull's first node to its second
 abbrev pub IsThere : Flow → Event → Type 0
@@ -74,6 +74,13 @@ Acknowledges f e (node.Replica s p w) = ⊥
 Acknowledges f e (node.Control s p) = (e.stage + 1 ≡ s) × (e.to ≡ p)
 Acknowledges f e node.Egress = (e.stage ≡ f.stages) × (e.to ≡ 0)
 
+-- this node may want items of an edge again: a replica into whose partition the edge leads; egress never fails, and wants none
+abbrev pub Wants : EdgeId → NodeId → Type 0
+Wants e node.Ingress = ⊥
+Wants e (node.Replica s p w) = (e.stage + 1 ≡ s) × (e.to ≡ p)
+Wants e (node.Control s p) = ⊥
+Wants e node.Egress = ⊥
+
 -- an in-edge of the pair of which the node is the controller
 abbrev pub IsInEdge : Flow → EdgeId → NodeId → Type 0
 IsInEdge f e (node.Control s p) = (e.stage + 1 ≡ s) × (e.to ≡ p) × (e.from < f.sources s)
@@ -91,9 +98,9 @@ IsAcross from to = ⊥
 
 -- the link carries such a message, and the message's edge lies between its ends
 abbrev pub Carries : Flow → LinkId → Message → Type 0
-Carries f l (Tuple e k) = IsProducer e l.from × IsConsumer f e l.to
-Carries f l (Ack e k) = Acknowledges f e l.from × IsProducer e l.to
-Carries f l (Want e k) = IsConsumer f e l.from × IsProducer e l.to
+Carries f l (Tuple e k) = IsProducer f e l.from × IsConsumer f e l.to
+Carries f l (Ack e k) = Acknowledges f e l.from × IsProducer f e l.to
+Carries f l (Want e k) = Wants e l.from × IsProducer f e l.to
 Carries f l (Report i e k) = IsUp l.from l.to × IsInEdge f e l.to
 Carries f l (Lead i t) = IsUp l.to l.from
 Carries f l (Serve i t) = IsUp l.to l.from

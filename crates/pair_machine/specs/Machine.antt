@@ -1,7 +1,7 @@
 -- The pair machine: the numbers of all nodes and every message ever sent, how it opens, what a step is, and which lists of events are
 -- legal. Nothing is ever removed from a link, so a message may be taken again, and in any order. A step is at one node: it changes
 -- that node's numbers, and appends what the node sends to its links.
-use Rattle.std.specs.Prelude.{◌≡◌, ℕ, zero, suc, Bool, true, false, List, [], ◌∷◌, ◌++◌, Option, None, Some, Result, Ok, Err, ◌&&◌, if◌then◌else◌, nat_lt, nat_le, length, slice_get}
+use Rattle.std.specs.Prelude.{◌≡◌, ℕ, zero, suc, Bool, true, false, List, [], ◌∷◌, ◌++◌, ◌-◌, Option, None, Some, Result, Ok, Err, ◌&&◌, if◌then◌else◌, nat_lt, nat_le, length, slice_get, unwrap_or}
 use Rattle.tuple_edge.specs.declared.event.Event.{Event}
 use Rattle.tuple_edge.specs.declared.event.Event.TheVariants as event
 use Rattle.tuple_edge.specs.declared.node.LinkId.{LinkId}
@@ -15,8 +15,9 @@ use Rattle.pair_machine.specs.Numbers.{Producer, Consumer, RunningNumbers, Repli
 use Rattle.pair_machine.specs.Messages.{Message, Envelope, Act, Takes, Works, Makes, Dies, AsksStop, AsksBack, Pulls, Refusal, NotSent, NothingDue, NotRunning, NotHeld}
 use Rattle.pair_machine.specs.Flow.{Flow}
 use Rattle.pair_machine.specs.Replicas.{made_by, replica_does, which_of}
+use Rattle.pair_machine.specs.Consumers.{first_below}
 use Rattle.pair_machine.specs.Controllers.{controller_takes}
-use Rattle.pair_machine.specs.Boundary.{egress_does, ingress_does, ingress_partition}
+use Rattle.pair_machine.specs.Boundary.{egress_does, ingress_does, source_made}
 
 pub record State : Type 0 where
   pub nodes : NodeId → Node
@@ -32,7 +33,7 @@ abbrev pub new_producer : ℕ → Bool → Producer
 new_producer term leads = record { lows = λ t. 0; cursors = λ t c. 1; term = term; leads = leads }
 
 abbrev pub new_ingress : Ingress
-new_ingress = record { makes = 0; producer = new_producer 1 true }
+new_ingress = record { makes = 0; producers = λ q. new_producer 1 true }
 
 abbrev pub leads_first : Which → Bool
 leads_first A = true
@@ -145,12 +146,12 @@ buffer_in f p t (Gone i) = None
 buffer_in f p t (Running x) = Some (record { low = x.producer.lows t; produced = made_by f p x.consumer.count t })
 buffer_in f p t (Gathering g) = None
 
--- the buffer of a node's out-edge t, where it runs
-abbrev pub buffer_of : Flow → ℕ → NodeId → Node → Option Buffer
-buffer_of f t node.Ingress n = let x = ingress_in n in Some (record { low = x.producer.lows t; produced = made_by f ingress_partition x.makes t })
-buffer_of f t (node.Replica s p w) n = buffer_in f (record { stage = s; part = p }) t (replica_in n)
-buffer_of f t (node.Control s p) n = None
-buffer_of f t node.Egress n = None
+-- the buffer of a node's out-edge t, where it runs; of ingress that of its source q
+abbrev pub buffer_of : Flow → (q t : ℕ) → NodeId → Node → Option Buffer
+buffer_of f q t node.Ingress n = let x = ingress_in n in Some (record { low = (x.producers q).lows t; produced = source_made f x q t })
+buffer_of f q t (node.Replica s p w) n = buffer_in f (record { stage = s; part = p }) t (replica_in n)
+buffer_of f q t (node.Control s p) n = None
+buffer_of f q t node.Egress n = None
 
 abbrev pub mark_in : ℕ → Replica → Option ℕ
 mark_in q (Gone i) = None
@@ -163,6 +164,23 @@ mark_of q node.Ingress n = None
 mark_of q (node.Replica s p w) n = mark_in q (replica_in n)
 mark_of q (node.Control s p) n = None
 mark_of q node.Egress n = Some ((egress_in n).marks q)
+
+-- a node that runs has a mark below what was made
+abbrev pub is_behind : Option ℕ → ℕ → Bool
+is_behind None made = false
+is_behind (Some mark) made = nat_lt mark made
+
+-- The source of ingress whose next item goes straight to a node: the first one that has made an item above the node's mark, or the last
+-- one.
+abbrev pub pulled_source : Flow → Ingress → NodeId → Node → ℕ
+pulled_source f x to n = unwrap_or (first_below (λ q. is_behind (mark_of q to n) (source_made f x q (part_of to))) (f.sources 1 - 1)) (f.sources 1 - 1)
+
+-- the source of the one edge that a pull uses between its two ends
+abbrev pub source_pulled : Flow → (from : NodeId) → Node → (to : NodeId) → Node → ℕ
+source_pulled f node.Ingress n to m = pulled_source f (ingress_in n) to m
+source_pulled f (node.Replica s p w) n to m = p
+source_pulled f (node.Control s p) n to m = p
+source_pulled f node.Egress n to m = 0
 
 -- a pull is one where both ends run, and the item after the mark is kept
 abbrev pub pull_of : ℕ → Option Buffer → Option ℕ → Result Act Refusal
@@ -178,7 +196,8 @@ act_of f s event.Make = Ok Makes
 act_of f s (event.Kill n) = Ok Dies
 act_of f s (event.AskStop n) = Ok AsksStop
 act_of f s (event.AskBack n) = Ok AsksBack
-act_of f s (event.Pull from to) = pull_of (part_of from) (buffer_of f (part_of to) from (s.nodes from)) (mark_of (part_of from) to (s.nodes to))
+act_of f s (event.Pull from to) =
+    let q = source_pulled f from (s.nodes from) to (s.nodes to) in pull_of q (buffer_of f q (part_of to) from (s.nodes from)) (mark_of q to (s.nodes to))
 
 -- ---- steps
 

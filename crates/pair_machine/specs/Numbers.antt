@@ -1,5 +1,5 @@
 -- The numbers that each node of the pair machine has. The machine knows no item: it knows how many items of an edge a node has
--- taken, merged, produced and may forget, and what those items are follows from the plan and the trades. Each number of an edge is
+-- taken, merged, produced and may forget, and what those items are follows from the plan and the inputs. Each number of an edge is
 -- a function, of the source for edges into a partition and of the target for edges out of it, so that the laws need no range.
 use Rattle.std.specs.Prelude.{ℕ, Bool, true, false, List, Option, ◌-◌, ◌==◌, ◌&&◌}
 use Rattle.tuple_edge.specs.declared.node.EdgeId.{EdgeId}
@@ -83,10 +83,10 @@ pub record Controller : Type 0 where
 
 -- ---- nodes
 
--- what ingress has: how many rows, or the end, it made into items, and a producer
+-- what ingress has: how many inputs, or the end, it made into items, and a producer for each source
 pub record Ingress : Type 0 where
   pub makes : ℕ
-  pub producer : Producer
+  pub producers : ℕ → Producer
 
 -- the numbers of a node; egress has those of a consumer
 pub data Node : Type 0 where
@@ -97,7 +97,7 @@ pub data Node : Type 0 where
 
 -- ---- names
 
--- a partition of a stage; ingress is partition 0 of stage 0, and egress that of the stage after the last
+-- a partition of a stage; each source of ingress is a partition of stage 0, and egress is partition 0 of the stage after the last
 pub record Partition : Type 0 where
   pub stage : ℕ
   pub part : ℕ
@@ -126,9 +126,9 @@ in_edge p q = record { stage = p.stage - 1; from = q; to = p.part }
 abbrev pub out_edge : Partition → ℕ → EdgeId
 out_edge p t = record { stage = p.stage; from = p.part; to = t }
 
--- the edge from ingress to target t
-abbrev pub ingress_edge : ℕ → EdgeId
-ingress_edge t = record { stage = 0; from = 0; to = t }
+-- the edge from source q of ingress to target t
+abbrev pub ingress_edge : ℕ → ℕ → EdgeId
+ingress_edge q t = record { stage = 0; from = q; to = t }
 
 -- whether two names are those of one node
 abbrev pub is_node : NodeId → NodeId → Bool

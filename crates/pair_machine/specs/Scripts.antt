@@ -6,11 +6,11 @@ use Rattle.tuple_edge.specs.declared.event.Event.TheVariants as event
 use Rattle.tuple_edge.specs.declared.node.NodeId.{NodeId}
 use Rattle.tuple_edge.specs.declared.node.NodeId.TheVariants as node
 use Rattle.pair_machine.specs.declared.order.Order.{Order}
-use Rattle.pair_machine.specs.Numbers.{Replica, Gone, Running, Gathering}
+use Rattle.pair_machine.specs.Numbers.{Node, Replica, Gone, Running, Gathering}
 use Rattle.pair_machine.specs.Messages.{Refusal}
 use Rattle.pair_machine.specs.Flow.{Flow}
 use Rattle.pair_machine.specs.Lists.{Among, Each}
-use Rattle.pair_machine.specs.Machine.{State, opening, partner_node, replica_in, step}
+use Rattle.pair_machine.specs.Machine.{State, at_node, opening, replica_in, step}
 
 -- ---- safe scripts
 
@@ -31,12 +31,16 @@ HasMerged k (Gone i) = ⊥
 HasMerged k (Running x) = k ≤ x.consumer.count
 HasMerged k (Gathering g) = ⊥
 
--- an order of the script lets the event happen in this state; only failures and what is asked need one
+-- an order of the script lets the event happen where the node that steps has these numbers; only failures and what is asked need one
+abbrev pub IsAllowedAt : List Order → Event → Node → Type 0
+IsAllowedAt script (event.Kill n) x = (o : Order) × Among o script × (o.node ≡ n) × (o.kill ≡ true) × HasMerged o.at (replica_in x)
+IsAllowedAt script (event.AskStop n) x = (o : Order) × Among o script × (o.node ≡ n) × (o.kill ≡ false) × HasMerged o.at (replica_in x)
+IsAllowedAt script (event.AskBack n) x = (o : Order) × Among o script × (o.node ≡ n) × (back : ℕ) × (o.back ≡ Some back) × HasMerged back (replica_in x)
+IsAllowedAt script e x = Unit {0}
+
+-- it lets the event happen in this state: the one node that the event changes decides it
 abbrev pub IsAllowed : List Order → State → Event → Type 0
-IsAllowed script s (event.Kill n) = (o : Order) × Among o script × (o.node ≡ n) × (o.kill ≡ true) × HasMerged o.at (replica_in (s.nodes n))
-IsAllowed script s (event.AskStop n) = (o : Order) × Among o script × (o.node ≡ n) × (o.kill ≡ false) × HasMerged o.at (replica_in (s.nodes n))
-IsAllowed script s (event.AskBack n) = (o : Order) × Among o script × (o.node ≡ n) × (back : ℕ) × (o.back ≡ Some back) × HasMerged back (replica_in (s.nodes (partner_node n)))
-IsAllowed script s e = Unit {0}
+IsAllowed script s e = IsAllowedAt script e (s.nodes (at_node e))
 
 abbrev pub AreAllowed : Flow → List Order → List Event → Result State Refusal → Type 0
 AreAllowed f script [] r = Unit {0}

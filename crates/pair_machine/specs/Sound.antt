@@ -38,7 +38,7 @@ MarkAtLeast q k h (Gathering g) = Unit {0}
 
 -- of each edge: each producer that runs forgot at most what is acknowledged, and that each counted consumer that runs has taken
 pub record IsOwed (f : Flow) (s : State) : Type 0 where
-  pub ingress : (t : ℕ) → (ingress_in (s.nodes node.Ingress)).producer.lows t ≤ acked_of f s (ingress_edge t)
+  pub ingress : (q t : ℕ) → ((ingress_in (s.nodes node.Ingress)).producers q).lows t ≤ acked_of f s (ingress_edge q t)
   pub producers : (p : Partition) (w : Which) (t : ℕ) → 1 ≤ p.stage → p.stage ≤ f.stages → LowAtMost t (acked_of f s (out_edge p t)) (replica_in (s.nodes (replica_at p w)))
   pub consumers : (p : Partition) (w : Which) (q : ℕ) → 1 ≤ p.stage → p.stage ≤ f.stages →
       MarkAtLeast q (acked_of f s (in_edge p q)) ((controller_in (s.nodes (control_at p))).watched w) (replica_in (s.nodes (replica_at p w)))

@@ -1,6 +1,9 @@
 -- The machine worked by hand on small plans: lists of events, and what some nodes have after them, or why one more event is none. The
--- plans total the trades of one account, in one stage or in two, each of one partition; the trades are all the same.
-use Rattle.std.specs.Prelude.{◌≡◌, ℕ, zero, suc, Bool, true, false, List, [], ◌∷◌, ◌++◌, ◌+◌, Option, Some, Result, Ok, Err, map, pos, replicate}
+-- plans total the trades of one account, in one stage or in two, each of one partition; the trades are all the same. One plan also takes
+-- cash movements, from a second source.
+use Rattle.std.specs.Prelude.{◌≡◌, ℕ, ℤ, zero, suc, Bool, true, false, List, [], ◌∷◌, ◌++◌, ◌+◌, Option, None, Some, Result, Ok, Err, length, map, negsuc, pos, replicate}
+use Rattle.std.specs.List.{range_with_len}
+use Rattle.tuple_edge.specs.Input.{Input, from_first}
 use Rattle.tuple_edge.specs.declared.event.Event.{Event}
 use Rattle.tuple_edge.specs.declared.event.Event.TheVariants as event
 use Rattle.tuple_edge.specs.declared.node.EdgeId.{EdgeId}
@@ -13,17 +16,23 @@ use Rattle.tuple_edge.specs.declared.row.Row.{Row}
 use Rattle.tuple_edge.specs.declared.status.Status.{Status}
 use Rattle.tuple_edge.specs.declared.status.Status.TheVariants as status
 use Rattle.stream_ops.specs.declared.spec.By.TheVariants as by
+use Rattle.stream_ops.specs.declared.spec.Compare.TheVariants as compare
 use Rattle.stream_ops.specs.declared.spec.OpSpec.TheVariants as op
 use Rattle.plan_reader.specs.PlanView.{IsPlan, PlanView}
 use Rattle.plan_reader.specs.declared.stage.Stage.{Stage}
+use Rattle.pair_machine.specs.Boundary.{source_made}
 use Rattle.pair_machine.specs.Counts.{flow_of}
+use Rattle.pair_machine.specs.Drain.{drain, first_lost, pairs_up_to, partition}
+use Rattle.pair_machine.specs.Edges.{edge, most_sent}
 use Rattle.pair_machine.specs.Flow.{Flow}
 use Rattle.pair_machine.specs.Links.{link}
-use Rattle.pair_machine.specs.Machine.{State, controller_in, follow, opening, replica_in, step}
+use Rattle.pair_machine.specs.Machine.{State, controller_in, follow, ingress_in, mark_of, opening, replica_in, step}
 use Rattle.pair_machine.specs.Messages.{Message, Tuple, Want, Refusal, NoMoreRows, NotHeld, NotRunning, NotSent, NothingDue}
-use Rattle.pair_machine.specs.Numbers.{Controller, Gathering, Gone, Partition, Replica, Running, Watched, out_edge}
+use Rattle.pair_machine.specs.Numbers.{Controller, Gathering, Gone, Partition, Replica, Running, Watched, ingress_edge, out_edge}
 use Rattle.pair_machine.specs.Replicas.{made_by}
+use Rattle.pair_machine.specs.Scripts.{AreWithin}
 use Rattle.pair_machine.specs.Sound.{IsLost, IsServed}
+use Rattle.pair_machine.specs.declared.order.Order.{Order}
 
 -- ---- plans and trades
 
@@ -31,20 +40,57 @@ abbrev pub total : Stage
 total = record { parts = 1; by = column.Account; op = op.Total by.Account }
 
 abbrev pub totals : PlanView
-totals = record { stages = total ∷ []; mark = 64; hold = 1024 }
+totals = record { version = 1; stages = total ∷ []; mark = 64; hold = 1024 }
 
 abbrev pub totals_of_totals : PlanView
-totals_of_totals = record { stages = total ∷ total ∷ []; mark = 64; hold = 1024 }
+totals_of_totals = record { version = 1; stages = total ∷ total ∷ []; mark = 64; hold = 1024 }
+
+abbrev pub totals_of_both : PlanView
+totals_of_both = record { version = 2; stages = total ∷ []; mark = 64; hold = 1024 }
+
+-- trades joined with the cash movements of the same minute, up to three of each side
+abbrev pub joined : PlanView
+joined = record { version = 2; stages = record { parts = 1; by = column.Account; op = op.Join by.Account (pos 60) 3 column.Qty compare.AtLeast (pos 1) } ∷ []; mark = 64; hold = 1024 }
+
+-- a trade at some time
+abbrev pub trade : ℤ → Row
+trade time = record { time = time; account = pos 7; symbol = pos 1; qty = pos 1; value = pos 100 }
 
 -- so many trades
-abbrev pub trades : ℕ → List Row
-trades n = replicate n (record { time = pos 34200; account = pos 7; symbol = pos 1; qty = pos 1; value = pos 100 })
+abbrev pub trades : ℕ → List Input
+trades n = from_first (replicate n (trade (pos 34200)))
+
+-- a cash movement at some time
+abbrev pub cash : ℤ → ℤ → Row
+cash time amount = record { time = time; account = pos 7; symbol = pos 0; qty = pos 0; value = amount }
+
+-- two trades and two cash movements, in the order of their times; of those at one time the trade comes first
+abbrev pub both : List Input
+both =
+    record { source = 0; row = trade (pos 34200) }
+    ∷ record { source = 1; row = cash (pos 34205) (negsuc 249) }
+    ∷ record { source = 0; row = trade (pos 34210) }
+    ∷ record { source = 1; row = cash (pos 34210) (pos 100) }
+    ∷ []
+
+-- two trades and three cash movements of one minute
+abbrev pub of_one_minute : List Input
+of_one_minute =
+    record { source = 0; row = trade (pos 34200) }
+    ∷ record { source = 0; row = trade (pos 34201) }
+    ∷ record { source = 1; row = cash (pos 34202) (pos 1) }
+    ∷ record { source = 1; row = cash (pos 34203) (pos 2) }
+    ∷ record { source = 1; row = cash (pos 34204) (pos 3) }
+    ∷ []
 
 abbrev pub one_stage : ℕ → Flow
 one_stage n = flow_of totals (trades n)
 
 abbrev pub two_stages : ℕ → Flow
 two_stages n = flow_of totals_of_totals (trades n)
+
+abbrev pub two_sources : Flow
+two_sources = flow_of totals_of_both both
 
 -- ---- events
 
@@ -57,7 +103,7 @@ replica_b stage = node.Replica stage 0 B
 abbrev pub control : ℕ → NodeId
 control stage = node.Control stage 0
 
--- ingress makes the next so many trades into items
+-- ingress makes the next so many inputs into items
 abbrev pub make : ℕ → List Event
 make n = replicate n event.Make
 
@@ -168,6 +214,16 @@ controller_shown c = record { term = c.term; leader = c.leader; acked = c.acked 
 -- the controller of partition 0 of a stage
 abbrev pub control_of : State → ℕ → ControllerShown
 control_of s stage = controller_shown (controller_in (s.nodes (control stage)))
+
+-- the producer of a source of ingress, towards partition 0 of stage 1
+abbrev pub source_shown : Flow → State → ℕ → OutShown
+source_shown f s q =
+    let x = ingress_in (s.nodes node.Ingress) in
+    record { low = (x.producers q).lows 0; made = source_made f x q 0; cursor_a = (x.producers q).cursors 0 A; cursor_b = (x.producers q).cursors 0 B }
+
+-- the marks of the first so many in-edges of replica A of stage 1
+abbrev pub marks_of : State → ℕ → List (Option ℕ)
+marks_of s n = map (λ q. mark_of q (replica_a 1) (s.nodes (replica_a 1))) (range_with_len 0 n)
 
 -- what was sent on a link, in order
 abbrev pub sent : State → NodeId → NodeId → List Message
@@ -309,6 +365,26 @@ stop_asked_early =
     ++ ask_stop (replica_a 1)
     ++ take (replica_a 1) (control 1) 2
 
+-- Two trades and two cash movements are made, and the end of both sources; the three items of each source go to replica A, which merges all.
+abbrev pub both_merged : List Event
+both_merged = make 5 ++ pull node.Ingress (replica_a 1) 6 ++ work (replica_a 1) 5
+
+-- a drainer of stage 1 takes so many items from ingress, and merges so many
+abbrev pub drained_by : NodeId → ℕ → ℕ → List Event
+drained_by who taken merged = pull node.Ingress who taken ++ work who merged
+
+-- replica A may ask to be stopped once it has merged so many items
+abbrev pub stop_at : ℕ → List Order
+stop_at n = record { node = replica_a 1; kill = false; at = n; back = None } ∷ []
+
+-- it asks when it has merged one
+abbrev pub stopped_after_one : List Event
+stopped_after_one = make 1 ++ pull node.Ingress (replica_a 1) 1 ++ work (replica_a 1) 1 ++ ask_stop (replica_a 1)
+
+-- replica A may ask to be stopped once it has merged one item, and replica B once it has; and A may ask for B back once it has merged one itself
+abbrev pub stop_both : List Order
+stop_both = record { node = replica_a 1; kill = false; at = 1; back = None } ∷ record { node = replica_b 1; kill = false; at = 1; back = Some 1 } ∷ []
+
 -- ---- what they show
 
 -- the only pair of a plan of one stage
@@ -317,7 +393,7 @@ the_pair = record { stage = 1; part = 0 }
 
 pub record WorkedRows : Type 0 where
   -- the plans are within their limits
-  pub plans : IsPlan totals × IsPlan totals_of_totals
+  pub plans : IsPlan totals × IsPlan totals_of_totals × IsPlan totals_of_both
   -- The survivor leads, and has sent items 8 to 10 to both replicas of stage 2: the first seven it knows to be acknowledged.
   pub survivor_sends_on : After (two_stages 10) takeover (λ s.
       (control_of s 1 ≡ record {
@@ -399,7 +475,46 @@ pub record WorkedRows : Type 0 where
   pub control_works : After (one_stage 0) [] (λ s. step (one_stage 0) s (event.Work (control 1)) ≡ Err NothingDue)
   -- After the one item that was made no second one is pulled: the buffer has what is above 0 up to 1, and the mark is 1.
   pub pulled_twice : After (one_stage 0) (make 1 ++ pull node.Ingress (replica_b 1) 1) (λ s. step (one_stage 0) s (event.Pull node.Ingress (replica_b 1)) ≡ Err (NotHeld 0 1 1))
+  -- Both sources have made their two rows and the end, and the replica has merged the four rows and one end.
+  pub both_sources : After two_sources both_merged (λ s.
+      (source_shown two_sources s 0 ≡ record { low = 0; made = 3; cursor_a = 1; cursor_b = 1 })
+      × (source_shown two_sources s 1 ≡ record { low = 0; made = 3; cursor_a = 1; cursor_b = 1 })
+      × (marks_of s 2 ≡ Some 3 ∷ Some 3 ∷ [])
+      × (a_of two_sources s 1 ≡ Runs (record { inc = 1; term = 1; leads = true; served = 0; count = 5 })
+      (record { mark = 3; told = 0 })
+      (record { low = 0; made = 5; cursor_a = 1; cursor_b = 1 })))
+  -- A join pairs each of three movements with both trades: six rows and the end go to egress, of five inputs; it may send three for one.
+  pub joined_rows : (length (edge joined of_one_minute 1 0 0) ≡ 7) × (most_sent joined.stages ≡ 3)
+  -- Pulls take what the first source has made before they take anything of the second.
+  pub first_source_is_pulled_first : After two_sources (make 5 ++ pull node.Ingress (replica_a 1) 4) (λ s. marks_of s 2 ≡ Some 3 ∷ Some 1 ∷ [])
+  -- When all is taken, it is the second source's edge on which nothing is held.
+  pub pulled_out : After two_sources both_merged (λ s. step two_sources s (event.Pull node.Ingress (replica_a 1)) ≡ Err (NotHeld 0 3 3))
+  -- Before the second source has sent anything, the first one has sent all that it has made to both replicas.
+  pub first_source_sends_first : After two_sources (make 3 ++ work node.Ingress 5) (λ s.
+      (sent s node.Ingress (replica_a 1) ≡ Tuple (ingress_edge 0 0) 1 ∷ Tuple (ingress_edge 0 0) 2 ∷ Tuple (ingress_edge 1 0) 1 ∷ [])
+      × (sent s node.Ingress (replica_b 1) ≡ Tuple (ingress_edge 0 0) 1 ∷ Tuple (ingress_edge 0 0) 2 ∷ []))
   -- Where both replicas of a pair have failed, it is lost.
   pub both_killed : After (one_stage 3) (make 1 ++ kill (replica_a 1) ++ kill (replica_b 1)) (λ s. IsLost s the_pair)
   -- Where only one has, it is not.
   pub one_killed : After (one_stage 3) (make 1 ++ kill (replica_a 1)) (λ s. IsServed s the_pair)
+  -- A replica asks to be stopped where its order lets it: not below the order's count, and not twice.
+  pub stopped_at_its_count : AreWithin (one_stage 3) (stop_at 1) stopped_after_one
+  pub stopped_too_soon : AreWithin (one_stage 3) (stop_at 2) stopped_after_one → ⊥
+  pub stopped_twice : AreWithin (one_stage 3) (stop_at 1) (stopped_after_one ++ ask_stop (replica_a 1)) → ⊥
+  -- Two orders let one replica do two things: ask to be stopped by its own, and ask for its partner by the partner's.
+  pub asked_by_two_orders : AreWithin (one_stage 3) stop_both (stopped_after_one ++ event.AskBack (replica_b 1) ∷ [])
+  -- From the opening the drain makes all; replica A takes and merges all, and then egress does.
+  pub drained_from_the_opening : After (one_stage 3) [] (λ s. drain (one_stage 3) s ≡ make 4 ++ drained_by (replica_a 1) 4 4 ++ pull (replica_a 1) node.Egress 4 ++ work node.Egress 4)
+  -- Where replica A has failed, replica B drains, and takes and merges what it hasn't yet.
+  pub drained_by_the_survivor : After (one_stage 3) (make 2 ++ pull node.Ingress (replica_b 1) 2 ++ work (replica_b 1) 1 ++ kill (replica_a 1)) (λ s.
+      drain (one_stage 3) s ≡ make 2 ++ drained_by (replica_b 1) 2 3 ++ pull (replica_b 1) node.Egress 4 ++ work node.Egress 4)
+  -- The drain goes stage by stage.
+  pub drained_by_stages : After (two_stages 1) [] (λ s.
+      drain (two_stages 1) s ≡ make 2 ++ drained_by (replica_a 1) 2 2 ++ (pull (replica_a 1) (replica_a 2) 2 ++ work (replica_a 2) 2) ++ pull (replica_a 2) node.Egress 2 ++ work node.Egress 2)
+  -- What both sources of ingress have made is pulled in one go.
+  pub drained_of_both_sources : After two_sources (make 3 ++ pull node.Ingress (replica_a 1) 3 ++ work (replica_a 1) 2) (λ s.
+      drain two_sources s ≡ make 2 ++ drained_by (replica_a 1) 3 3 ++ pull (replica_a 1) node.Egress 5 ++ work node.Egress 5)
+  -- Where egress has merged all, there is nothing to drain.
+  pub drained_already : After (one_stage 0) (make 1 ++ drained_by (replica_a 1) 1 1 ++ pull (replica_a 1) node.Egress 1 ++ work node.Egress 1) (λ s. drain (one_stage 0) s ≡ [])
+  -- The first lost pair is found, stage by stage.
+  pub second_pair_is_lost : After (two_stages 1) (kill (replica_a 1) ++ kill (replica_a 2) ++ kill (replica_b 2)) (λ s. first_lost s (pairs_up_to (two_stages 1) 2) ≡ Some (partition 2 0))

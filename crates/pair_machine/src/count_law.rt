@@ -1,5 +1,5 @@
 // What holds of the counts of every plan, as contracts of functions that do nothing.
-ghost use Rattle.pair_machine.specs.CountLaws.{AllIsMade, EdgesAreUsedUp, EndedMergeIsWhole, MovesHaveTheirSize, OutputComesInOrder, PlansAreFlows};
+ghost use Rattle.pair_machine.specs.CountLaws.{AllIsMade, EdgesAreMergedInOrder, EdgesAreUsedUp, EndedMergeIsWhole, MovesHaveTheirSize, OutputComesInOrder, PlansAreFlows};
 
 /// The numbers of every plan are those of a flow, over which the machine runs.
 #[tactic(auto, using(crate::proofs::PlanFlow::plan_is_flow))]
@@ -12,6 +12,12 @@ pub fn plans_are_flows()
 #[tactic(auto, using(crate::proofs::CountLaws::used_up))]
 pub fn edges_are_used_up()
     ensures { EdgesAreUsedUp }
+{}
+
+/// Of each edge into a partition the items among those that it merges first are the edge's first items, in
+/// their order, each once.
+pub fn edges_are_merged_in_order()
+    ensures { EdgesAreMergedInOrder }
 {}
 
 /// What a partition or ingress has made of an edge is nothing at first, never falls, is the front of the
