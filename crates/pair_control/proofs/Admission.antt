@@ -7,7 +7,7 @@ use Rattle.tuple_edge.specs.declared.node.NodeId.TheVariants as node
 use Rattle.tuple_edge.specs.declared.node.Which.TheVariants.{A, B}
 use Rattle.tuple_edge.specs.declared.packet.Body.{Body}
 use Rattle.tuple_edge.specs.declared.packet.Body.TheVariants as body
-use Rattle.tuple_edge.specs.declared.row.Row.{Row}
+use Rattle.tuple_edge.specs.Input.{Input}
 use Rattle.plan_reader.specs.Nodes.{has_link, has_pair, parts_of}
 use Rattle.plan_reader.specs.PlanView.{PlanView}
 use Rattle.pair_machine.specs.Contents.{BodyStands}
@@ -37,7 +37,7 @@ module _ (f : Flow) (c : ControllerView) (edges : length c.acked ≡ f.sources c
   none_across (node.Control s p) h = h
   none_across node.Egress h = h
 
-  carried_here : (plan : PlanView) (rows : List Row) (from : NodeId) (b : Body) (m : Message) → Carries f (link from (node_of c)) m →
+  carried_here : (plan : PlanView) (rows : List Input) (from : NodeId) (b : Body) (m : Message) → Carries f (link from (node_of c)) m →
       BodyStands plan rows (link from (node_of c)) b m → IsSmall m → IsFromReplica c from × IsCarried c b
   carried_here plan rows from (body.Report i e k) (Report inc edge upto) h st small =
       let P : EdgeId → Type 0 = λ z. IsCarried c (body.Report i z k) in
@@ -61,7 +61,7 @@ module _ (f : Flow) (c : ControllerView) (edges : length c.acked ≡ f.sources c
 
 -- ---- the plan's link
 
-pair_there : (plan : PlanView) (rows : List Row) (c : ControllerView) → HasNode (flow_of plan rows) (node_of c) → IsTrue (has_pair plan c.stage c.part)
+pair_there : (plan : PlanView) (rows : List Input) (c : ControllerView) → HasNode (flow_of plan rows) (node_of c) → IsTrue (has_pair plan c.stage c.part)
 unfolding flow_of
 pair_there plan rows c h =
     let first = le-leb 1 c.stage h.0.0 in
@@ -71,7 +71,7 @@ pair_there plan rows c h =
     let there = lt-ltb c.part (parts_of plan c.stage) part in
     rw (first, last, there) refl
 
-link_there : (plan : PlanView) (rows : List Row) (c : ControllerView) (from : NodeId) → HasNode (flow_of plan rows) (node_of c) → IsFromReplica c from → IsTrue (has_link plan (link from (node_of c)))
+link_there : (plan : PlanView) (rows : List Input) (c : ControllerView) (from : NodeId) → HasNode (flow_of plan rows) (node_of c) → IsFromReplica c from → IsTrue (has_link plan (link from (node_of c)))
 link_there plan rows c (node.Replica s p w) h from = rw (from.0, from.1, pair_there plan rows c h, eq-eqb c.stage c.stage refl, eq-eqb c.part c.part refl) refl
 link_there plan rows c node.Ingress h from = absurd from
 link_there plan rows c (node.Control s p) h from = absurd from
@@ -80,7 +80,7 @@ link_there plan rows c node.Egress h from = absurd from
 may_rise : (c : ControllerView) (n : Node) → n ≡ ControllerNode (numbers_of c) → HasRoom (controller_in n) → MayRise c
 may_rise c n e h = let P : Node → Type 0 = λ x. HasRoom (controller_in x) in let z : HasRoom (numbers_of c) = subst P e h in (z.0 A, z.0 B, z.1)
 
-pub sent_is_admitted : (plan : PlanView) (rows : List Row) (c : ControllerView) (from : NodeId) (b : Body) (s : State) (m : Message) → IsSound (flow_of plan rows) s →
+pub sent_is_admitted : (plan : PlanView) (rows : List Input) (c : ControllerView) (from : NodeId) (b : Body) (s : State) (m : Message) → IsSound (flow_of plan rows) s →
     StandsFor (flow_of plan rows) c (s.nodes (node_of c)) → HasRoom (controller_in (s.nodes (node_of c))) → IsSmall m → Among m (s.sent (link from (node_of c))) →
     BodyStands plan rows (link from (node_of c)) b m → IsTrue (has_link plan (link from (node_of c))) × IsAdmitted c from b
 sent_is_admitted plan rows c from b s m sound stands room small among st =

@@ -4,7 +4,7 @@ use Rattle.std.specs.Prelude.{◌==◌, nat_lt}
 use Rattle.tuple_edge.specs.declared.node.NodeId.{NodeId}
 use Rattle.tuple_edge.specs.declared.node.Which.{Which}
 use Rattle.tuple_edge.specs.declared.node.Which.TheVariants.{A, B}
-use Rattle.tuple_edge.specs.declared.row.Row.{Row}
+use Rattle.tuple_edge.specs.Input.{Input}
 use Rattle.plan_reader.specs.PlanView.{PlanView}
 use Rattle.pair_machine.specs.Contents.{BodyStands}
 use Rattle.std.specs.Option.{is_none}
@@ -19,7 +19,7 @@ use Rattle.pair_machine.proofs.Tests.{if_elim}
 use Rattle.pair_control.specs.Packets.{body_of, packets_of}
 use Rattle.pair_machine.specs.Courses.{ArePacketsFor}
 
-module _ (plan : PlanView) (rows : List Row) (n : NodeId) where
+module _ (plan : PlanView) (rows : List Input) (n : NodeId) where
   -- the body that is sent for an envelope of node n stands for its message
   abbrev pub IsSentWell : Envelope → Type 0
   IsSentWell e = BodyStands plan rows (link n e.to) (body_of e.message) e.message

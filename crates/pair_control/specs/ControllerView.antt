@@ -1,5 +1,5 @@
 -- What contracts see of a controller, and the machine's numbers that it has.
-use Rattle.std.specs.Prelude.{◌≡◌, ◌≢◌, ◌⊎◌, ℕ, Bool, List, Option, None, max, slice_index}
+use Rattle.std.specs.Prelude.{◌≡◌, ◌≢◌, ◌⊎◌, ℕ, Bool, List, Option, MatchOption, max, slice_index}
 use Rattle.tuple_edge.specs.declared.node.Which.{Which}
 use Rattle.tuple_edge.specs.declared.node.Which.TheVariants.{A, B}
 use Rattle.tuple_edge.specs.declared.status.Status.{Status}
@@ -36,9 +36,9 @@ by_which a b B = b
 abbrev pub watched_of : ControllerView → Which → WatchedView
 watched_of c w = by_which c.a c.b w
 
--- where nobody leads, neither replica is up
+-- who leads is up, and where nobody leads neither replica is
 abbrev pub IsLed : Option Which → Status → Status → Type 0
-IsLed leader a b = leader ≡ None → (a ≢ status.Up) × (b ≢ status.Up)
+IsLed leader a b = MatchOption leader ((a ≢ status.Up) × (b ≢ status.Up)) (λ w. by_which a b w ≡ status.Up)
 
 -- not both replicas are up
 abbrev pub IsOneAway : ControllerView → Type 0

@@ -2,13 +2,13 @@
 use Rattle.std.specs.Prelude.{◌≡◌, ◌≤◌, ℕ, List, [], ◌∷◌, ◌++◌, ◌+◌, if◌then◌else◌, length, nat_lt}
 use Rattle.tuple_edge.specs.Outbox.{OutboxView}
 use Rattle.tuple_edge.specs.declared.node.NodeId.{NodeId}
+use Rattle.tuple_edge.specs.declared.node.NodeId.TheVariants as node
 use Rattle.tuple_edge.specs.declared.packet.Body.{Body}
 use Rattle.tuple_edge.specs.declared.packet.Body.TheVariants as body
 use Rattle.pair_machine.specs.Numbers.{Controller, Partition, in_edge}
 use Rattle.pair_machine.specs.Messages.{Envelope, Message, Ack, Report, Lead, Serve, Begin, Caught, Down, Stop, AskStop, AskBack}
 use Rattle.pair_machine.specs.Controllers.{controller_takes}
 use Rattle.pair_machine.specs.Producers.{to_producers}
-use Rattle.pair_machine.specs.Replicas.{which_of}
 use Rattle.pair_control.specs.ControllerView.{ControllerView, numbers_of, partition_of}
 
 -- ---- what is heard
@@ -22,9 +22,11 @@ message_of body.AskBack = AskBack
 message_of (body.Caught i) = Caught i
 message_of b = Begin 0
 
--- what a packet does to a controller, and what is sent for it: the machine's own step
+-- what a replica's packet does to its controller, and what is sent for it: the machine's own step; a packet of a node that is no
+-- replica says nothing
 abbrev pub taking : ControllerView → NodeId → Body → (Controller × List Envelope)
-taking c from b = controller_takes (length c.acked) (partition_of c) (which_of from) (message_of b) (numbers_of c)
+taking c (node.Replica stage part which) b = controller_takes (length c.acked) (partition_of c) which (message_of b) (numbers_of c)
+taking c from b = (numbers_of c, [])
 
 -- ---- what is sent
 

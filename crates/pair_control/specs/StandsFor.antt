@@ -1,9 +1,10 @@
 -- What a controller and its packets stand for in the machine.
-use Rattle.std.specs.Prelude.{◌≡◌, ℕ, List, Ok, Some, length}
+use Rattle.std.specs.Prelude.{◌≡◌, ℕ, IsTrue, List, Ok, Some, length}
 use Rattle.tuple_edge.specs.declared.event.Event.TheVariants as event
 use Rattle.tuple_edge.specs.declared.node.NodeId.{NodeId}
 use Rattle.tuple_edge.specs.declared.packet.Body.{Body}
-use Rattle.tuple_edge.specs.declared.row.Row.{Row}
+use Rattle.tuple_edge.specs.Input.{Input}
+use Rattle.plan_reader.specs.Nodes.{has_node, sources_of}
 use Rattle.plan_reader.specs.PlanView.{PlanView}
 use Rattle.pair_machine.specs.Numbers.{ControllerNode, Node, control_at}
 use Rattle.pair_machine.specs.Messages.{Message, Takes}
@@ -26,10 +27,15 @@ pub record StandsFor (f : Flow) (c : ControllerView) (n : Node) : Type 0 where
   pub numbers : n ≡ ControllerNode (numbers_of c)
   pub edges : length c.acked ≡ f.sources c.stage
 
+-- it is the controller of one of the plan's pairs, with as many in-edges as that pair has
+pub record IsOfPlan (plan : PlanView) (c : ControllerView) : Type 0 where
+  pub there : IsTrue (has_node plan (node_of c))
+  pub edges : length c.acked ≡ sources_of plan c.stage
+
 -- ---- one step
 
 -- The machine's node takes the message: it has then the numbers of the later controller, and what it sends is what was appended.
-pub record IsMachineStep (plan : PlanView) (rows : List Row) (old new : ControllerView) (from : NodeId) (b : Body) (m : Message) : Type 0 where
+pub record IsMachineStep (plan : PlanView) (rows : List Input) (old new : ControllerView) (from : NodeId) (b : Body) (m : Message) : Type 0 where
   pub taken : does (flow_of plan rows) (node_of old) (Takes from m) (ControllerNode (numbers_of old)) ≡ Ok (ControllerNode (numbers_of new), (taking old from b).1)
   pub stand : ArePacketsFor (BodyStands plan rows) (node_of old) (packets_of (taking old from b).1) (taking old from b).1
 
@@ -37,7 +43,7 @@ pub record IsMachineStep (plan : PlanView) (rows : List Row) (old new : Controll
 
 -- To take this packet from a node is a step of the controller in a course, and it sends these packets: whatever message the packet
 -- stands for, and whatever its clock and its place on the link are.
-abbrev pub IsTaken : PlanView → List Row → ControllerView → ControllerView → NodeId → Body → Type 0
+abbrev pub IsTaken : PlanView → List Input → ControllerView → ControllerView → NodeId → Body → Type 0
 IsTaken plan rows old new from b =
     (at index clock : ℕ) → IsStep (flow_of plan rows) (BodyStands plan rows) (Asks (flow_of plan rows)) (node_of old) (StandsFor (flow_of plan rows) old) (StandsFor (flow_of plan rows) new)
     (event.Take (link from (node_of old)) index) (Some (record { at = at; body = b })) (λ to. packets_to clock to (packets_of (taking old from b).1))

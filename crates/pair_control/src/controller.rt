@@ -1,12 +1,12 @@
 // The controller: what it is, and what can be read of it.
 ghost use Rattle.pair_control.specs.Admitted.{AreReportsSmall, AreSmall};
-ghost use Rattle.pair_control.specs.ControllerView.{IsLed, numbers_of, partition_at, partition_of, watched_numbers, watched_of};
-ghost use Rattle.pair_control.specs.StandsFor.{StandsFor};
+ghost use Rattle.pair_control.specs.ControllerView.{numbers_of, partition_at, partition_of, watched_numbers, watched_of};
+ghost use Rattle.pair_control.specs.StandsFor.{StandsFor, node_of};
 ghost use Rattle.pair_machine.specs.Controllers.{counts};
 ghost use Rattle.pair_machine.specs.Flow.{Flow};
 ghost use Rattle.pair_machine.specs.Machine.{new_controller, new_node};
 ghost use Rattle.pair_machine.specs.Numbers.{control_at};
-ghost use Rattle.std.specs.Prelude.{◌≡◌, ◌≢◌, ◌<◌, ◌≤◌, ◌↔◌, IfOk, IsTrue, length, slice_index};
+ghost use Rattle.std.specs.Prelude.{◌≡◌, ◌≢◌, ◌<◌, ◌≤◌, ◌↔◌, IfOk, IfSome, IsNone, IsTrue, length, slice_index};
 ghost use Rattle.tuple_edge.specs.declared.status.Status.TheVariants as status;
 
 mod admits;
@@ -16,7 +16,7 @@ mod step;
 use crate::watched::{Watched, zeros};
 use std::alloc::Global;
 use std::marker::Model;
-use tuple_edge::{OutOfMemory, Status, Which};
+use tuple_edge::{NodeId, OutOfMemory, Status, Which};
 
 /// The controller of the pair that runs one partition of one stage. Stages count from 1, partitions,
 /// and in-edges by the partition that they come from, from 0. Numbers of items, incarnations and terms
@@ -82,6 +82,14 @@ impl PairControl {
         })
     }
 
+    /// Its name in the plan.
+    pub fn id(&self) -> NodeId
+        ensures { result ≡ node_of self.now }
+    {
+        let (stage, part) = (self.stage, self.part);
+        NodeId::Control { stage, part }
+    }
+
     /// Whether a replica is up, catching up or down.
     pub fn status(&self, which: Which) -> Status
         ensures { result ≡ (watched_of self.now which).status }
@@ -128,12 +136,11 @@ impl PairControl {
         self.term
     }
 
-    /// The replica that leads. None exactly where the leader went down while its partner wasn't up, and
-    /// none was named since.
+    /// The replica that leads, which is up. None exactly where neither is.
     pub fn leader(&self) -> Option<Which>
         ensures value { result ≡ self.now.leader }
-        // Where nobody leads, neither replica is up.
-        ensures led { IsLed result self.now.a.status self.now.b.status }
+        ensures up { IfSome result (λ w. (watched_of self.now w).status ≡ status.Up) }
+        ensures none { IsNone result ↔ ((self.now.a.status ≢ status.Up) × (self.now.b.status ≢ status.Up)) }
     {
         self.leader
     }

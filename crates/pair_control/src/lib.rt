@@ -13,6 +13,3 @@ mod controller;
 mod watched;
 
 pub use controller::PairControl;
-
-#[cfg(test)]
-mod tests;

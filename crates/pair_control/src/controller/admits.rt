@@ -10,7 +10,7 @@ ghost use Rattle.pair_machine.specs.Messages.{Message};
 ghost use Rattle.pair_machine.specs.Sound.{IsSound};
 ghost use Rattle.plan_reader.specs.Nodes.{has_link};
 ghost use Rattle.std.specs.Prelude.{◌≡◌, ◌<◌, ◌+◌, ◌↔◌, List, IsTrue, length};
-ghost use Rattle.tuple_edge.specs.declared.row.Row.{Row};
+ghost use Rattle.tuple_edge.specs.Input.{Input};
 
 use crate::PairControl;
 use plan_reader::Plan;
@@ -26,13 +26,12 @@ impl PairControl {
         ensures exact { IsTrue result ↔ (IsTrue (has_link plan.now (link from (node_of self.now)))
             × IsAdmitted self.now from body.now) }
         // Every packet that a sound machine has sent there is admitted, as long as no number would pass its limit.
-        ensures complete { (rows : List Row) (s : State) (m : Message) →
+        ensures complete { (rows : List Input) (s : State) (m : Message) →
             let f = flow_of plan.now rows in let me = node_of self.now in
             IsSound f s → StandsFor f self.now (s.nodes me) → HasRoom (controller_in (s.nodes me))
             → IsSmall m → Among m (s.sent (link from me)) → BodyStands plan.now rows (link from me) body.now m → IsTrue result }
     {
-        let (stage, part) = (self.stage, self.part);
-        let to = NodeId::Control { stage, part };
+        let to = self.id();
         plan.links(LinkId { from, to }) && self.may_take(from, body)
     }
 

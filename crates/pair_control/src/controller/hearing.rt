@@ -2,10 +2,11 @@
 ghost use Rattle.pair_control.specs.Admitted.{IsCarried};
 ghost use Rattle.pair_control.specs.ControllerView.{IsOneAway, IsOneCatching, numbers_of, partition_of, watched_of};
 ghost use Rattle.pair_control.specs.Packets.{IsDone, SendsAtMost, message_of, packets_of};
-ghost use Rattle.pair_machine.specs.Controllers.{controller_hears, goes_down, named};
+ghost use Rattle.pair_machine.specs.Controllers.{controller_hears, goes_down};
 ghost use Rattle.pair_machine.specs.Messages.{Caught};
 ghost use Rattle.pair_machine.specs.Numbers.{other, replica_at};
 ghost use Rattle.std.specs.Prelude.{◌≡◌, ◌<◌, ◌≤◌, ◌+◌, ◌^◌, ◌++◌, ◌∷◌, ◌⊎◌, [], Some};
+ghost use Rattle.tuple_edge.specs.declared.packet.Body.TheVariants as body;
 ghost use Rattle.tuple_edge.specs.declared.status.Status.TheVariants as status;
 
 use crate::PairControl;
@@ -75,23 +76,23 @@ impl PairControl {
         ensures incs { (self.new.a.inc ≡ self.old.a.inc) × (self.new.b.inc ≡ self.old.b.inc) }
         ensures down { (watched_of self.new which).status ≡ status.Down }
     {
+        let partner = partner_of(which);
         let led = self.leader == Some(which);
+        let is_followed = self.status(partner) == Status::Up;
         match which {
             Which::A => self.a.go_down(),
             Which::B => self.b.go_down(),
         }
-        if led {
-            let partner = partner_of(which);
-            if self.status(partner) == Status::Up {
-                self.name_leader(partner, out);
-            } else {
-                self.leader = None;
-            }
+        if led && is_followed {
+            self.term += 1;
+            self.leader = Some(partner);
+            self.tell_leader(partner, out);
+        } else if led {
+            self.leader = None;
         }
     }
 
-    // A replica that was catching up is up. Where nobody leads, it is named leader first, so that at no
-    // moment a replica is up in a pair without a leader.
+    // A replica that was catching up is up. Where nobody leads, it is named leader.
     fn come_up(&mut self, which: Which, out: &mut Outbox)
         requires term { self.old.term + 1 < 2 ^ 64 }
         requires room { 1 ≤ out.old.spare }
@@ -104,26 +105,24 @@ impl PairControl {
         ensures incs { (self.new.a.inc ≡ self.old.a.inc) × (self.new.b.inc ≡ self.old.b.inc) }
         ensures alone { (self.new.term ≡ self.old.term) ⊎ IsOneAway self.new }
     {
-        if self.leader.is_none() {
-            self.name_leader(which, out);
-        }
         match which {
             Which::A => self.a.come_up(),
             Which::B => self.b.come_up(),
         }
+        if self.leader.is_none() {
+            self.term += 1;
+            self.leader = Some(which);
+            self.tell_leader(which, out);
+        }
     }
 
-    // Names a replica leader in the next term, and tells it.
-    fn name_leader(&mut self, which: Which, out: &mut Outbox)
-        requires term { self.old.term + 1 < 2 ^ 64 }
-        requires room { 1 ≤ out.old.spare }
-        ensures does { IsDone self.old self.new out.old out.new
-            (named (partition_of self.old) which (numbers_of self.old)) }
+    // Tells a replica that it leads in this term.
+    fn tell_leader(&self, which: Which, out: &mut Outbox)
+        requires { 1 ≤ out.old.spare }
+        ensures packets { out.new.packets ≡ out.old.packets
+            ++ (replica_at (partition_of self.now) which, body.Lead (watched_of self.now which).inc self.now.term) ∷ [] }
         ensures sends { SendsAtMost 1 out.old out.new }
-        ensures kept { self.new ≡ record self.old { term = self.old.term + 1; leader = Some which } }
     {
-        self.term += 1;
-        self.leader = Some(which);
         let (inc, term) = (self.inc(which), self.term);
         self.send(which, Body::Lead { inc, term }, out);
     }

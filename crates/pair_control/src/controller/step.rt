@@ -1,20 +1,20 @@
 // One packet at the controller, whole: what it says, and then what follows after each packet.
-ghost use Rattle.pair_control.specs.Admitted.{AreReportsSmall, AreSmall, IsAdmitted};
+ghost use Rattle.pair_control.specs.Admitted.{AreReportsSmall, AreSmall, IsAdmitted, IsFromReplica};
 ghost use Rattle.pair_control.specs.ControllerView.{IsOneAway, IsOneCatching, numbers_of, partition_of, watched_of};
 ghost use Rattle.pair_control.specs.Packets.{IsDone, SendsAtMost, message_of, packets_of, taking};
 ghost use Rattle.pair_control.specs.Raised.{acked_after};
-ghost use Rattle.pair_control.specs.StandsFor.{IsMachineStep, IsTaken, node_of};
+ghost use Rattle.pair_control.specs.StandsFor.{IsMachineStep, IsOfPlan, IsTaken, node_of};
 ghost use Rattle.pair_machine.specs.Contents.{BodyStands};
 ghost use Rattle.pair_machine.specs.Controllers.{acks, backs, stops};
 ghost use Rattle.pair_machine.specs.Counts.{flow_of};
 ghost use Rattle.pair_machine.specs.Links.{link};
 ghost use Rattle.pair_machine.specs.Messages.{Message};
 ghost use Rattle.pair_machine.specs.Numbers.{other, replica_at};
-ghost use Rattle.pair_machine.specs.Replicas.{which_of};
+ghost use Rattle.pair_machine.specs.Receivers.{GoOverLinks, appended};
 ghost use Rattle.plan_reader.specs.PlanView.{PlanView};
 ghost use Rattle.std.specs.Prelude.{◌≡◌, ◌<◌, ◌≤◌, ◌+◌, ◌^◌, ◌++◌, ◌∷◌, ◌⊎◌, ℕ, [], List, length, slice_index};
 ghost use Rattle.tuple_edge.specs.declared.packet.Body.TheVariants as body;
-ghost use Rattle.tuple_edge.specs.declared.row.Row.{Row};
+ghost use Rattle.tuple_edge.specs.Input.{Input};
 
 use crate::PairControl;
 use crate::acknowledgement::raise;
@@ -22,50 +22,56 @@ use crate::controller::hearing::partner_of;
 use crate::watched::least_report;
 use tuple_edge::{Body, NodeId, Outbox, Status, Which};
 
-// Which of its pair a replica is. A controller hears of no other node.
-fn replica_in(node: NodeId) -> Which
-    ensures { result ≡ which_of node }
-{
-    match node {
-        NodeId::Replica { which, .. } => which,
-        _ => Which::A,
-    }
-}
-
 impl PairControl {
-    /// Takes a packet from one of the two replicas, and sends what follows from it: at most 19 packets.
-    /// It takes no memory.
+    /// Takes a packet from one of the two replicas, and sends what follows from it: at most 19 packets, to
+    /// the replicas and to the producers of the in-edges. It takes no memory.
     pub fn on(&mut self, from: NodeId, body: &Body, out: &mut Outbox)
         requires admitted { IsAdmitted self.old from body.now }
         requires room { 24 ≤ out.old.spare }
         // The machine's own step, and exactly its packets in order.
         ensures numbers { numbers_of self.new ≡ (taking self.old from body.now).0 }
         ensures packets { out.new.packets ≡ out.old.packets ++ packets_of (taking self.old from body.now).1 }
-        ensures sends { SendsAtMost 19 out.old out.new }
+        ensures few { SendsAtMost 19 out.old out.new }
+        ensures linked { (plan : PlanView) → IsOfPlan plan self.old
+            → GoOverLinks plan (node_of self.old) (appended out.old.packets out.new.packets) }
         // Of each in-edge the least report of the replicas that aren't down is acknowledged, and that never falls.
         ensures acked { (q : ℕ) → q < length self.old.acked
             → slice_index self.new.acked q ≡ acked_after self.old self.new q }
         ensures never_falls { (q : ℕ) → q < length self.old.acked
             → slice_index self.old.acked q ≤ slice_index self.new.acked q }
+        // It stays the same node, and a node of the same plans.
+        ensures id { node_of self.new ≡ node_of self.old }
+        ensures of_plan { (plan : PlanView) → IsOfPlan plan self.old → IsOfPlan plan self.new }
         ensures partition { partition_of self.new ≡ partition_of self.old }
         ensures edges { length self.new.acked ≡ length self.old.acked }
         // For the machine's laws: in each plan, whatever message the body stands for.
-        ensures step { (plan : PlanView) (rows : List Row) (m : Message)
+        ensures step { (plan : PlanView) (rows : List Input) (m : Message)
             → length self.old.acked ≡ (flow_of plan rows).sources self.old.stage
             → BodyStands plan rows (link from (node_of self.old)) body.now m
             → IsMachineStep plan rows self.old self.new from body.now m }
-        ensures course { (plan : PlanView) (rows : List Row) → IsTaken plan rows self.old self.new from body.now }
+        ensures course { (plan : PlanView) (rows : List Input) → IsTaken plan rows self.old self.new from body.now }
         // No number passes its limit.
         ensures small { AreSmall self.new }
         ensures reports { AreReportsSmall self.old → AreReportsSmall self.new }
     {
-        let which = replica_in(from);
+        let which = self.sender(from);
         self.hear(which, body, out);
         self.bring_back(Which::A, out);
         self.bring_back(Which::B, out);
         self.grant_stop(Which::A, out);
         self.grant_stop(Which::B, out);
         self.acknowledge(out);
+    }
+
+    // Which of its replicas the sender of a packet is.
+    fn sender(&self, from: NodeId) -> Which
+        requires { IsFromReplica self.now from }
+        ensures { from ≡ replica_at (partition_of self.now) result }
+    {
+        let NodeId::Replica { which, .. } = from else {
+            unreachable!()
+        };
+        which
     }
 
     // A replica that is to be brought back, is down and stands beside one that is up begins to catch up.
