@@ -1,0 +1,10 @@
+pub mod Digits
+pub mod Marks
+pub mod BothFiles
+pub mod Ordered
+pub mod Places
+pub mod Reading
+pub mod RecordFacts
+pub mod Sources
+pub mod SymbolFacts
+pub mod Trims

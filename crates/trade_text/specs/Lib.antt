@@ -1,0 +1,16 @@
+pub mod Cash
+pub mod Columns
+pub mod Fields
+pub mod Files
+pub mod Inputs
+pub mod Kinds
+pub mod Limits
+pub mod Messages
+pub mod Records
+pub mod Refusals
+pub mod Results
+pub mod Signed
+pub mod Symbols
+pub mod Text
+pub mod Trades
+pub mod TradesView

@@ -1,0 +1,29 @@
+//! The texts at the two ends of a dataflow: the trades and the cash movements that come in, as people
+//! export them from spreadsheets and brokers, and the rows that go out.
+//!
+//! It promises that `read_trades` and `read_cash` give exactly what a text says, or the first thing in
+//! it that is refused, with the record and the field; that `merge_cash` puts the rows of both files in
+//! the order of their times; and that `write_output` gives exactly the text of rows, with each symbol by
+//! its name. What a record is decides the crate `csv`; the header and the fields are defined here. It
+//! stands on csv, on indexmap for the numbers of symbols, on itoa, and, for number words, on plan_reader.
+#![tactic(auto)]
+
+mod cash_file;
+mod columns;
+mod error;
+mod fields;
+mod files;
+mod merging;
+mod records;
+mod symbols;
+mod text;
+mod trade_file;
+mod trades;
+
+pub use cash_file::{Cash, read_cash};
+pub use error::{CashError, CashField, Field, FileField, ReadError, TradeError};
+pub use files::{MAX_INPUT_BYTES, MAX_INPUTS};
+pub use symbols::MAX_SYMBOLS;
+pub use text::write_output;
+pub use trade_file::read_trades;
+pub use trades::Trades;
