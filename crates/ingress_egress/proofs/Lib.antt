@@ -1,7 +1,7 @@
-pub mod Digits
-pub mod Marks
-pub mod Places
-pub mod Reading
-pub mod RecordFacts
-pub mod SymbolFacts
-pub mod Trims
+mod EgressSteps
+mod IngressSteps
+mod OnEdges
+mod EachSource
+mod Admitting
+mod EgressPlan
+mod IngressPlan

@@ -1,11 +1,5 @@
-pub mod Columns
-pub mod Fields
-pub mod Limits
-pub mod Messages
-pub mod Text
-pub mod Records
-pub mod Results
-pub mod Signed
-pub mod Symbols
-pub mod Trades
-pub mod TradesView
+pub mod EgressStands
+pub mod EgressView
+pub mod IngressStands
+pub mod IngressView
+pub mod Small

@@ -1,24 +1,17 @@
-//! The two ends of a dataflow: the trades that come in, as people export them from spreadsheets and
-//! brokers, and the text of the rows that go out.
+//! The two nodes at the ends of a dataflow: ingress makes the trades and movements into numbered items and
+//! sends them to the first stage, and egress merges what the last stage sends.
 //!
-//! It promises that `read_trades` gives exactly the trades that a text says, or the first thing in it
-//! that is refused, with the record and the field, and that `write_output` gives exactly the text of
-//! rows, with each symbol by its name. What a record is decides the crate `csv`; the header and the
-//! fields are defined here. It stands on csv, on indexmap for the numbers of symbols, on itoa, and, for
-//! number words, on plan_reader.
+//! It promises that each event of either node is its step of the machine of `pair_machine`, and that a
+//! packet that a sound machine has sent is admitted. It stands on trade_text for the inputs, on
+//! flux_producer and flux_consumer for the numbered edges, and on node_edges for what a node keeps of
+//! them.
 #![tactic(auto)]
 
-mod columns;
-mod error;
-mod fields;
-mod records;
-mod symbols;
-#[cfg(test)]
-mod tests;
-mod text;
-mod trades;
+mod admission;
+mod egress;
+mod ingress;
+mod making;
 
-pub use error::{Field, TradeError};
-pub use symbols::MAX_SYMBOLS;
-pub use text::write_output;
-pub use trades::{MAX_TRADES, MAX_TRADES_BYTES, Trades, read_trades};
+pub use egress::Egress;
+pub use ingress::Ingress;
+pub use making::Made;

@@ -1,0 +1,33 @@
+use Rattle.std.proofs.Common.{◌≡◌, ◌∙◌, ap, length, refl, subst, sym, arith}
+use Rattle.ingress_egress.specs.IngressView.{AreWide, HaveMadeAtMost, new_producers}
+use Rattle.trade_text.specs.TradesView.{paired}
+use Rattle.ingress_egress.proofs.IngressPlan.{open_made}
+use Rattle.ingress_egress.proofs.IngressSteps.{many, open_wide, opens}
+use Rattle.ingress_egress.proofs.ingress.Ingress.new.Goals as goal
+
+producers_are : (c : goal.In_ok-producers) → c.in_ok-producers.producers.items ≡ new_producers c.first_stage-first.result.parts c.args.plan.now.version
+producers_are c = c.in_ok-producers.ensures ∙ ap (new_producers c.first_stage-first.result.parts) c.version.ensures.value
+
+pub invariant_of-result : goal.invariant_of-result
+invariant_of-result c =
+    let same = producers_are c in
+    let parts = c.first_stage-first.result.parts in
+    let version = c.args.plan.now.version in
+    let count : length c.in_ok-producers.producers.items ≡ version = ap length same ∙ many parts version in
+    let few = c.version.ensures.limits.version_high in
+    let mark = c.mark-mark.ensures.value in
+    let some = c.mark-mark.ensures.limits.mark_low in
+    let rows = ap length (c.in_ok-rows.ensures.items ∙ c.rows.ensures.rows) in
+    let limit = c.rows.ensures.limits.few_rows in
+    (c.first_stage-first.ensures.some, omega arith, omega arith, omega arith, omega arith, subst (AreWide parts) (sym same) (open_wide parts version), subst (HaveMadeAtMost 0) (sym same) (open_made parts version))
+
+pub returns : goal.returns
+returns c = record {
+  of_plan = record {
+    first = c.first_stage-first.ensures.first;
+    sources = ap length (producers_are c) ∙ many c.first_stage-first.result.parts c.args.plan.now.version;
+  };
+  stands = opens c.args.plan.now _ c.first_stage-first.ensures.limits _
+      (λ i. paired ((c.in_ok-rows.ensures.items ∙ c.rows.ensures.rows) i) ((c.in_ok-sources.ensures.items ∙ c.sources.ensures) i))
+      c.first_stage-first.ensures.first c.mark-mark.ensures.value refl (producers_are c);
+}

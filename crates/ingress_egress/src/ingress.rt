@@ -1,0 +1,322 @@
+// Ingress as a node: what it is, and what can be read of it.
+ghost use Rattle.flux_producer.specs.Due.{due_of};
+ghost use Rattle.ack_buffer.specs.Buffer.{item_at};
+ghost use Rattle.flux_producer.specs.ProducerView.{acked, buffer_at, sent_on, wanted_from};
+ghost use Rattle.ingress_egress.specs.IngressStands.{IsAdmitted, IsMade, IsMadeIn, IsOfPlan, IsTaken, IsWorked, StandsFor};
+ghost use Rattle.pair_machine.specs.Consumers.{first_below};
+ghost use Rattle.ingress_egress.specs.IngressView.{AreWide, contents_in, new_producers, producer_at, producer_in, source_due, taking, tuple_of, with_producer, working};
+ghost use Rattle.trade_text.specs.TradesView.{inputs_in};
+ghost use Rattle.node_edges.specs.OutEdges.{copy_of, which_at};
+ghost use Rattle.pair_machine.specs.Machine.{new_node};
+ghost use Rattle.pair_machine.specs.Receivers.{GoOverLinks, appended};
+ghost use Rattle.pair_machine.specs.Replicas.{which_of};
+ghost use Rattle.plan_reader.specs.PlanView.{IsPlan, PlanView};
+ghost use Rattle.std.specs.Prelude.{◌≡◌, ◌<◌, ◌≤◌, ◌+◌, ◌++◌, ◌∷◌, [], ℕ, List, None, Some, IfNone, IfOk, IfSome, OnErr, OnOk, IsTrue, is_some, length, slice_get, slice_set};
+ghost use Rattle.tuple_edge.specs.Input.{Input};
+ghost use Rattle.tuple_edge.specs.declared.event.Worked.TheVariants.{Idle};
+ghost use Rattle.tuple_edge.specs.declared.node.NodeId.TheVariants as node;
+ghost use Rattle.tuple_edge.specs.Limits.{edge_limit};
+
+use crate::making::{Made, given_at, make_with_room};
+use flux_producer::{Due, Producer};
+use plan_reader::{Plan, Stage};
+use std::alloc::Global;
+use std::marker::Model;
+use trade_text::Trades;
+use tuple_edge::{Body, EdgeId, Item, NodeId, OutOfMemory, Outbox, Row, Which, Worked};
+
+/// Ingress: it makes the inputs into items, one after another, and each of its sources sends its own
+/// rows, with the marks and the end, to the first stage.
+#[derive(Drop)]
+pub struct Ingress {
+    rows: Vec<Row>,
+    sources: Vec<u32>,
+    first: Stage,
+    mark: u64,
+    makes: u64,
+    producers: Vec<Producer>,
+}
+
+impl Model for Ingress {
+    ghost use Rattle.ingress_egress.specs.IngressView.{AreWide, HaveMadeAtMost, IngressView};
+    ghost use Rattle.trade_text.specs.Limits.{max_inputs};
+    ghost use Rattle.trade_text.specs.TradesView.{paired};
+    ghost use Rattle.tuple_edge.specs.Limits.{edge_limit};
+    ghost use Rattle.std.specs.Prelude.{◌≤◌, ◌<◌, ◌+◌, ◌*◌, length};
+
+    ghost Value = { IngressView };
+
+    ghost view = { λ i. record { inputs = paired i.rows.items i.sources.items; first = i.first; mark = i.mark; makes = i.makes; producers = i.producers.items } };
+
+    // There are few inputs, and a make gives at most two items to an edge, so no number of an item ever
+    // passes its limit.
+    ghost invariant = { λ i. (1 ≤ i.first.parts) × (1 ≤ i.mark) × (length i.rows.items ≤ max_inputs) × (i.makes ≤ length i.rows.items + 1)
+        × (length i.producers.items < edge_limit) × AreWide i.first.parts i.producers.items × HaveMadeAtMost (2 * i.makes) i.producers.items };
+}
+
+// The first stage of a plan.
+fn first_stage(plan: &Plan) -> Stage
+    ensures first { slice_get plan.now.stages 0 ≡ Some result }
+    ensures some { 1 ≤ result.parts }
+    ensures limits { IsPlan plan.now }
+{
+    plan.stages()[0]
+}
+
+// The producers of so many sources, of which nothing was made.
+fn new_producers(alloc: Global, sources: u32, parts: u32) -> Result<Vec<Producer>, OutOfMemory>
+    ensures { IfOk result (λ producers. producers.items ≡ new_producers parts sources) }
+{
+    let mut producers = Vec::with_capacity(alloc, sources as usize)?;
+    for source in 0..sources {
+        producers.push(Producer::new(alloc, 0, source, parts, 2, true)?)?;
+    }
+    Ok(producers)
+}
+
+// The number of the replica that a node is, at the end of an edge.
+fn copy_of(node: NodeId) -> u32
+    ensures value { result ≡ copy_of (which_of node) }
+    ensures few { result < 2 }
+{
+    match node {
+        NodeId::Replica {
+            which: Which::B,
+            ..
+        } => 1,
+        _ => 0,
+    }
+}
+
+// The replica of this number.
+fn which_at(copy: u32) -> Which
+    ensures { result ≡ which_at copy }
+{
+    match copy {
+        0 => Which::A,
+        _ => Which::B,
+    }
+}
+
+impl Ingress {
+    /// Ingress of a plan and its trades, as it opens: nothing was made.
+    pub fn new(alloc: Global, plan: &Plan, trades: &Trades) -> Result<Ingress, OutOfMemory>
+        ensures of_plan { IfOk result (IsOfPlan plan.now) }
+        ensures stands { IfOk result (λ i. StandsFor plan.now (inputs_in trades.now) i (new_node node.Ingress)) }
+    {
+        let first = first_stage(plan);
+        let mark = plan.mark();
+        let rows = Vec::from_slice(alloc, trades.rows())?;
+        let sources = Vec::from_slice(alloc, trades.sources())?;
+        let producers = new_producers(alloc, plan.version(), first.parts)?;
+        Ok(Ingress {
+            rows,
+            sources,
+            first,
+            mark,
+            makes: 0,
+            producers,
+        })
+    }
+
+    /// Its name in every plan.
+    pub fn id(&self) -> NodeId
+        ensures { result ≡ node.Ingress }
+    {
+        NodeId::Ingress
+    }
+
+    /// Takes an acknowledgement of a controller of the first stage, or a want of a replica of it. It
+    /// sends nothing, and takes no memory.
+    pub fn on(&mut self, from: NodeId, body: &Body)
+        requires admitted { IsAdmitted self.old from body.now }
+        ensures taken { self.new ≡ taking self.old from body.now }
+        ensures of_plan { (plan : PlanView) → IsOfPlan plan self.old → IsOfPlan plan self.new }
+        // For the machine's laws: in each plan, whatever message the body stands for.
+        ensures course { (plan : PlanView) (rows : List Input) → IsPlan plan → IsTaken plan rows self.old self.new from body.now }
+    {
+        self.take(from, body);
+    }
+
+    // Takes an acknowledgement or a want.
+    fn take(&mut self, from: NodeId, body: &Body)
+        requires admitted { IsAdmitted self.old from body.now }
+        ensures { self.new ≡ taking self.old from body.now }
+    {
+        match *body {
+            Body::Ack { edge, upto } => self.producers[edge.from as usize].ack(edge.to, upto),
+            Body::Want { edge, from: number } => {
+                self.producers[edge.from as usize].want(edge.to, copy_of(from), number)
+            }
+            _ => {}
+        }
+    }
+
+    /// Makes the next input into an item on the edge of its source that routing names, and where a mark
+    /// is due into one on every edge of every source; after the inputs it makes the end on every edge.
+    /// It sends nothing, and may always be called. After want of memory only the room of the buffers may
+    /// have changed. A row that no mark follows costs the same however many edges there are.
+    pub fn make(&mut self) -> Result<Made, OutOfMemory>
+        ensures made { IfOk result (IsMade self.old self.new) }
+        ensures unchanged { OnErr result (contents_in self.new ≡ contents_in self.old) }
+        ensures of_plan { (plan : PlanView) → IsOfPlan plan self.old → IsOfPlan plan self.new }
+        // For the machine's laws, in each plan.
+        ensures course { IfOk result (λ m. (plan : PlanView) (rows : List Input) → IsPlan plan → IsMadeIn plan rows self.old self.new m) }
+    {
+        self.make_next()
+    }
+
+    // Makes the next input, or the end, into items.
+    fn make_next(&mut self) -> Result<Made, OutOfMemory>
+        ensures made { IfOk result (IsMade self.old self.new) }
+        ensures unchanged { OnErr result (contents_in self.new ≡ contents_in self.old) }
+    {
+        if self.makes > self.rows.len() as u64 {
+            return Ok(Made::NoMoreRows);
+        }
+        let input = given_at(&self.rows, &self.sources, self.makes as usize);
+        let stamp = self.makes + 1;
+        make_with_room(&mut self.producers, &self.first, self.mark, stamp, input)?;
+        self.makes = stamp;
+        Ok(Made::Did)
+    }
+
+    /// Sends what is due of the first source that has something due. Idle exactly where none has. It may
+    /// always be called.
+    pub fn work(&mut self, out: &mut Outbox) -> Result<Worked, OutOfMemory>
+        ensures worked { IfOk result (λ w. w ≡ (working self.old).worked) }
+        ensures after { OnOk result (self.new ≡ (working self.old).after) }
+        ensures packets { OnOk result (out.new.packets ≡ out.old.packets ++ (working self.old).sent) }
+        // Where nothing is due, or memory is wanting, nothing changes.
+        ensures idle { IfOk result (λ w. w ≡ Idle → (self.new ≡ self.old) × (out.new ≡ out.old)) }
+        ensures unchanged { OnErr result ((self.new ≡ self.old) × (out.new ≡ out.old)) }
+        // It sends over links of its plan alone.
+        ensures few { length out.new.packets ≤ length out.old.packets + 1 }
+        ensures linked { (plan : PlanView) → IsOfPlan plan self.old
+            → GoOverLinks plan node.Ingress (appended out.old.packets out.new.packets) }
+        ensures of_plan { (plan : PlanView) → IsOfPlan plan self.old → IsOfPlan plan self.new }
+        // For the machine's laws, in each plan.
+        ensures course { IfOk result (λ w. (plan : PlanView) (rows : List Input) → IsPlan plan
+            → IsWorked plan rows self.old self.new (working self.old).sent w) }
+    {
+        self.send_first(out)
+    }
+
+    // Sends what is due of the first source that has something due.
+    fn send_first(&mut self, out: &mut Outbox) -> Result<Worked, OutOfMemory>
+        ensures worked { IfOk result (λ w. w ≡ (working self.old).worked) }
+        ensures after { OnOk result (self.new ≡ (working self.old).after) }
+        ensures packets { OnOk result (out.new.packets ≡ out.old.packets ++ (working self.old).sent) }
+        ensures idle { IfOk result (λ w. w ≡ Idle → (self.new ≡ self.old) × (out.new ≡ out.old)) }
+        ensures unchanged { OnErr result ((self.new ≡ self.old) × (out.new ≡ out.old)) }
+        ensures wide { AreWide self.old.first.parts self.old.producers }
+    {
+        let Some(source) = self.source_due() else {
+            return Ok(Worked::Idle);
+        };
+        out.reserve(1)?;
+        let Some((due, item)) = send_from(&mut self.producers, source) else {
+            unreachable!()
+        };
+        push_tuple(source, due, item, out);
+        Ok(Worked::Did)
+    }
+
+    // The first source that has something due.
+    fn source_due(&self) -> Option<u32>
+        ensures value { result ≡ source_due self.now }
+        ensures there { IfSome result (λ q. q < length self.now.producers) }
+    {
+        first_due(&self.producers)
+    }
+
+    /// How many sources there are.
+    pub fn sources(&self) -> u32
+        ensures { result ≡ length self.now.producers }
+    {
+        self.producers.len() as u32
+    }
+
+    // The number of partitions of the first stage.
+    pub(crate) fn parts(&self) -> u32
+        ensures { result ≡ self.now.first.parts }
+    {
+        self.first.parts
+    }
+
+    /// How many inputs, or the end, were made into items.
+    pub fn makes(&self) -> u64
+        ensures { result ≡ self.now.makes }
+    {
+        self.makes
+    }
+
+    /// The producer of a source.
+    pub fn producer(&self, source: u32) -> &Producer
+        requires { source < length self.now.producers }
+        ensures { result.now ≡ producer_at self.now source }
+    {
+        &self.producers[source as usize]
+    }
+}
+
+// The first producer that has something due.
+fn first_due(producers: &[Producer]) -> Option<u32>
+    requires { length producers.now < edge_limit }
+    ensures value { result ≡ first_below (λ q. is_some (due_of (producer_in producers.now q))) (length producers.now) }
+    ensures there { IfSome result (λ q. q < length producers.now) }
+{
+    for source in 0..producers.len() {
+        if has_due(producers, source) {
+            return Some(source as u32);
+        }
+    }
+    None
+}
+
+// Whether a source has something due.
+fn has_due(producers: &[Producer], source: usize) -> bool
+    requires { source < length producers.now }
+    ensures { result ≡ is_some (due_of (producer_in producers.now source)) }
+{
+    match producers[source].due() {
+        None => false,
+        Some(_due) => true,
+    }
+}
+
+// Gives what is due of a source with its item, and goes on to the next number.
+fn send_from(producers: &mut Vec<Producer>, source: u32) -> Option<(Due, Item)>
+    requires { source < length producers.old.items }
+    ensures none { IfNone result (due_of (producer_in producers.old.items source) ≡ None) }
+    ensures unchanged { IfNone result (producers.new.items ≡ producers.old.items) }
+    ensures due { IfSome result (λ s. due_of (producer_in producers.old.items source) ≡ Some s.0) }
+    ensures item { IfSome result (λ s. item_at (buffer_at (producer_in producers.old.items source) s.0.to) s.0.number ≡ Some s.1) }
+    ensures sent { IfSome result (λ s. producers.new.items
+        ≡ slice_set producers.old.items source (sent_on (producer_in producers.old.items source) s.0.to s.0.copy)) }
+{
+    producers[source as usize].send_due()
+}
+
+// Sends an item of a source to the replica that it is due to.
+fn push_tuple(source: u32, due: Due, item: Item, out: &mut Outbox)
+    requires { 1 ≤ out.old.spare }
+    ensures { out.new.packets ≡ out.old.packets ++ tuple_of source due item ∷ [] }
+{
+    let to = NodeId::Replica {
+        stage: 1,
+        part: due.to,
+        which: which_at(due.copy),
+    };
+    let edge = EdgeId {
+        stage: 0,
+        from: source,
+        to: due.to,
+    };
+    let body = Body::Tuple {
+        edge,
+        number: due.number,
+        item,
+    };
+    out.push(to, body);
+}

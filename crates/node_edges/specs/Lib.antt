@@ -1,0 +1,4 @@
+pub mod ConsumerLaws
+pub mod InEdges
+pub mod OutEdges
+pub mod ProducerLaws
