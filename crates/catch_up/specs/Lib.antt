@@ -1,0 +1,4 @@
+pub mod Caught
+pub mod Fold
+pub mod NewcomerView
+pub mod Rebuild

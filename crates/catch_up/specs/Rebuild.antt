@@ -1,0 +1,137 @@
+-- What the entries of a move make, one after another; and the fold-in of the tuples that are held.
+use Rattle.std.specs.Prelude.{ℕ, ◌+◌, ◌-◌, ◌<◌, List, [], ◌∷◌, ◌++◌, fold, length, min, replicate, slice_index_or, slice_set, zero, suc}
+use Rattle.tuple_edge.specs.Limits.{number_limit}
+use Rattle.tuple_edge.specs.declared.item.Item.{Item}
+use Rattle.tuple_edge.specs.declared.packet.Entry.{Entry}
+use Rattle.tuple_edge.specs.declared.packet.Entry.TheVariants as entry
+use Rattle.ack_buffer.specs.Buffer.{BufferView, produced_on, starting_at}
+use Rattle.stream_ops.specs.State.{IsNextEntry}
+use Rattle.stream_ops.specs.declared.spec.OpSpec.{OpSpec}
+use Rattle.merge_order.specs.MergeView.{MergeView, after_offer, starting}
+
+-- ---- the merge
+
+-- the marks of the in-edges, each less by the items that wait: those are offered again
+abbrev pub marks_step : List ℕ → Entry → List ℕ
+marks_step marks (entry.Mark q upto) = slice_set marks q upto
+marks_step marks (entry.Count count) = marks
+marks_step marks (entry.Head q number item) = slice_set marks q (slice_index_or marks q 0 - 1)
+marks_step marks (entry.Low t low produced) = marks
+marks_step marks (entry.Kept t number item) = marks
+marks_step marks (entry.Keyed k slot a b c) = marks
+
+abbrev pub marks_in : ℕ → List Entry → List ℕ
+marks_in edges es = fold marks_step (replicate edges 0) es
+
+-- how many items were merged
+abbrev pub count_step : ℕ → Entry → ℕ
+count_step n (entry.Mark q upto) = n
+count_step n (entry.Count count) = count
+count_step n (entry.Head q number item) = n
+count_step n (entry.Low t low produced) = n
+count_step n (entry.Kept t number item) = n
+count_step n (entry.Keyed k slot a b c) = n
+
+abbrev pub count_in : List Entry → ℕ
+count_in es = fold count_step 0 es
+
+-- items that wait are offered
+abbrev pub heads_step : MergeView → Entry → MergeView
+heads_step m (entry.Mark q upto) = m
+heads_step m (entry.Count count) = m
+heads_step m (entry.Head q number item) = after_offer m q number item
+heads_step m (entry.Low t low produced) = m
+heads_step m (entry.Kept t number item) = m
+heads_step m (entry.Keyed k slot a b c) = m
+
+abbrev pub merge_in : ℕ → List Entry → MergeView
+merge_in edges es = fold heads_step (starting (marks_in edges es) (count_in es)) es
+
+-- the entry's in-edge is there
+abbrev pub IsInside : ℕ → Entry → Type 0
+IsInside edges (entry.Mark q upto) = q < edges
+IsInside edges (entry.Count count) = Unit {0}
+IsInside edges (entry.Head q number item) = q < edges
+IsInside edges (entry.Low t low produced) = Unit {0}
+IsInside edges (entry.Kept t number item) = Unit {0}
+IsInside edges (entry.Keyed k slot a b c) = Unit {0}
+
+abbrev pub AllInside : ℕ → List Entry → Type 0
+AllInside edges [] = Unit {0}
+AllInside edges (e ∷ es) = IsInside edges e × AllInside edges es
+
+-- ---- the buffers, their room left aside
+
+abbrev pub without_spare : BufferView → BufferView
+without_spare b = record b { spare = 0 }
+
+abbrev pub buffer_of : List BufferView → ℕ → BufferView
+buffer_of bs t = slice_index_or bs t (starting_at 0 0)
+
+-- a buffer begins with low as moved and nothing above it produced, and produces again what is kept
+abbrev pub buffers_step : List BufferView → Entry → List BufferView
+buffers_step bs (entry.Mark q upto) = bs
+buffers_step bs (entry.Count count) = bs
+buffers_step bs (entry.Head q number item) = bs
+buffers_step bs (entry.Low t low produced) = bs ++ starting_at low (min low produced) ∷ []
+buffers_step bs (entry.Kept t number item) = slice_set bs t (without_spare (produced_on (buffer_of bs t) item))
+buffers_step bs (entry.Keyed k slot a b c) = bs
+
+abbrev pub buffers_in : List Entry → List BufferView
+buffers_in es = fold buffers_step [] es
+
+-- the entry's out-edge is there, and its numbers are within their limit
+abbrev pub Fits : List BufferView → Entry → Type 0
+Fits bs (entry.Mark q upto) = Unit {0}
+Fits bs (entry.Count count) = Unit {0}
+Fits bs (entry.Head q number item) = Unit {0}
+Fits bs (entry.Low t low produced) = low < number_limit
+Fits bs (entry.Kept t number item) = (t < length bs) × ((buffer_of bs t).produced + 1 < number_limit)
+Fits bs (entry.Keyed k slot a b c) = Unit {0}
+
+abbrev pub AllFit : List BufferView → List Entry → Type 0
+AllFit bs [] = Unit {0}
+AllFit bs (e ∷ es) = Fits bs e × AllFit (buffers_step bs e) es
+
+-- ---- the operator's state
+
+abbrev pub keyed_step : List Entry → Entry → List Entry
+keyed_step es (entry.Mark q upto) = es
+keyed_step es (entry.Count count) = es
+keyed_step es (entry.Head q number item) = es
+keyed_step es (entry.Low t low produced) = es
+keyed_step es (entry.Kept t number item) = es
+keyed_step es (entry.Keyed k slot a b c) = es ++ entry.Keyed k slot a b c ∷ []
+
+abbrev pub keyed_in : List Entry → List Entry
+keyed_in es = fold keyed_step [] es
+
+-- the entry, where it is the operator's, is the next one of a state of these settings
+abbrev pub IsNextOf : OpSpec → List Entry → Entry → Type 0
+IsNextOf spec es (entry.Mark q upto) = Unit {0}
+IsNextOf spec es (entry.Count count) = Unit {0}
+IsNextOf spec es (entry.Head q number item) = Unit {0}
+IsNextOf spec es (entry.Low t low produced) = Unit {0}
+IsNextOf spec es (entry.Kept t number item) = Unit {0}
+IsNextOf spec es (entry.Keyed k slot a b c) = IsNextEntry spec es (entry.Keyed k slot a b c)
+
+abbrev pub AllNext : OpSpec → List Entry → List Entry → Type 0
+AllNext spec es [] = Unit {0}
+AllNext spec es (f ∷ fs) = IsNextOf spec es f × AllNext spec (keyed_step es f) fs
+
+-- ---- the fold-in
+
+-- items of an in-edge are offered by rising number: those that follow the mark without a gap are taken, and the others given up
+abbrev pub offered : ℕ → MergeView → ℕ × Item → MergeView
+offered q m e = after_offer m q e.0 e.1
+
+abbrev pub all_offered : ℕ → MergeView → List (ℕ × Item) → MergeView
+all_offered q m held = fold (offered q) m held
+
+-- the same for the first n in-edges
+abbrev pub folded_below : ℕ → MergeView → List (List (ℕ × Item)) → MergeView
+folded_below zero m held = m
+folded_below (suc n) m held = all_offered n (folded_below n m held) (slice_index_or held n [])
+
+abbrev pub folded : MergeView → List (List (ℕ × Item)) → MergeView
+folded m held = folded_below (length held) m held

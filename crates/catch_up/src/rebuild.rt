@@ -1,0 +1,197 @@
+// What the entries of a move make: the merge, the buffers and the operator's state.
+ghost use Rattle.ack_buffer.specs.Buffer.{BufferView, produced_on, starting_at};
+ghost use Rattle.catch_up.specs.Fold.{AllRising, IsRising};
+ghost use Rattle.catch_up.specs.Rebuild.{AllFit, AllInside, AllNext, Fits, IsInside, IsNextOf, all_offered, buffers_in, buffers_step, count_in, count_step, folded_below, heads_step, keyed_in, keyed_step, marks_in, marks_step, merge_in, without_spare};
+ghost use Rattle.merge_order.specs.MergeView.{MergeView};
+ghost use Rattle.stream_ops.specs.Spec.{IsSpec};
+ghost use Rattle.stream_ops.specs.State.{rebuilt};
+ghost use Rattle.tuple_edge.specs.Limits.{number_limit};
+ghost use Rattle.std.specs.Prelude.{◌≡◌, ◌≤◌, ◌<◌, ◌+◌, [], None, IfOk, OnOk, fold, length, map, replicate};
+
+use crate::held::Held;
+use ack_buffer::AckBuffer;
+use merge_order::Merge;
+use std::alloc::Global;
+use stream_ops::{OpSpec, OpState};
+use tuple_edge::{Entry, Item, OutOfMemory};
+
+// Notes the mark of an in-edge, or that one item of it waits.
+fn note_mark(marks: &mut [u64], entry: &Entry)
+    requires { IsInside (length marks.old) entry.now }
+    ensures { marks.new ≡ marks_step marks.old entry.now }
+{
+    match *entry {
+        Entry::Mark { edge, upto } => marks[edge as usize] = upto,
+        Entry::Head { edge, .. } => {
+            let at = edge as usize;
+            marks[at] = marks[at].saturating_sub(1);
+        }
+        _ => {}
+    }
+}
+
+// The marks of the in-edges, less the items that wait.
+fn marks_in(alloc: Global, edges: u32, entries: &[Entry]) -> Result<Vec<u64>, OutOfMemory>
+    requires { AllInside edges entries.now }
+    ensures marks { IfOk result (λ marks. marks.items ≡ marks_in edges entries.now) }
+    ensures edges { IfOk result (λ marks. length marks.items ≡ edges) }
+{
+    let mut marks = vec![in alloc; 0; edges as usize]?;
+    for entry in entries {
+        note_mark(&mut marks, entry);
+    }
+    Ok(marks)
+}
+
+// The count that one entry tells.
+fn noted_count(count: u64, entry: &Entry) -> u64
+    ensures { result ≡ count_step count entry.now }
+{
+    match *entry {
+        Entry::Count { count } => count,
+        _ => count,
+    }
+}
+
+// How many items were merged.
+fn count_in(entries: &[Entry]) -> u64
+    ensures { result ≡ count_in entries.now }
+{
+    let mut count = 0;
+    for entry in entries {
+        count = noted_count(count, entry);
+    }
+    count
+}
+
+// Offers an item that waits.
+fn offer_head(merge: &mut Merge, entry: &Entry) -> Result<(), OutOfMemory>
+    requires { IsInside (length merge.old.marks) entry.now }
+    ensures offers { OnOk result (merge.new ≡ heads_step merge.old entry.now) }
+    ensures edges { OnOk result (length merge.new.marks ≡ length merge.old.marks) }
+{
+    if let Entry::Head { edge, number, item } = *entry {
+        let _offer = merge.offer(edge, number, item)?;
+    }
+    Ok(())
+}
+
+// Offers the items that wait.
+fn offer_heads(merge: &mut Merge, entries: &[Entry]) -> Result<(), OutOfMemory>
+    requires { AllInside (length merge.old.marks) entries.now }
+    ensures offers { OnOk result (merge.new ≡ fold heads_step merge.old entries.now) }
+    ensures edges { OnOk result (length merge.new.marks ≡ length merge.old.marks) }
+{
+    for entry in entries {
+        offer_head(merge, entry)?;
+    }
+    Ok(())
+}
+
+/// The merge that entries tell of.
+pub(crate) fn merge_of(alloc: Global, edges: u32, entries: &[Entry]) -> Result<Merge, OutOfMemory>
+    requires some { 1 ≤ edges }
+    requires inside { AllInside edges entries.now }
+    ensures merge { IfOk result (λ merge. merge ≡ merge_in edges entries.now) }
+    ensures edges { IfOk result (λ merge. length merge.marks ≡ edges) }
+{
+    let marks = marks_in(alloc, edges, entries)?;
+    let mut merge = Merge::starting(alloc, &marks, count_in(entries))?;
+    offer_heads(&mut merge, entries)?;
+    Ok(merge)
+}
+
+// Produces an item again.
+fn produce_again(buffer: &mut AckBuffer, item: Item) -> Result<(), OutOfMemory>
+    requires { buffer.old.produced + 1 < number_limit }
+    ensures { OnOk result (without_spare buffer.new ≡ without_spare (produced_on buffer.old item)) }
+{
+    buffer.reserve(1)?;
+    let _number = buffer.produce(item);
+    Ok(())
+}
+
+// Begins a buffer, or produces an item of one again.
+fn add_to_buffers(
+    alloc: Global,
+    buffers: &mut Vec<AckBuffer>,
+    entry: &Entry,
+) -> Result<(), OutOfMemory>
+    requires { Fits (map without_spare buffers.old.items) entry.now }
+    ensures { OnOk result (map without_spare buffers.new.items ≡ buffers_step (map without_spare buffers.old.items) entry.now) }
+{
+    match *entry {
+        Entry::Low { upto, produced, .. } => {
+            buffers.push(AckBuffer::starting(alloc, upto, produced.min(upto)))?;
+            Ok(())
+        }
+        Entry::Kept { edge, item, .. } => { produce_again(&mut buffers[edge as usize], item) }
+        _ => Ok(()),
+    }
+}
+
+/// The buffers that entries tell of.
+pub(crate) fn buffers_of(alloc: Global, entries: &[Entry]) -> Result<Vec<AckBuffer>, OutOfMemory>
+    requires { AllFit [] entries.now }
+    ensures { IfOk result (λ buffers. map without_spare buffers.items ≡ buffers_in entries.now) }
+{
+    let mut buffers = Vec::new(alloc);
+    for entry in entries {
+        add_to_buffers(alloc, &mut buffers, entry)?;
+    }
+    Ok(buffers)
+}
+
+// Puts an entry of the operator back.
+fn put_back(state: &mut OpState, entry: &Entry) -> Result<(), OutOfMemory>
+    requires unwatched { state.old.old ≡ None }
+    requires next { IsNextOf state.old.spec state.old.entries entry.now }
+    ensures { OnOk result (state.new ≡ rebuilt state.old.spec (keyed_step state.old.entries entry.now)) }
+{
+    match *entry {
+        Entry::Keyed { .. } => state.put_entry(*entry),
+        _ => Ok(()),
+    }
+}
+
+/// The operator's state that entries tell of.
+pub(crate) fn state_of(
+    alloc: Global,
+    spec: OpSpec,
+    entries: &[Entry],
+) -> Result<OpState, OutOfMemory>
+    requires spec { IsSpec spec }
+    requires next { AllNext spec [] entries.now }
+    ensures { IfOk result (λ state. state ≡ rebuilt spec (keyed_in entries.now)) }
+{
+    let mut state = OpState::new(alloc, spec);
+    for entry in entries {
+        put_back(&mut state, entry)?;
+    }
+    Ok(state)
+}
+
+// Offers what is held of an in-edge.
+fn fold_edge_in(merge: &mut Merge, edge: u32, held: &Held) -> Result<(), OutOfMemory>
+    requires { edge < length merge.old.marks }
+    ensures offers { OnOk result (merge.new ≡ all_offered edge merge.old held.now) }
+    ensures rising { OnOk result (IsRising held.now) }
+    ensures edges { OnOk result (length merge.new.marks ≡ length merge.old.marks) }
+{
+    for (number, item) in held.iter() {
+        let _offer = merge.offer(edge, *number, *item)?;
+    }
+    Ok(())
+}
+
+/// Folds in what is held: what follows the marks without a gap is taken.
+pub(crate) fn fold_in(merge: &mut Merge, held: &[Held]) -> Result<(), OutOfMemory>
+    requires { length held.now ≡ length merge.old.marks }
+    ensures folds { OnOk result (merge.new ≡ folded_below (length held.now) merge.old held.now) }
+    ensures rising { OnOk result (AllRising held.now (length held.now)) }
+{
+    for edge in 0..merge.edges() {
+        fold_edge_in(merge, edge, &held[edge as usize])?;
+    }
+    Ok(())
+}

@@ -1,0 +1,11 @@
+use Rattle.std.proofs.Common.{◌≡◌, ◌++◌}
+use Rattle.tuple_edge.specs.Entries.{each_below}
+use Rattle.state_mover.specs.MoveList.{kept_entries}
+use Rattle.state_mover.specs.Pieces.{FilledBelow}
+use Rattle.state_mover.proofs.list.add_kept.Given as goal
+
+abbrev pub invariant-loop-edge : goal.invariant-loop-edge
+invariant-loop-edge l = record {
+  entries : l.out.items ≡ l.fn.out.items ++ each_below l.edge (kept_entries l.producer);
+  filled : FilledBelow l.producer l.edge;
+}

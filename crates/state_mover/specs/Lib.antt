@@ -1,0 +1,3 @@
+pub mod MoveList
+pub mod MoverView
+pub mod Pieces
