@@ -5,6 +5,7 @@
 use flux_top::{StdFiles, StdSink, flux};
 use std::alloc::{AllocError, Global};
 use std::env;
+use std::io::{self, ErrorKind};
 use std::process::ExitCode;
 
 /// The status where no memory was to be had for the words.
@@ -25,10 +26,24 @@ fn main(rt: HostRuntime) -> ExitCode {
 // The words after the program's name. Words that are no text have no form, so they count as none.
 fn words(rt: &HostRuntime, alloc: Global) -> Result<Vec<String>, AllocError> {
     let mut words = Vec::new(alloc);
-    if let Ok(args) = env::args(rt) {
-        for word in args.skip(1) {
-            words.push(word)?;
+    match env::args(rt) {
+        Ok(args) => {
+            for word in args.skip(1) {
+                words.push(word)?;
+            }
+            Ok(words)
+        }
+        Err(error) => {
+            if is_no_text(&error) {
+                Ok(words)
+            } else {
+                Err(AllocError)
+            }
         }
     }
-    Ok(words)
+}
+
+// Whether words were refused since they are no text. No other error of theirs but want of memory is known.
+fn is_no_text(error: &io::Error) -> bool {
+    error.kind() == ErrorKind::InvalidData
 }

@@ -11,6 +11,34 @@ pub(crate) struct Seen {
     pub(crate) err: MemSink,
 }
 
+/// Calls `flux` with the words of a line over the files `p.txt`, `t.csv` and `c.csv`.
+pub(crate) fn call_with_cash(
+    alloc: Global,
+    line: &str,
+    plan: &str,
+    trades: &str,
+    cash: &[u8],
+) -> Result<Seen, Fail> {
+    let mut files = MemFiles::new(alloc, Vec::new(alloc));
+    files.put_file("p.txt", plan.as_bytes())?;
+    files.put_file("t.csv", trades.as_bytes())?;
+    files.put_file("c.csv", cash)?;
+    let mut out = MemSink::new(alloc, Vec::new(alloc), usize::MAX, 10_000)?;
+    let mut err = MemSink::new(alloc, Vec::new(alloc), usize::MAX, 1_000)?;
+    let status = flux(alloc, &words(alloc, line)?, &mut files, &mut out, &mut err);
+    Ok(Seen { status, out, err })
+}
+
+// The words of a line; `''` is an empty one.
+fn words(alloc: Global, line: &str) -> Result<Vec<String>, Fail> {
+    let mut words = Vec::new(alloc);
+    for word in line.split_whitespace() {
+        let word = if word == "''" { "" } else { word };
+        words.push(String::from_str(alloc, word)?)?;
+    }
+    Ok(words)
+}
+
 /// Calls `flux` with the words of a line over the files `p.txt` and `t.csv`. The calls of files whose
 /// numbers are in `fails` fail.
 pub(crate) fn call(
@@ -38,10 +66,6 @@ pub(crate) fn call_into(
     let mut files = MemFiles::new(alloc, fails.to_vec(alloc)?);
     files.put_file("p.txt", plan.as_bytes())?;
     files.put_file("t.csv", trades)?;
-    let mut words = Vec::new(alloc);
-    for word in line.split_whitespace() {
-        words.push(String::from_str(alloc, word)?)?;
-    }
-    let status = flux(alloc, &words, &mut files, &mut out, &mut err);
+    let status = flux(alloc, &words(alloc, line)?, &mut files, &mut out, &mut err);
     Ok(Seen { status, out, err })
 }

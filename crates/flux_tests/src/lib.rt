@@ -3,6 +3,8 @@
 #![tactic(auto)]
 
 #[cfg(test)]
+mod cash;
+#[cfg(test)]
 mod faults;
 #[cfg(test)]
 mod fixture;

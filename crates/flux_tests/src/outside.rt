@@ -1,7 +1,10 @@
 // The files and sinks themselves: in memory, and the system's.
 use flux_top::{FileStop, Files, Got, MemFiles, Sink, StdFiles, StdSink};
-use std::alloc::Global;
+use std::alloc::{AllocError, Global};
+use std::io::{self, PipeWriter, Write};
+use std::os::fd::AsRawFd;
 use std::test::Fail;
+use std::thread;
 
 // Saves a file, and reads it whole, cut short and under another name.
 fn saves_and_reads<F: Files>(alloc: Global, files: &mut F) -> Result<[bool; 5], Fail> {
@@ -29,6 +32,61 @@ fn files_hold_what_was_saved(rt: HostRuntime) -> Result<(), Fail> {
     assert_eq!(rt; files.file("kept.txt"), Some(b"five\n".as_slice()));
     let mut files = StdFiles::new(&rt, alloc);
     assert_eq!(rt; saves_and_reads(alloc, &mut files)?, [true; 5]);
+    Ok(())
+}
+
+// A file of some hundred thousand bytes is read whole, however many buffers that takes, and to its last
+// byte where that is the most that is allowed.
+#[test]
+fn a_large_file_is_read_whole(rt: HostRuntime) -> Result<(), Fail> {
+    let alloc = rt.alloc();
+    let mut bytes = Vec::with_capacity(alloc, 300_001)?;
+    for place in 0..300_001u32 {
+        bytes.push((place % 251) as u8)?;
+    }
+    let mut files = StdFiles::new(&rt, alloc);
+    assert_eq!(rt; files.save("large.bin", &bytes), Ok(()));
+    let mut whole = Vec::new(alloc);
+    assert_eq!(rt;
+        files.read("large.bin", 300_001, &mut whole),
+        Ok(Got::Whole)
+    );
+    assert!(rt; whole.as_slice() == bytes.as_slice());
+    let mut cut = Vec::new(alloc);
+    assert_eq!(rt;
+        files.read("large.bin", 300_000, &mut cut),
+        Ok(Got::TooLong { seen: 300_001 })
+    );
+    Ok(())
+}
+
+// Writes 280,000 bytes in small pieces, and then closes the pipe.
+fn write_pieces(mut writer: PipeWriter) -> bool {
+    let piece = [b'x'; 700];
+    for _piece in 0..400 {
+        if writer.write_all(&piece).is_err() {
+            return false;
+        }
+    }
+    true
+}
+
+// A pipe is read to its end, however small the pieces are that come through it.
+#[test]
+fn a_pipe_is_read_whole(rt: HostRuntime) -> Result<(), Fail> {
+    let alloc = rt.alloc();
+    let (reader, writer) = io::pipe(&rt)?;
+    let descriptor = reader.as_raw_fd();
+    let path = format!(in alloc; "/proc/self/fd/{descriptor}")?;
+    let child = thread::spawn(&rt, move || write_pieces(writer)).map_err(AllocError::from)?;
+    let mut files = StdFiles::new(&rt, alloc);
+    let mut whole = Vec::new(alloc);
+    let got = files.read(path.as_str(), 1_000_000, &mut whole);
+    // The reading end closes before the thread is joined, so that it never waits for room.
+    drop(reader);
+    assert!(rt; child.join(&rt));
+    assert_eq!(rt; got, Ok(Got::Whole));
+    assert_eq!(rt; whole.len(), 280_000);
     Ok(())
 }
 

@@ -5,7 +5,7 @@ use std::test::Fail;
 /// A plan, the trades below their header, and the rows.
 type Case = (&'static str, &'static str, &'static str);
 
-const CASES: [Case; 14] = [
+const CASES: [Case; 16] = [
     (
         "flux 1\nstage 1 parts 1 by account total account\n",
         "",
@@ -30,6 +30,17 @@ const CASES: [Case; 14] = [
         "flux 1\nstage 1 parts 1 by symbol total both\n",
         "1,7,A,B,1,1\n2,7,B,B,1,1\n3,7,A,B,1,1\n",
         "1,7,A,1,100\n2,7,B,1,100\n3,7,A,2,200\nrows,3\n",
+    ),
+    // A plan with a second source, from which no row comes.
+    (
+        "flux 2\nstage 1 parts 1 by account total account\n",
+        "34200,7,A,B,1,1\n34210,7,A,B,1,1\n",
+        "34200,7,-,1,100\n34210,7,-,2,200\nrows,2\n",
+    ),
+    (
+        "flux 2\nmark 1\nstage 1 parts 2 by account window account 60\nstage 2 parts 1 by account keep qty != 0\n",
+        "34200,1,A,B,1,1\n34201,4,A,B,2,1\n34202,2,A,B,3,1\n",
+        "34200,2,-,3,300\n34200,4,-,2,200\n34200,1,-,1,100\nrows,3\n",
     ),
     // Totals of totals, in two partitions and then in one.
     (

@@ -1,5 +1,5 @@
 -- Files by their names, as a map and as a list.
-use Rattle.std.proofs.Common.{ℕ, ◌≡◌, ◌∙◌, Bool, true, false, cond, List, [], ◌∷◌, map, refl, ap, Some, None, Option, option_map, string_bytes}
+use Rattle.std.proofs.Common.{ℕ, ◌≡◌, ◌∙◌, Bool, true, false, cond, List, [], ◌∷◌, map, refl, ap, Some, Option, option_map, string_bytes}
 use Rattle.std.specs.BTreeMap.{BTreeMap, get_by_text}
 use Rattle.std.specs.Map.{lookup}
 use Rattle.std.specs.Ordering.{is_eq, nat_cmp}

@@ -1,7 +1,12 @@
-pub mod Calls
 pub mod Completeness
+pub mod Courses
+pub mod EvalSteps
 pub mod FileNames
-pub mod Parts
+pub mod MergedInputs
+pub mod OptionWords
 pub mod ReadLaws
 pub mod Refusals
+pub mod Requests
 pub mod Sinks
+pub mod StageRows
+pub mod Taking

@@ -1,127 +1,102 @@
--- Why inputs are refused, and what a request comes to then.
-use Rattle.std.proofs.Common.{ℕ, ◌≡◌, ◌<◌, ◌∙◌, true, List, [], ◌∷◌, length, refl, sym, ap, Option, Some, Ok, Err, Result, arith}
-use Rattle.std.specs.Prelude.{◌≢◌}
+-- Why inputs are refused.
+use Rattle.std.proofs.Common.{ℕ, ◌≡◌, ◌<◌, ◌∙◌, true, List, [], ◌∷◌, length, refl, sym, ap, Option, Some, Err, Result, arith}
+use Rattle.std.specs.Prelude.{◌≢◌, nat_lt}
 use Rattle.std.proofs.lemmas.Bool.Decides.{nat_tests}
-use Rattle.std.specs.Prelude.{nat_lt}
-use Rattle.std.specs.String.{string_bytes}
 use Rattle.plan_reader.specs.Plan.{plan_of}
+use Rattle.plan_reader.specs.PlanView.{PlanView}
 use Rattle.plan_reader.specs.Messages.{plan_fault}
 use Rattle.plan_reader.specs.Reading.{Fails}
 use Rattle.plan_reader.specs.declared.error.PlanError.{PlanError}
 use Rattle.plan_reader.specs.declared.error.PlanError.TheVariants as plan_error
-use Rattle.ingress_egress.specs.Messages.{trades_fault}
-use Rattle.ingress_egress.specs.Trades.{IsRefusalOf, trades_of}
-use Rattle.ingress_egress.specs.declared.error.TradeError.{TradeError}
-use Rattle.ingress_egress.specs.declared.error.TradeError.TheVariants as trade_error
-use Rattle.flux_top.specs.Clauses.{Gives, IsRefusedBy, StopsAt, StopsOf, StopsOn, StopsTo, Told}
-use Rattle.ingress_egress.specs.Text.{text}
-use Rattle.ingress_egress.specs.TradesView.{TradesView}
-use Rattle.plan_reader.specs.PlanView.{PlanView}
-use Rattle.flux_top.specs.Outcome.{ComesOf, Reading, Writes, eval_plan, line_of, plan_from, plan_or_line, trades_from, trades_or_line, ◌>>=◌}
-use Rattle.pair_machine.specs.Output.{output}
-use Rattle.flux_top.specs.Words.{Eval, Request, form}
-use Rattle.flux_top.specs.Outside.{IsRead, Names}
-use Rattle.flux_top.specs.declared.outside.Got.TheVariants as got
+use Rattle.tuple_edge.specs.declared.row.Row.{Row}
+use Rattle.trade_text.specs.Cash.{cash_of}
+use Rattle.trade_text.specs.Files.{File, file_of}
+use Rattle.trade_text.specs.Kinds.{Kind, cash_kind, trades_kind}
+use Rattle.trade_text.specs.Limits.{max_input_bytes}
+use Rattle.trade_text.specs.Messages.{fault_of}
+use Rattle.trade_text.specs.Refusals.{IsRefusalOf}
+use Rattle.trade_text.specs.Results.{Read}
+use Rattle.trade_text.specs.Trades.{trades_of}
+use Rattle.trade_text.specs.declared.error.CashField.{CashField}
+use Rattle.trade_text.specs.declared.error.Field.{Field}
+use Rattle.trade_text.specs.declared.error.ReadError.{ReadError}
+use Rattle.trade_text.specs.declared.error.ReadError.TheVariants as read_error
+use Rattle.flux_top.specs.Course.{Course, Reading}
+use Rattle.flux_top.specs.Lines.{line_of}
+use Rattle.flux_top.specs.Outcome.{cash_from, plan_from, plan_or_line, rows_or_line, trades_from}
+use Rattle.flux_top.specs.Steps.{IsRefusedBy, StopsOn}
 use Rattle.flux_top.specs.declared.stop.Stop.{Stop}
 use Rattle.flux_top.specs.declared.stop.Stop.TheVariants as stop
 
--- a file that is too long is refused by the line of its reading
-pub stops_long : {A : Type 0} (told : Option Names) (name : List ℕ) (reading : List ℕ → Reading A) (line : List ℕ) (max seen : ℕ) (old new : List ℕ) (s : Stop) (P : Type 0)
-    → ((bytes : List ℕ) → max < length bytes → reading bytes ≡ Err line) → IsRead told name max (got.TooLong seen) old new → IsRefusedBy s line P → StopsAt told name reading s
-stops_long told name reading line max seen old new stop.Usage P long read refused = refused
-stops_long told name reading line max seen old new (stop.Refused said) P long read refused =
-    record { bytes = read.bytes; held = read.held; line_is = long read.bytes read.read.0 ∙ ap Err (sym refused.0) }
-stops_long told name reading line max seen old new (stop.CannotRead said) P long read refused = absurd refused
-stops_long told name reading line max seen old new stop.CannotWrite P long read refused = refused
-stops_long told name reading line max seen old new stop.OutOfMemory P long read refused = tt
-
-pub long_plan : (name : List ℕ) (seen : ℕ) (bytes : List ℕ) → 65536 < length bytes → plan_from name bytes ≡ Err (line_of name (plan_fault (plan_error.TooLong seen)))
-unfolding plan_of
-long_plan name seen bytes long = let e : nat_lt 65536 (length bytes) ≡ true = grind (arith, nat_tests) in rw e refl
-
-pub long_trades : (name : List ℕ) (seen : ℕ) (bytes : List ℕ) → 16777216 < length bytes → trades_from name bytes ≡ Err (line_of name (trades_fault (trade_error.TooLong seen)))
-unfolding trades_of
-long_trades name seen bytes long = let e : nat_lt 16777216 (length bytes) ≡ true = grind (arith, nat_tests) in rw e refl
-
--- ---- readings
-
 -- a reading that fails by this fault is refused by its line
-refused : {A : Type 0} (reading : Reading A) (line : List ℕ) (s : Stop) (P : Type 0) → (P → reading ≡ Err line) → IsRefusedBy s line P → StopsOn reading s
+refused : {A : Type 0} (reading : Reading A) (line : List ℕ) (why : Stop) (P : Type 0) → (P → reading ≡ Err line) → IsRefusedBy why line P → StopsOn reading why
 refused reading line stop.Usage P fails by = by
 refused reading line (stop.Refused said) P fails by = fails by.1 ∙ ap Err (sym by.0)
 refused reading line (stop.CannotRead said) P fails by = by
 refused reading line stop.CannotWrite P fails by = by
 refused reading line stop.OutOfMemory P fails by = tt
 
+-- ---- plans
+
 plan_fails : (e : PlanError) (read : Result PlanView PlanError) → Fails e read → e ≢ plan_error.OutOfMemory → read ≡ Err e
-plan_fails (plan_error.Grammar line) read fails known = fails
-plan_fails (plan_error.UnknownWord line) read fails known = fails
-plan_fails (plan_error.Number line) read fails known = fails
-plan_fails (plan_error.Range line) read fails known = fails
-plan_fails plan_error.NoStage read fails known = fails
-plan_fails (plan_error.TooMany line) read fails known = fails
-plan_fails (plan_error.TooLong bytes) read fails known = fails
-plan_fails (plan_error.Crowded edges mark) read fails known = fails
 plan_fails plan_error.OutOfMemory read fails known = absurd (known refl)
+plan_fails _ read fails known = fails
 
-pub plan_refused : (name bytes : List ℕ) (e : PlanError) (s : Stop) → Fails e (plan_of bytes) → IsRefusedBy s (line_of name (plan_fault e)) (e ≢ plan_error.OutOfMemory) → StopsOn (plan_from name bytes) s
-plan_refused name bytes e s fails by = refused (plan_from name bytes) (line_of name (plan_fault e)) s (e ≢ plan_error.OutOfMemory) (λ known. ap (plan_or_line name) (plan_fails e (plan_of bytes) fails known)) by
+pub plan_refused : (name bytes : List ℕ) (e : PlanError) (why : Stop) → Fails e (plan_of bytes) → IsRefusedBy why (line_of name (plan_fault e)) (e ≢ plan_error.OutOfMemory)
+    → StopsOn (plan_from name bytes) why
+plan_refused name bytes e why fails by =
+    refused (plan_from name bytes) (line_of name (plan_fault e)) why (e ≢ plan_error.OutOfMemory) (λ known. ap (plan_or_line name) (plan_fails e (plan_of bytes) fails known)) by
 
-trades_fail : (e : TradeError) (read : Result TradesView TradeError) → IsRefusalOf e read → e ≢ trade_error.OutOfMemory → read ≡ Err e
-trades_fail trade_error.Header read fails known = fails
-trades_fail (trade_error.Row rec) read fails known = fails
-trades_fail (trade_error.Field rec field) read fails known = fails
-trades_fail (trade_error.Range rec field) read fails known = fails
-trades_fail trade_error.TooMany read fails known = fails
-trades_fail (trade_error.TooLong bytes) read fails known = fails
-trades_fail trade_error.OutOfMemory read fails known = absurd (known refl)
+plan_too_long : (bytes : List ℕ) → 65536 < length bytes → plan_of bytes ≡ Err (plan_error.TooLong (length bytes))
+unfolding plan_of
+plan_too_long bytes long = let e : nat_lt 65536 (length bytes) ≡ true = grind (arith, nat_tests) in rw e refl
 
-pub trades_refused : (name bytes : List ℕ) (e : TradeError) (s : Stop) → IsRefusalOf e (trades_of bytes) → IsRefusedBy s (line_of name (trades_fault e)) (e ≢ trade_error.OutOfMemory) → StopsOn (trades_from name bytes) s
-trades_refused name bytes e s fails by = refused (trades_from name bytes) (line_of name (trades_fault e)) s (e ≢ trade_error.OutOfMemory) (λ known. ap (trades_or_line name) (trades_fail e (trades_of bytes) fails known)) by
+pub long_plan : (name bytes : List ℕ) (seen : ℕ) (why : Stop) → 65536 < length bytes
+    → IsRefusedBy why (line_of name (plan_fault (plan_error.TooLong seen))) (plan_error.TooLong seen ≢ plan_error.OutOfMemory) → StopsOn (plan_from name bytes) why
+long_plan name bytes seen why long by =
+    refused (plan_from name bytes) (line_of name (plan_fault (plan_error.TooLong seen))) why (plan_error.TooLong seen ≢ plan_error.OutOfMemory)
+    (λ known. ap (plan_or_line name) (plan_too_long bytes long)) by
 
--- ---- `eval`, one input after the other
+-- ---- files of rows
 
--- a stop at the plan is one of the request
-pub stops_at_plan : (told : Option Names) (p t : List ℕ) (s : Stop) → StopsAt told p (plan_from p) s → StopsOf told (Eval p t) s
-stops_at_plan told p t stop.Usage why = why
-stops_at_plan told p t (stop.Refused line) why = record { inputs = why.bytes ∷ []; held = (why.held, tt); comes = ap (λ r. r >>= λ plan. eval_plan t plan []) why.line_is }
-stops_at_plan told p t (stop.CannotRead line) why = record { name = p; comes = record { inputs = []; held = tt; comes = refl }; line_is = why }
-stops_at_plan told p t stop.CannotWrite why = why
-stops_at_plan told p t stop.OutOfMemory why = tt
+rows_fail : {F A : Type 0} (e : ReadError F) (read : Read F A) → IsRefusalOf e read → e ≢ read_error.OutOfMemory → read ≡ Err e
+rows_fail read_error.OutOfMemory read fails known = absurd (known refl)
+rows_fail _ read fails known = fails
 
--- a stop at the trades, once there was a plan
-pub stops_at_trades : (told : Option Names) (p t : List ℕ) (plan : PlanView) (s : Stop) → Gives told p (plan_from p) plan → StopsAt told t (trades_from t) s → StopsOf told (Eval p t) s
-stops_at_trades told p t plan stop.Usage planned why = why
-stops_at_trades told p t plan (stop.Refused line) planned why = record {
-  inputs = planned.bytes ∷ why.bytes ∷ [];
-  held = (planned.held, (why.held, tt));
-  comes = ap (λ r. r >>= λ plan. eval_plan t plan (why.bytes ∷ [])) planned.value_is ∙ ap (λ r. r >>= λ trades. Writes (text trades.symbols (output plan trades.rows))) why.line_is;
-}
-stops_at_trades told p t plan (stop.CannotRead line) planned why = record {
-  name = t;
-  comes = record { inputs = planned.bytes ∷ []; held = (planned.held, tt); comes = ap (λ r. r >>= λ plan. eval_plan t plan []) planned.value_is };
-  line_is = why;
-}
-stops_at_trades told p t plan stop.CannotWrite planned why = why
-stops_at_trades told p t plan stop.OutOfMemory planned why = tt
+rows_refused : {F A : Type 0} (kind : Kind F) (name : List ℕ) (read : Read F A) (e : ReadError F) (why : Stop) → IsRefusalOf e read
+    → IsRefusedBy why (line_of name (fault_of kind e)) (e ≢ read_error.OutOfMemory) → StopsOn (rows_or_line kind name read) why
+rows_refused kind name read e why fails by =
+    refused (rows_or_line kind name read) (line_of name (fault_of kind e)) why (e ≢ read_error.OutOfMemory) (λ known. ap (rows_or_line kind name) (rows_fail e read fails known)) by
 
--- with both the request comes to the text
-pub comes_to_text : (told : Option Names) (p t : List ℕ) (plan : PlanView) (trades : TradesView) (bytes : List ℕ) → Gives told p (plan_from p) plan → Gives told t (trades_from t) trades
-    → bytes ≡ text trades.symbols (output plan trades.rows) → ComesOf told (Eval p t) (Writes bytes)
-comes_to_text told p t plan trades bytes planned traded bytes_is = record {
-  inputs = planned.bytes ∷ traded.bytes ∷ [];
-  held = (planned.held, (traded.held, tt));
-  comes = ap (λ r. r >>= λ plan. eval_plan t plan (traded.bytes ∷ [])) planned.value_is ∙ ap (λ r. r >>= λ trades. Writes (text trades.symbols (output plan trades.rows))) traded.value_is
-      ∙ ap Writes (sym bytes_is);
-}
+pub trades_refused : (name bytes : List ℕ) (e : ReadError Field) (why : Stop) → IsRefusalOf e (trades_of bytes)
+    → IsRefusedBy why (line_of name (fault_of trades_kind e)) (e ≢ read_error.OutOfMemory) → StopsOn (trades_from name bytes) why
+trades_refused name bytes e why fails by = rows_refused trades_kind name (trades_of bytes) e why fails by
 
--- ---- the request of words
+pub cash_refused : (room : ℕ) (name bytes : List ℕ) (e : ReadError CashField) (why : Stop) → IsRefusalOf e (cash_of bytes room)
+    → IsRefusedBy why (line_of name (fault_of cash_kind e)) (e ≢ read_error.OutOfMemory) → StopsOn (cash_from room name bytes) why
+cash_refused room name bytes e why fails by = rows_refused cash_kind name (cash_of bytes room) e why fails by
 
--- a stop of the request is one of its words
-pub stops_to : (told : Option Names) (words : List (List ℕ)) (request : Request) (old new : Told) (s : Stop) → form words ≡ Some request → StopsOf told request s → StopsTo told words old new s
-stops_to told words request old new stop.Usage formed why = absurd why
-stops_to told words request old new (stop.Refused line) formed why = record { request = request; formed = formed; comes = why }
-stops_to told words request old new (stop.CannotRead line) formed why =
-    record { name = why.name; comes = record { request = request; formed = formed; comes = why.comes }; line_is = why.line_is }
-stops_to told words request old new stop.CannotWrite formed why = absurd why
-stops_to told words request old new stop.OutOfMemory formed why = tt
+file_too_long : {F : Type 0} (bytes : List ℕ) → max_input_bytes < length bytes → file_of {F = F} bytes ≡ Err (read_error.TooLong (length bytes))
+unfolding file_of
+file_too_long bytes long = let e : nat_lt max_input_bytes (length bytes) ≡ true = grind (arith, nat_tests) in rw e refl
+
+trades_too_long : (bytes : List ℕ) → max_input_bytes < length bytes → trades_of bytes ≡ Err (read_error.TooLong (length bytes))
+unfolding trades_of
+trades_too_long bytes long = rw (file_too_long {F = Field} bytes long) refl
+
+cash_too_long : (bytes : List ℕ) (room : ℕ) → max_input_bytes < length bytes → cash_of bytes room ≡ Err (read_error.TooLong (length bytes))
+unfolding cash_of
+cash_too_long bytes room long = rw (file_too_long {F = CashField} bytes long) refl
+
+rows_long : {F A : Type 0} (kind : Kind F) (name : List ℕ) (read : Read F A) (bytes seen : ℕ) (why : Stop) (P : Type 0) → read ≡ Err (read_error.TooLong bytes)
+    → IsRefusedBy why (line_of name (fault_of kind (read_error.TooLong seen))) P → StopsOn (rows_or_line kind name read) why
+rows_long kind name read bytes seen why P fails by =
+    refused (rows_or_line kind name read) (line_of name (fault_of kind (read_error.TooLong seen))) why P (λ known. ap (rows_or_line kind name) fails) by
+
+pub long_trades : (name bytes : List ℕ) (seen : ℕ) (why : Stop) (P : Type 0) → max_input_bytes < length bytes
+    → IsRefusedBy why (line_of name (fault_of trades_kind (read_error.TooLong seen))) P → StopsOn (trades_from name bytes) why
+long_trades name bytes seen why P long by = rows_long trades_kind name (trades_of bytes) (length bytes) seen why P (trades_too_long bytes long) by
+
+pub long_cash : (room : ℕ) (name bytes : List ℕ) (seen : ℕ) (why : Stop) (P : Type 0) → max_input_bytes < length bytes
+    → IsRefusedBy why (line_of name (fault_of cash_kind (read_error.TooLong seen))) P → StopsOn (cash_from room name bytes) why
+long_cash room name bytes seen why P long by = rows_long cash_kind name (cash_of bytes room) (length bytes) seen why P (cash_too_long bytes room long) by

@@ -1,6 +1,9 @@
 pub mod Clauses
+pub mod Course
+pub mod Lines
 pub mod Memory
 pub mod Outcome
 pub mod Outside
-pub mod PartView
+pub mod StageRows
+pub mod Steps
 pub mod Words

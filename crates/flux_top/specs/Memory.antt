@@ -1,18 +1,15 @@
 -- Files and sinks in memory, as contracts see them.
-use Rattle.std.specs.Prelude.{ℕ, ◌≡◌, ◌+◌, ◌-◌, ◌^◌, ◌==◌, ◌++◌, Bool, List, [], ◌∷◌, length, take, min, Result, Ok, Err, if◌then◌else◌, string_bytes, String, Vec}
+use Rattle.std.specs.Prelude.{ℕ, ◌+◌, ◌-◌, ◌==◌, ◌++◌, Bool, List, length, take, min, Result, Ok, Err, if◌then◌else◌, string_bytes, String, Vec}
 use Rattle.std.specs.List.{list_any}
 use Rattle.std.specs.Map.{lookup}
 use Rattle.std.specs.Ordering.{is_eq, nat_cmp}
 use Rattle.std.specs.Cmp.Lexicographic.{slice_cmp}
 use Rattle.std.specs.declared.alloc.Global.{Global}
-use Rattle.flux_top.specs.Outside.{Call, Names, Read, Save}
+use Rattle.flux_top.specs.Outside.{Call, Names, Read, Save, Wants, counted}
 use Rattle.flux_top.specs.declared.mem_files.MemCall.{MemCall}
 use Rattle.flux_top.specs.declared.mem_files.MemCall.TheVariants as call
+use Rattle.flux_top.specs.declared.mem_files.MemWants.{MemWants}
 use Rattle.flux_top.specs.declared.outside.Failed.{Failed}
-
--- a count that stands still at the last value of its counter
-abbrev pub counted : ℕ → ℕ
-counted n = min (n + 1) (2 ^ 64 - 1)
 
 -- whether a list of numbers has this one
 abbrev pub has_number : List ℕ → ℕ → Bool
@@ -20,11 +17,12 @@ has_number numbers n = list_any (λ k. k == n) numbers
 
 -- ---- files
 
--- the files by their names, the numbers of the calls that fail, the calls so far, and the faults
+-- the files by their names, the numbers of the calls that fail, the calls so far, the wants of memory, and the faults
 pub record MemFilesView : Type 0 where
   pub files : List (List ℕ × List ℕ)
   pub fails : List ℕ
   pub calls : List Call
+  pub wants : Wants
   pub read_faults : ℕ
   pub save_faults : ℕ
 
@@ -39,6 +37,9 @@ file_of e = (string_bytes e.0, e.1.items)
 abbrev pub call_of : MemCall → Call
 call_of (call.Read name) = Read (string_bytes name)
 call_of (call.Save name) = Save (string_bytes name)
+
+abbrev pub wants_of : MemWants → Wants
+wants_of wants = record { count = wants.count; last = wants.last }
 
 -- whether the next call is one of those that fail
 abbrev pub next_fails : MemFilesView → Bool

@@ -1,50 +1,34 @@
--- What a command comes to: the text that it writes, or the line by which an input is refused.
-use Rattle.std.specs.Prelude.{ℕ, ◌≡◌, List, [], ◌∷◌, ◌++◌, codes, Option, Some, None, Result, Ok, Err}
+-- What each command does with its files.
+use Rattle.std.specs.Prelude.{ℕ, ◌≡◌, ◌-◌, ◌==◌, List, [], length, Option, Some, None, Result, Ok, Err, if◌then◌else◌}
 use Rattle.plan_reader.specs.Messages.{plan_fault}
 use Rattle.plan_reader.specs.Plan.{plan_of}
 use Rattle.plan_reader.specs.PlanView.{PlanView}
 use Rattle.plan_reader.specs.declared.error.PlanError.{PlanError}
-use Rattle.ingress_egress.specs.Text.{text}
-use Rattle.ingress_egress.specs.Messages.{trades_fault}
-use Rattle.ingress_egress.specs.Trades.{trades_of}
-use Rattle.ingress_egress.specs.TradesView.{TradesView}
-use Rattle.ingress_egress.specs.declared.error.TradeError.{TradeError}
+use Rattle.tuple_edge.specs.declared.row.Row.{Row}
+use Rattle.trade_text.specs.Cash.{cash_of}
+use Rattle.trade_text.specs.Inputs.{inputs_of}
+use Rattle.trade_text.specs.Kinds.{Kind, cash_kind, trades_kind}
+use Rattle.trade_text.specs.Limits.{max_inputs}
+use Rattle.trade_text.specs.Messages.{fault_of}
+use Rattle.trade_text.specs.Results.{Read}
+use Rattle.trade_text.specs.Text.{text}
+use Rattle.trade_text.specs.Trades.{trades_of}
+use Rattle.trade_text.specs.TradesView.{TradesView}
 use Rattle.pair_machine.specs.Output.{output}
-use Rattle.flux_top.specs.Outside.{IsHeld, Names}
-use Rattle.flux_top.specs.Words.{Eval, Request, form, inputs_of}
-
--- ---- lines to the error stream
-
--- what is said of a file
-abbrev pub line_of : List ℕ → List ℕ → List ℕ
-line_of name fault = codes "flux: " ++ name ++ codes ": " ++ fault ++ codes "\n"
-
-abbrev pub usage_line : List ℕ
-usage_line = codes "flux: usage: eval PLAN TRADES | run PLAN TRADES [options] | replay PLAN TRADES EVENTS | make START COUNT | trial PLAN START COUNT [options]\n"
-
--- what is said of a file that can't be read
-abbrev pub cannot_read_line : List ℕ → List ℕ
-cannot_read_line name = line_of name (codes "cannot read")
-
-abbrev pub cannot_write_line : List ℕ
-cannot_write_line = codes "flux: cannot write\n"
-
-abbrev pub memory_line : List ℕ
-memory_line = codes "flux: out of memory\n"
+use Rattle.flux_top.specs.Course.{Course, Reading, Refuses, Writes, reads}
+use Rattle.flux_top.specs.Lines.{line_of, not_in_plan_line}
+use Rattle.flux_top.specs.Words.{Eval, Request, form}
 
 -- ---- inputs
-
--- a value, or the line by which its file is refused
-abbrev pub Reading : Type 0 → Type 0
-Reading A = Result A (List ℕ)
 
 abbrev pub plan_or_line : List ℕ → Result PlanView PlanError → Reading PlanView
 plan_or_line name (Ok plan) = Ok plan
 plan_or_line name (Err fault) = Err (line_of name (plan_fault fault))
 
-abbrev pub trades_or_line : List ℕ → Result TradesView TradeError → Reading TradesView
-trades_or_line name (Ok trades) = Ok trades
-trades_or_line name (Err fault) = Err (line_of name (trades_fault fault))
+-- the same of a file of rows of this kind
+abbrev pub rows_or_line : {F A : Type 0} → Kind F → List ℕ → Read F A → Reading A
+rows_or_line kind name (Ok rows) = Ok rows
+rows_or_line kind name (Err fault) = Err (line_of name (fault_of kind fault))
 
 -- the plan of a file with these bytes
 abbrev pub plan_from : List ℕ → List ℕ → Reading PlanView
@@ -52,48 +36,37 @@ plan_from name bytes = plan_or_line name (plan_of bytes)
 
 -- the trades of a file with these bytes
 abbrev pub trades_from : List ℕ → List ℕ → Reading TradesView
-trades_from name bytes = trades_or_line name (trades_of bytes)
+trades_from name bytes = rows_or_line trades_kind name (trades_of bytes)
+
+-- the cash movements of a file with these bytes, of which so many have room
+abbrev pub cash_from : ℕ → List ℕ → List ℕ → Reading (List Row)
+cash_from room name bytes = rows_or_line cash_kind name (cash_of bytes room)
 
 -- ---- commands
 
--- what a command comes to, of the inputs that were read: a text, a refusal, or the next input to be read
-pub data Outcome : Type 0 where
-  Writes : (text : List ℕ) → Outcome
-  Refuses : (line : List ℕ) → Outcome
-  Needs : (name : List ℕ) → Outcome
+-- the text of the output for trades and movements
+abbrev pub writes_output : PlanView → TradesView → List Row → Course
+writes_output plan trades movements = Writes (text trades.symbols (output plan (inputs_of plan.version trades.rows movements)))
 
--- a refused input ends a command, and an accepted one lets it go on
-infixl 10 ◌>>=◌
-abbrev pub ◌>>=◌ : {A : Type 0} → Reading A → (A → Outcome) → Outcome
-(Ok x) >>= f = f x
-(Err line) >>= f = Refuses line
+-- The movements are read last. The trades leave room for so many; where no file is given there are none.
+abbrev pub eval_cash : Option (List ℕ) → PlanView → TradesView → Course
+eval_cash None plan trades = writes_output plan trades []
+eval_cash (Some name) plan trades = reads (cash_from (max_inputs - length trades.rows)) name (writes_output plan trades)
 
--- `eval` with its plan, of the trades' bytes once they were read
-abbrev pub eval_plan : List ℕ → PlanView → List (List ℕ) → Outcome
-eval_plan name plan [] = Needs name
-eval_plan name plan (bytes ∷ inputs) = trades_from name bytes >>= λ trades. Writes (text trades.symbols (output plan trades.rows))
+-- The trades are read once the plan was accepted, and movements only for a plan with a second source.
+abbrev pub eval_trades : List ℕ → Option (List ℕ) → PlanView → Course
+eval_trades trades cash plan = reads trades_from trades (eval_cash cash plan)
 
--- what a request comes to, of the bytes of its inputs in order, as far as they were read
-abbrev pub outcome : Request → List (List ℕ) → Outcome
-outcome (Eval p t) [] = Needs p
-outcome (Eval p t) (bytes ∷ inputs) = plan_from p bytes >>= λ plan. eval_plan t plan inputs
+abbrev pub eval_plan : List ℕ → Option (List ℕ) → PlanView → Course
+eval_plan trades None plan = eval_trades trades None plan
+eval_plan trades (Some cash) plan = if plan.version == 1 then Refuses (not_in_plan_line cash) else eval_trades trades (Some cash) plan
 
--- ---- what a call came to
+-- the course of a command
+abbrev pub course_of : Request → Course
+course_of (Eval plan trades cash) = reads plan_from plan (eval_plan trades cash)
 
--- the first of these files hold these bytes, as far as it is told
-abbrev pub AreHeld : Option Names → List (List ℕ) → List (List ℕ) → Type 0
-AreHeld told names [] = Unit {0}
-AreHeld told [] (bytes ∷ inputs) = ⊥
-AreHeld told (name ∷ names) (bytes ∷ inputs) = IsHeld told name bytes × AreHeld told names inputs
-
--- a request comes to this, of bytes that its files hold
-pub record ComesOf (told : Option Names) (request : Request) (end : Outcome) : Type 0 where
-  pub inputs : List (List ℕ)
-  pub held : AreHeld told (inputs_of request) inputs
-  pub comes : outcome request inputs ≡ end
-
--- words ask for a request that comes to this
-pub record ComesTo (told : Option Names) (words : List (List ℕ)) (end : Outcome) : Type 0 where
+-- words ask for this request, and something holds of its course
+pub record AsksFor (words : List (List ℕ)) (holds : Course → Type 0) : Type 0 where
   pub request : Request
   pub formed : form words ≡ Some request
-  pub comes : ComesOf told request end
+  pub course : holds (course_of request)

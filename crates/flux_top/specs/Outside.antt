@@ -1,5 +1,5 @@
 -- What calls to files and sinks do, and what of it is told.
-use Rattle.std.specs.Prelude.{Bool, true, false, Result, Ok, Err, ◌∷◌, if◌then◌else◌, ℕ, ◌≡◌, ◌≢◌, ◌+◌, ◌-◌, ◌^◌, ◌<◌, ◌≤◌, min, List, [], ◌++◌, take, drop, length, Option, Some, None}
+use Rattle.std.specs.Prelude.{Bool, true, false, Result, Ok, Err, ◌∷◌, if◌then◌else◌, ℕ, ◌≡◌, ◌≢◌, ◌+◌, ◌-◌, ◌^◌, ◌<◌, ◌≤◌, min, List, [], ◌++◌, take, drop, length, Option, Some, None, ◌⊎◌}
 use Rattle.flux_top.specs.declared.outside.FileStop.{FileStop}
 use Rattle.flux_top.specs.declared.outside.FileStop.TheVariants as stop
 use Rattle.flux_top.specs.declared.outside.Got.{Got}
@@ -7,9 +7,13 @@ use Rattle.flux_top.specs.declared.outside.Got.TheVariants as got
 
 -- ---- counts of faults
 
+-- a count that stands still at the last value of its counter
+abbrev pub counted : ℕ → ℕ
+counted n = min (n + 1) (2 ^ 64 - 1)
+
 -- a count became greater, or stands at the last value of its counter
 abbrev pub Rose : ℕ → ℕ → Type 0
-Rose before now = min (before + 1) (2 ^ 64 - 1) ≤ now
+Rose before now = counted before ≤ now
 
 -- a file call fails only where its count rose
 abbrev pub Explains : ℕ → ℕ → FileStop → Type 0
@@ -42,16 +46,26 @@ pub record IsRead (told : Option Names) (name : List ℕ) (max : ℕ) (ending : 
   pub held : IsHeld told name bytes
   pub read : IsReadOf bytes max ending old new
 
--- one name holds these bytes, and the others what they held
-pub record SavesAs (old new : Names) (name bytes : List ℕ) : Type 0 where
-  pub saved : new name ≡ Some bytes
-  pub others : (other : List ℕ) → other ≢ name → new other ≡ old other
+-- a reader has these bytes left, as far as it tells
+abbrev pub IsLeft : Option (List ℕ) → List ℕ → Type 0
+IsLeft None bytes = Unit {0}
+IsLeft (Some left) bytes = left ≡ bytes
+
+-- a read gave all bytes that a reader had left, as far as it tells
+pub record ReadsRest (left : Option (List ℕ)) (max : ℕ) (ending : Got) (old new : List ℕ) : Type 0 where
+  pub bytes : List ℕ
+  pub left_is : IsLeft left bytes
+  pub read : IsReadOf bytes max ending old new
+
+-- every other name holds what it held
+abbrev pub OthersStay : Names → Names → List ℕ → Type 0
+OthersStay old new name = (other : List ℕ) → other ≢ name → new other ≡ old other
 
 -- the same, where it is told what names hold
-abbrev pub Saves : Option Names → Option Names → List ℕ → List ℕ → Type 0
-Saves None new name bytes = Unit {0}
-Saves (Some old) None name bytes = ⊥
-Saves (Some old) (Some new) name bytes = SavesAs old new name bytes
+abbrev pub LeavesOthers : Option Names → Option Names → List ℕ → Type 0
+LeavesOthers None new name = Unit {0}
+LeavesOthers (Some old) None name = ⊥
+LeavesOthers (Some old) (Some new) name = OthersStay old new name
 
 -- a call of files, with its name
 pub data Call : Type 0 where
@@ -69,18 +83,39 @@ abbrev pub Joins : Option (List Call) → Option (List Call) → Call → Bool �
 Joins None new call counted = Unit {0}
 Joins (Some old) new call counted = new ≡ Some (if counted then old ++ call ∷ [] else old)
 
--- the calls that were added begin this list
-pub record AddsFront (old new calls : List Call) : Type 0 where
-  pub front : List Call
-  pub left : List Call
-  pub whole : calls ≡ front ++ left
-  pub added : new ≡ old ++ front
+-- exactly these calls were added, where calls are told
+abbrev pub Adds : Option (List Call) → Option (List Call) → List Call → Type 0
+Adds None new calls = Unit {0}
+Adds (Some old) new calls = new ≡ Some (old ++ calls)
 
--- the same, where calls are told
-abbrev pub AsksFor : Option (List Call) → Option (List Call) → List Call → Type 0
-AsksFor None new calls = Unit {0}
-AsksFor (Some old) None calls = ⊥
-AsksFor (Some old) (Some new) calls = AddsFront old new calls
+-- how often a call has found no memory, as far as it is counted, and whether the last call did
+pub record Wants : Type 0 where
+  pub count : ℕ
+  pub last : Bool
+
+-- these wants after a call that found memory or not
+abbrev pub after_call : Wants → Bool → Wants
+after_call wants true = record { count = wants.count; last = false }
+after_call wants false = record { count = counted wants.count; last = true }
+
+-- a call found memory or not, where wants are told
+abbrev pub Finds : Option Wants → Option Wants → Bool → Type 0
+Finds None new found = Unit {0}
+Finds (Some old) new found = new ≡ Some (after_call old found)
+
+-- Either each call found memory, or the last one alone didn't; then this holds too.
+abbrev pub WantsLast : Wants → Wants → Type 0 → Type 0
+WantsLast old new P = (new.count ≡ old.count) ⊎ ((new.count ≡ counted old.count) × (new.last ≡ true) × P)
+
+-- the same, where wants are told
+abbrev pub StopsAtWant : Option Wants → Option Wants → Type 0 → Type 0
+StopsAtWant None new P = Unit {0}
+StopsAtWant (Some old) None P = ⊥
+StopsAtWant (Some old) (Some new) P = WantsLast old new P
+
+-- each call found memory, where wants are told
+abbrev pub FoundMemory : Option Wants → Option Wants → Type 0
+FoundMemory old new = StopsAtWant old new ⊥
 
 -- ---- sinks
 

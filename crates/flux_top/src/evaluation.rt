@@ -1,69 +1,33 @@
-// The output of a plan, stage by stage, on one list: the merged list of what all sources of the next stage send.
-ghost use Rattle.std.specs.Prelude.{◌≡◌, ◌≤◌, ◌<◌, ◌^◌, ℕ, All, IfOk, List, length};
-ghost use Rattle.ingress_egress.specs.Limits.{max_trades};
-ghost use Rattle.merge_order.specs.Edges.{AreEdges};
-ghost use Rattle.merge_order.specs.Merged.{items, merged};
-ghost use Rattle.pair_machine.specs.Edges.{sent_by_stage};
+// The output of a plan, stage by stage, without stamps: what answers a row comes from one partition, in order and with
+// that row's stamp, so the answers row by row are in the merged order. Only those to the end need an order of their own.
+ghost use Rattle.std.specs.Prelude.{◌≡◌, ◌↔◌, true, IfOk};
+ghost use Rattle.trade_text.specs.TradesView.{inputs_in};
 ghost use Rattle.pair_machine.specs.Output.{output};
-ghost use Rattle.plan_reader.specs.PlanView.{IsStage};
-ghost use Rattle.stream_ops.specs.Answers.{rows_of};
-ghost use Rattle.stream_ops.specs.Times.{IsTime, IsTimely};
-ghost use Rattle.tuple_edge.specs.declared.item.Item.{Item};
 
-mod ingress;
-mod merging;
-mod part;
 mod stage;
+mod states;
 
-use ingress::sent_by_ingress;
-use ingress_egress::Trades;
-use merging::merged_parts;
-use plan_reader::{Plan, Stage};
-use stage::answered_by_stage;
+use plan_reader::Plan;
+use stage::passed;
 use std::alloc::Global;
-use tuple_edge::{Item, OutOfMemory, Row};
+use trade_text::Trades;
+use tuple_edge::{OutOfMemory, Row};
 
-/// The rows that a plan gives for trades.
+/// The rows that a plan gives for trades, and for the cash movements that were merged with them. They are
+/// merged for a plan of version 2, which has that source, and for no other.
 pub fn evaluate(alloc: Global, plan: &Plan, trades: &Trades) -> Result<Vec<Row>, OutOfMemory>
-    ensures { IfOk result (λ out. out.items ≡ output plan.now trades.now.rows) }
+    requires { (trades.now.merged ≡ true) ↔ (plan.now.version ≡ 2) }
+    ensures { IfOk result (λ out. out.items ≡ output plan.now (inputs_in trades.now)) }
 {
-    output_rows(alloc, plan, trades.rows())
-}
-
-// The same for the rows of trades.
-fn output_rows(alloc: Global, plan: &Plan, rows: &[Row]) -> Result<Vec<Row>, OutOfMemory>
-    requires few { length rows.now ≤ max_trades }
-    requires times { All (λ row. IsTime row.time) rows.now }
-    ensures { IfOk result (λ out. out.items ≡ output plan.now rows.now) }
-{
-    let mut list = sent_by_ingress(alloc, plan.mark(), rows)?;
-    for stage in plan.stages() {
-        list = merged_after(alloc, stage, &list)?;
+    let Some((first, later)) = plan.stages().split_first() else {
+        // No plan is without a stage.
+        return Ok(Vec::new(alloc));
+    };
+    let mut rows = passed(alloc, first, trades.rows(), &[])?;
+    for stage in later {
+        rows = passed(alloc, stage, &rows.early, &rows.late)?;
     }
-    rows_among(alloc, &list)
-}
-
-// The merged list of what the partitions of a stage send, from that of what its sources send.
-fn merged_after(alloc: Global, stage: &Stage, list: &[Item]) -> Result<Vec<Item>, OutOfMemory>
-    requires stage { IsStage stage.now }
-    requires times { All IsTimely list.now }
-    requires few { length list.now < 2 ^ 62 }
-    ensures { IfOk result (λ out. (last : ℕ) (sent : List (List Item)) → AreEdges last sent → list.now ≡ items (merged last sent)
-        → out.items ≡ items (merged last (sent_by_stage last sent stage.now))) }
-{
-    let parts = answered_by_stage(alloc, stage, list)?;
-    merged_parts(alloc, &parts, list.len())
-}
-
-// The rows among items.
-fn rows_among(alloc: Global, list: &[Item]) -> Result<Vec<Row>, OutOfMemory>
-    ensures { IfOk result (λ rows. rows.items ≡ rows_of list.now) }
-{
-    let mut rows = Vec::with_capacity(alloc, list.len())?;
-    for item in list {
-        if let Item::Row { row, .. } = item {
-            rows.push(*row)?;
-        }
-    }
-    Ok(rows)
+    let mut out = rows.early;
+    out.extend_from_slice(&rows.late)?;
+    Ok(out)
 }

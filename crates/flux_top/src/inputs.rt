@@ -1,81 +1,66 @@
-// The inputs of a command: each is read and checked before the next one is read.
-ghost use Rattle.std.specs.Prelude.{◌≡◌, ◌≤◌, ◌∷◌, [], ◌≢◌, true, IfErr, IfOk, Ok, OnOk, string_bytes};
-ghost use Rattle.flux_top.specs.Clauses.{Gives, HasReadCause, IsRefusedBy, IsUnreadBy, StopsAt, StopsOn};
-ghost use Rattle.flux_top.specs.Outcome.{cannot_read_line, line_of, plan_from, trades_from};
-ghost use Rattle.flux_top.specs.Outside.{AsksFor, Joins, Read};
-ghost use Rattle.plan_reader.specs.Messages.{plan_fault};
-ghost use Rattle.ingress_egress.specs.Messages.{trades_fault};
+// The reading of an input: a file is read and checked before the next one is read.
+ghost use Rattle.std.specs.Prelude.{◌≡◌, ◌<◌, ◌≤◌, ℕ, List, length, Ok, IfErr, IfOk, OnOk, string_bytes};
+ghost use Rattle.flux_top.specs.Course.{Reading};
+ghost use Rattle.flux_top.specs.Lines.{cannot_read_line, line_of};
+ghost use Rattle.flux_top.specs.Outside.{StopsAtWant};
+ghost use Rattle.flux_top.specs.Steps.{Gives, HasReadCause, IsUnreadBy, IsWant, StopsAt, StopsOn};
 
 use crate::stop::Stop;
 use crate::{FileStop, Files, Got};
-use ingress_egress::{MAX_TRADES_BYTES, TradeError, Trades, read_trades};
-use plan_reader::{MAX_PLAN_BYTES, Plan, PlanError, read_plan};
 use std::alloc::Global;
 use tuple_edge::OutOfMemory;
 
-/// Reads the plan of a file.
-pub(crate) fn plan_at<F: Files>(alloc: Global, files: &mut F, name: &str) -> Result<Plan, Stop>
-    ensures gives { IfOk result (λ plan. Gives (F.contents files.old) name.now (plan_from name.now) plan) }
-    ensures stops { IfErr result (λ stop. StopsAt (F.contents files.old) name.now (plan_from name.now) stop) }
+/// A kind of input: how many bytes its file may have, what they say, and why they are refused.
+pub(crate) trait Input {
+    /// What such a file says.
+    type Value;
+
+    /// The most bytes that it may have.
+    ghost most: { Self → ℕ };
+
+    /// What a file of this name with these bytes says, or the line by which it is refused.
+    ghost reading: { Self → List ℕ → List ℕ → Reading Self.Value };
+
+    /// What is known of all that such a file may say.
+    ghost keeps: { Self → Self.Value → Type 0 };
+
+    /// The most bytes that it may have.
+    fn most(&self) -> u64
+        ensures { result ≡ most self.now };
+
+    /// What the bytes of a file of this name say.
+    fn value(&self, alloc: Global, name: &str, bytes: &[u8]) -> Result<Self::Value, Stop>
+        ensures gives { IfOk result (λ value. reading self.now name.now bytes.now ≡ Ok value) }
+        ensures keeps { IfOk result (keeps self.now) }
+        ensures stops { IfErr result (λ stop. StopsOn (reading self.now name.now bytes.now) stop) };
+
+    /// Why a file of this name with too many bytes is refused; `seen` is one more than it may have.
+    fn too_long(&self, alloc: Global, name: &str, seen: u64) -> Stop
+        ensures { (bytes : List ℕ) → most self.now < length bytes → StopsOn (reading self.now name.now bytes) result };
+}
+
+/// Reads an input.
+#[tactic(auto, using(crate::proofs::Courses::gives_whole, crate::proofs::Courses::stops_whole, crate::proofs::Courses::stops_long, crate::proofs::Courses::stops_unread, crate::proofs::Courses::stops_want))]
+pub(crate) fn input_at<F: Files, I: Input>(
+    alloc: Global,
+    files: &mut F,
+    name: &str,
+    input: &I,
+) -> Result<I::Value, Stop>
+    ensures gives { IfOk result (λ value. Gives (F.contents files.old) (F.calls files.old) (F.calls files.new) (I.reading input.now) name.now value) }
+    ensures keeps { IfOk result (I.keeps input.now) }
+    ensures stops { IfErr result (λ stop. StopsAt (F.contents files.old) (F.calls files.old) (F.calls files.new) (I.reading input.now) name.now stop) }
     ensures cause { IfErr result (λ stop. HasReadCause (F.read_faults files.old) (F.read_faults files.new) stop) }
+    ensures still { OnOk result (F.read_faults files.new ≡ F.read_faults files.old) }
+    ensures wants { StopsAtWant (F.wants files.old) (F.wants files.new) (IsWant result) }
     ensures contents { F.contents files.new ≡ F.contents files.old }
-    ensures asks { AsksFor (F.calls files.old) (F.calls files.new) (Read name.now ∷ []) }
-    ensures called { OnOk result (Joins (F.calls files.old) (F.calls files.new) (Read name.now) true) }
-    ensures later { F.read_faults files.old ≤ F.read_faults files.new }
 {
     let mut bytes = Vec::new(alloc);
-    match files.read(name, MAX_PLAN_BYTES, &mut bytes) {
+    match files.read(name, input.most(), &mut bytes) {
         Err(FileStop::Failed) => Err(unread(alloc, name)),
         Err(FileStop::OutOfMemory) => Err(Stop::OutOfMemory),
-        Ok(Got::TooLong { seen }) => {
-            Err(refused_plan(alloc, name, PlanError::TooLong { bytes: seen }))
-        }
-        Ok(Got::Whole) => plan_in(alloc, name, &bytes),
-    }
-}
-
-// The plan that the bytes of a file say.
-#[tactic(auto, using(crate::proofs::Refusals::plan_refused))]
-fn plan_in(alloc: Global, name: &str, bytes: &[u8]) -> Result<Plan, Stop>
-    ensures gives { IfOk result (λ plan. plan_from name.now bytes.now ≡ Ok plan) }
-    ensures stops { IfErr result (λ stop. StopsOn (plan_from name.now bytes.now) stop) }
-{
-    match read_plan(alloc, bytes) {
-        Ok(plan) => Ok(plan),
-        Err(error) => Err(refused_plan(alloc, name, error)),
-    }
-}
-
-/// Reads the trades of a file.
-pub(crate) fn trades_at<F: Files>(alloc: Global, files: &mut F, name: &str) -> Result<Trades, Stop>
-    ensures gives { IfOk result (λ trades. Gives (F.contents files.old) name.now (trades_from name.now) trades) }
-    ensures stops { IfErr result (λ stop. StopsAt (F.contents files.old) name.now (trades_from name.now) stop) }
-    ensures cause { IfErr result (λ stop. HasReadCause (F.read_faults files.old) (F.read_faults files.new) stop) }
-    ensures contents { F.contents files.new ≡ F.contents files.old }
-    ensures asks { AsksFor (F.calls files.old) (F.calls files.new) (Read name.now ∷ []) }
-    ensures called { OnOk result (Joins (F.calls files.old) (F.calls files.new) (Read name.now) true) }
-    ensures later { F.read_faults files.old ≤ F.read_faults files.new }
-{
-    let mut bytes = Vec::new(alloc);
-    match files.read(name, MAX_TRADES_BYTES, &mut bytes) {
-        Err(FileStop::Failed) => Err(unread(alloc, name)),
-        Err(FileStop::OutOfMemory) => Err(Stop::OutOfMemory),
-        Ok(Got::TooLong { seen }) => {
-            Err(refused_trades(alloc, name, TradeError::TooLong { bytes: seen }))
-        }
-        Ok(Got::Whole) => trades_in(alloc, name, &bytes),
-    }
-}
-
-// The trades that the bytes of a file say.
-#[tactic(auto, using(crate::proofs::Refusals::trades_refused))]
-fn trades_in(alloc: Global, name: &str, bytes: &[u8]) -> Result<Trades, Stop>
-    ensures gives { IfOk result (λ trades. trades_from name.now bytes.now ≡ Ok trades) }
-    ensures stops { IfErr result (λ stop. StopsOn (trades_from name.now bytes.now) stop) }
-{
-    match read_trades(alloc, bytes) {
-        Ok(trades) => Ok(trades),
-        Err(error) => Err(refused_trades(alloc, name, error)),
+        Ok(Got::TooLong { seen }) => Err(input.too_long(alloc, name, seen)),
+        Ok(Got::Whole) => input.value(alloc, name, &bytes),
     }
 }
 
@@ -89,34 +74,8 @@ fn unread(alloc: Global, name: &str) -> Stop
     }
 }
 
-// The line by which a plan is refused.
-fn refused_plan(alloc: Global, name: &str, error: PlanError) -> Stop
-    ensures { IsRefusedBy result (line_of name.now (plan_fault error)) (error ≢ PlanError.OutOfMemory) }
-{
-    if error == PlanError::OutOfMemory {
-        return Stop::OutOfMemory;
-    }
-    match format!(in alloc; "flux: {name}: {error}\n") {
-        Ok(line) => Stop::Refused { line },
-        Err(_) => Stop::OutOfMemory,
-    }
-}
-
-// The line by which trades are refused.
-fn refused_trades(alloc: Global, name: &str, error: TradeError) -> Stop
-    ensures { IsRefusedBy result (line_of name.now (trades_fault error)) (error ≢ TradeError.OutOfMemory) }
-{
-    if error == TradeError::OutOfMemory {
-        return Stop::OutOfMemory;
-    }
-    match format!(in alloc; "flux: {name}: {error}\n") {
-        Ok(line) => Stop::Refused { line },
-        Err(_) => Stop::OutOfMemory,
-    }
-}
-
-// The line about a file.
-fn line_about(alloc: Global, name: &str, fault: &str) -> Result<String, OutOfMemory>
+/// The line about a file.
+pub(crate) fn line_about(alloc: Global, name: &str, fault: &str) -> Result<String, OutOfMemory>
     ensures { IfOk result (λ line. string_bytes line ≡ line_of name.now fault.now) }
 {
     let line = format!(in alloc; "flux: {name}: {fault}\n")?;

@@ -2,12 +2,14 @@
 //!
 //! It promises that `flux` writes exactly the text of the plan's output where it answers 0, and gives
 //! every other answer its cause; `evaluate` gives the output as a list. It stands on plan_reader,
-//! ingress_egress, stream_ops and merge_order, and on the definitions of pair_machine. The adapters over
+//! trade_text and stream_ops, and on the definitions of merge_order and pair_machine. The adapters over
 //! std (`StdFiles`, `StdSink`) are its trusted edge.
 #![tactic(auto)]
 
 mod command;
+mod eval;
 mod evaluation;
+mod input_files;
 mod inputs;
 mod mem_files;
 mod mem_sink;

@@ -1,7 +1,7 @@
 // Files in memory, which fail where they are told to.
-ghost use Rattle.std.specs.Prelude.{◌≡◌, ◌≤◌, ◌∷◌, ◌+◌, [], ◌⊎◌, false, true, Some, None, Err, IfErr, IfOk, OnErr, OnOk, map, option_map, string_bytes, vec_capacity, vec_len};
-ghost use Rattle.flux_top.specs.Memory.{MemFilesView, call_of, file_of, names, next_fails};
-ghost use Rattle.flux_top.specs.Outside.{Explains, IsRead, IsReadOf, Joins, KeepsFront, Read, Save, Saves, SavesAs, is_counted};
+ghost use Rattle.std.specs.Prelude.{◌≡◌, ◌≢◌, ◌≤◌, ◌<◌, ◌∷◌, ◌+◌, [], ◌⊎◌, false, true, Some, None, Err, IfErr, IfOk, OnErr, OnOk, map, option_map, string_bytes, vec_capacity, vec_len};
+ghost use Rattle.flux_top.specs.Memory.{MemFilesView, call_of, file_of, names, next_fails, wants_of};
+ghost use Rattle.flux_top.specs.Outside.{Explains, Finds, IsHeld, IsRead, IsReadOf, Joins, KeepsFront, LeavesOthers, OthersStay, Read, Save, after_call, is_counted};
 
 use crate::{FileStop, Files, Got};
 use std::alloc::Global;
@@ -16,6 +16,31 @@ enum MemCall {
     Save(String),
 }
 
+// How often a call has found no memory, and whether the last call did.
+#[derive(Clone, Copy)]
+struct MemWants {
+    count: u64,
+    last: bool,
+}
+
+impl MemWants {
+    // The same after a call that found memory or not.
+    fn after(self, found: bool) -> MemWants
+        ensures { wants_of result ≡ after_call (wants_of self) found }
+    {
+        if found {
+            return MemWants {
+                count: self.count,
+                last: false,
+            };
+        }
+        MemWants {
+            count: self.count.saturating_add(1),
+            last: true,
+        }
+    }
+}
+
 /// Files in memory. The calls whose numbers are in a list fail: calls of `read` and `save` count together
 /// from 1, without those that found no memory. To read a name that isn't there fails too.
 #[derive(Drop)]
@@ -24,13 +49,14 @@ pub struct MemFiles {
     files: BTreeMap<String, Vec<u8>>,
     fails: Vec<u64>,
     calls: Vec<MemCall>,
+    wants: MemWants,
     read_faults: u64,
     save_faults: u64,
 }
 
 impl Model for MemFiles {
     ghost use Rattle.std.specs.Prelude.{map};
-    ghost use Rattle.flux_top.specs.Memory.{MemFilesView, call_of, file_of};
+    ghost use Rattle.flux_top.specs.Memory.{MemFilesView, call_of, file_of, wants_of};
 
     ghost Value = { MemFilesView };
 
@@ -38,6 +64,7 @@ impl Model for MemFiles {
       files = map file_of s.files.entries;
       fails = s.fails.items;
       calls = map call_of s.calls.items;
+      wants = wants_of s.wants;
       read_faults = s.read_faults;
       save_faults = s.save_faults;
     } };
@@ -46,13 +73,17 @@ impl Model for MemFiles {
 impl MemFiles {
     /// No files yet, and the numbers of the calls that will fail, from 1.
     pub fn new(alloc: Global, fails: Vec<u64>) -> MemFiles
-        ensures { result ≡ record { files = []; fails = fails.items; calls = []; read_faults = 0; save_faults = 0 } }
+        ensures { result ≡ record { files = []; fails = fails.items; calls = []; wants = record { count = 0; last = false }; read_faults = 0; save_faults = 0 } }
     {
         MemFiles {
             alloc,
             files: BTreeMap::new(alloc),
             fails,
             calls: Vec::new(alloc),
+            wants: MemWants {
+                count: 0,
+                last: false,
+            },
             read_faults: 0,
             save_faults: 0,
         }
@@ -60,9 +91,10 @@ impl MemFiles {
 
     /// Puts a file, in place of one of that name. It is no call that is counted.
     pub fn put_file(&mut self, name: &str, bytes: &[u8]) -> Result<(), OutOfMemory>
-        ensures saved { OnOk result (SavesAs (names self.old.files) (names self.new.files) name.now bytes.now) }
+        ensures saved { OnOk result (names self.new.files name.now ≡ Some bytes.now) }
+        ensures others { OthersStay (names self.old.files) (names self.new.files) name.now }
         ensures unchanged { OnErr result (self.new ≡ self.old) }
-        ensures others { self.new ≡ record self.old { files = self.new.files } }
+        ensures rest { self.new ≡ record self.old { files = self.new.files } }
     {
         insert_file(self.alloc, &mut self.files, name, bytes)
     }
@@ -101,6 +133,17 @@ impl MemFiles {
     }
 }
 
+// Makes room for one more call, and gives its name to keep.
+fn kept_name(alloc: Global, calls: &mut Vec<MemCall>, name: &str) -> Result<String, OutOfMemory>
+    ensures kept { IfOk result (λ kept. string_bytes kept ≡ name.now) }
+    ensures room { OnOk result (vec_len calls.new < vec_capacity calls.new) }
+    ensures unchanged { calls.new.items ≡ calls.old.items }
+{
+    calls.reserve(1)?;
+    let kept = String::from_str(alloc, name)?;
+    Ok(kept)
+}
+
 // Appends the bytes of a file, where they are not too many.
 fn append_file(bytes: &[u8], max: u64, into: &mut Vec<u8>) -> Result<Got, FileStop>
     ensures got { IfOk result (λ got. IsReadOf bytes.now max got into.old.items into.new.items) }
@@ -121,7 +164,8 @@ fn insert_file(
     name: &str,
     bytes: &[u8],
 ) -> Result<(), OutOfMemory>
-    ensures saved { OnOk result (SavesAs (names (map file_of files.old.entries)) (names (map file_of files.new.entries)) name.now bytes.now) }
+    ensures saved { OnOk result (names (map file_of files.new.entries) name.now ≡ Some bytes.now) }
+    ensures others { OthersStay (names (map file_of files.old.entries)) (names (map file_of files.new.entries)) name.now }
     ensures unchanged { OnErr result (files.new.entries ≡ files.old.entries) }
 {
     let key = String::from_str(alloc, name)?;
@@ -135,6 +179,8 @@ impl Files for MemFiles {
 
     ghost calls = { λ s. Some s.calls };
 
+    ghost wants = { λ s. Some s.wants };
+
     ghost read_faults = { λ s. s.read_faults };
 
     ghost save_faults = { λ s. s.save_faults };
@@ -144,7 +190,9 @@ impl Files for MemFiles {
         ensures front { KeepsFront into.old.items into.new.items }
         ensures contents { Some (names self.new.files) ≡ Some (names self.old.files) }
         ensures called { Joins (Some self.old.calls) (Some self.new.calls) (Read name.now) (is_counted result) }
+        ensures found { Finds (Some self.old.wants) (Some self.new.wants) (is_counted result) }
         ensures cause { IfErr result (λ stop. Explains self.old.read_faults self.new.read_faults stop) }
+        ensures still { result ≢ Err FileStop.Failed → self.new.read_faults ≡ self.old.read_faults }
         ensures later { self.old.read_faults ≤ self.new.read_faults }
         ensures saves { self.new.save_faults ≡ self.old.save_faults }
 
@@ -153,43 +201,61 @@ impl Files for MemFiles {
         ensures failing { IfOk result (λ got. next_fails self.old ≡ false) }
         ensures others { (self.new.files ≡ self.old.files) × (self.new.fails ≡ self.old.fails) }
     {
-        self.calls.reserve(1)?;
-        let call = MemCall::Read(String::from_str(self.alloc, name)?);
+        let Ok(kept) = kept_name(self.alloc, &mut self.calls, name) else {
+            self.wants = self.wants.after(false);
+            return Err(FileStop::OutOfMemory);
+        };
         match self.look_up(name, max, into) {
             Ok(got) => {
-                self.calls.push_reserved(call);
+                self.calls.push_reserved(MemCall::Read(kept));
+                self.wants = self.wants.after(true);
                 Ok(got)
             }
             Err(FileStop::Failed) => {
-                self.calls.push_reserved(call);
+                self.calls.push_reserved(MemCall::Read(kept));
+                self.wants = self.wants.after(true);
                 self.read_faults = self.read_faults.saturating_add(1);
                 Err(FileStop::Failed)
             }
-            Err(FileStop::OutOfMemory) => Err(FileStop::OutOfMemory),
+            Err(FileStop::OutOfMemory) => {
+                self.wants = self.wants.after(false);
+                Err(FileStop::OutOfMemory)
+            }
         }
     }
 
     fn save(&mut self, name: &str, bytes: &[u8]) -> Result<(), FileStop>
-        ensures saved { OnOk result (Saves (Some (names self.old.files)) (Some (names self.new.files)) name.now bytes.now) }
+        ensures saved { OnOk result (IsHeld (Some (names self.new.files)) name.now bytes.now) }
+        ensures others { LeavesOthers (Some (names self.old.files)) (Some (names self.new.files)) name.now }
         ensures called { Joins (Some self.old.calls) (Some self.new.calls) (Save name.now) (is_counted result) }
+        ensures found { Finds (Some self.old.wants) (Some self.new.wants) (is_counted result) }
         ensures cause { IfErr result (λ stop. Explains self.old.save_faults self.new.save_faults stop) }
+        ensures still { result ≢ Err FileStop.Failed → self.new.save_faults ≡ self.old.save_faults }
         ensures later { self.old.save_faults ≤ self.new.save_faults }
         ensures reads { self.new.read_faults ≡ self.old.read_faults }
 
-        // It fails exactly where the list of its calls says so.
+        // It fails exactly where the list of its calls says so, and then changes no file.
         ensures fails { result ≡ Err FileStop.Failed → next_fails self.old ≡ true }
         ensures failing { IfOk result (λ x. next_fails self.old ≡ false) }
-        ensures others { self.new.fails ≡ self.old.fails }
+        ensures unsaved { OnErr result (self.new.files ≡ self.old.files) }
+        ensures list { self.new.fails ≡ self.old.fails }
     {
-        self.calls.reserve(1)?;
-        let call = MemCall::Save(String::from_str(self.alloc, name)?);
+        let Ok(kept) = kept_name(self.alloc, &mut self.calls, name) else {
+            self.wants = self.wants.after(false);
+            return Err(FileStop::OutOfMemory);
+        };
         if self.next_fails() {
-            self.calls.push_reserved(call);
+            self.calls.push_reserved(MemCall::Save(kept));
+            self.wants = self.wants.after(true);
             self.save_faults = self.save_faults.saturating_add(1);
             return Err(FileStop::Failed);
         }
-        insert_file(self.alloc, &mut self.files, name, bytes)?;
-        self.calls.push_reserved(call);
+        let Ok(()) = insert_file(self.alloc, &mut self.files, name, bytes) else {
+            self.wants = self.wants.after(false);
+            return Err(FileStop::OutOfMemory);
+        };
+        self.calls.push_reserved(MemCall::Save(kept));
+        self.wants = self.wants.after(true);
         Ok(())
     }
 }

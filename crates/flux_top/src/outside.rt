@@ -2,9 +2,9 @@
 //
 // What an object holds or has taken is told where it can be known, as in memory. Its count of faults is
 // always there: it never falls, and a call may answer a fault only where the count rose.
-ghost use Rattle.std.specs.Prelude.{◌≡◌, ◌≤◌, ◌<◌, ℕ, List, Option, length, take, IfErr, IfOk, OnErr, OnOk};
+ghost use Rattle.std.specs.Prelude.{◌≡◌, ◌≢◌, ◌≤◌, ◌<◌, ℕ, Err, List, Option, length, take, IfErr, IfOk, OnErr, OnOk};
 ghost use Rattle.flux_top.specs.declared.outside.FileStop.TheVariants.{OutOfMemory};
-ghost use Rattle.flux_top.specs.Outside.{Call, Explains, IsOffered, IsRead, Joins, KeepsFront, Read, Rose, Save, Saves, Takes, TakesPart, is_counted};
+ghost use Rattle.flux_top.specs.Outside.{Call, Explains, Finds, IsHeld, IsOffered, IsRead, Joins, KeepsFront, LeavesOthers, Read, Rose, Save, Takes, TakesPart, Wants, is_counted};
 
 use std::alloc::AllocError;
 use tuple_edge::OutOfMemory;
@@ -55,6 +55,9 @@ pub trait Files {
     /// The calls so far, in order, without those that found no memory, where the files tell them.
     ghost calls: { Self → Option (List Call) };
 
+    /// How often a call has found no memory, and whether the last one did, where the files tell it.
+    ghost wants: { Self → Option Wants };
+
     /// How often a read has failed, as far as it is counted.
     ghost read_faults: { Self → ℕ };
 
@@ -68,15 +71,20 @@ pub trait Files {
         ensures front { KeepsFront into.old.items into.new.items }
         ensures contents { contents self.new ≡ contents self.old }
         ensures called { Joins (calls self.old) (calls self.new) (Read name.now) (is_counted result) }
+        ensures found { Finds (wants self.old) (wants self.new) (is_counted result) }
         ensures cause { IfErr result (λ stop. Explains (read_faults self.old) (read_faults self.new) stop) }
+        ensures still { result ≢ Err FileStop.Failed → read_faults self.new ≡ read_faults self.old }
         ensures later { read_faults self.old ≤ read_faults self.new }
         ensures saves { save_faults self.new ≡ save_faults self.old };
 
     /// Replaces a file, and leaves the others. After a refusal the content of the file is not known.
     fn save(&mut self, name: &str, bytes: &[u8]) -> Result<(), FileStop>
-        ensures saved { OnOk result (Saves (contents self.old) (contents self.new) name.now bytes.now) }
+        ensures saved { OnOk result (IsHeld (contents self.new) name.now bytes.now) }
+        ensures others { LeavesOthers (contents self.old) (contents self.new) name.now }
         ensures called { Joins (calls self.old) (calls self.new) (Save name.now) (is_counted result) }
+        ensures found { Finds (wants self.old) (wants self.new) (is_counted result) }
         ensures cause { IfErr result (λ stop. Explains (save_faults self.old) (save_faults self.new) stop) }
+        ensures still { result ≢ Err FileStop.Failed → save_faults self.new ≡ save_faults self.old }
         ensures later { save_faults self.old ≤ save_faults self.new }
         ensures reads { read_faults self.new ≡ read_faults self.old };
 }

@@ -1,6 +1,6 @@
 // Files of the system: part of the trusted edge. They tell no content, and count their faults.
-ghost use Rattle.std.specs.Prelude.{◌≡◌, [], None, IfOk};
-ghost use Rattle.flux_top.specs.Outside.{IsRead, KeepsFront};
+ghost use Rattle.std.specs.Prelude.{◌≡◌, None, IfOk};
+ghost use Rattle.flux_top.specs.Outside.{KeepsFront, ReadsRest};
 
 use crate::{FileStop, Files, Got};
 use std::alloc::Global;
@@ -31,11 +31,12 @@ impl<'a, R: RuntimeFiles> StdFiles<'a, R> {
     }
 }
 
+// Appends all that a reader has left, up to `max` bytes. A reader that tells what it has left is read to
+// its end, however small the pieces are that it gives.
 #[tactic(auto, using(crate::proofs::ReadLaws::has_read_none, crate::proofs::ReadLaws::has_read_more, crate::proofs::ReadLaws::front_kept, crate::proofs::ReadLaws::read_whole, crate::proofs::ReadLaws::read_long))]
-// Appends what a reader gives, up to `max` bytes.
 fn append<T: Read>(file: &mut T, max: u64, into: &mut Vec<u8>) -> Result<Got, FileStop>
     ensures front { KeepsFront into.old.items into.new.items }
-    ensures got { IfOk result (λ got. IsRead None [] max got into.old.items into.new.items) }
+    ensures got { IfOk result (λ got. ReadsRest (T.remaining file.old) max got into.old.items into.new.items) }
 {
     let mut buffer = [0u8; 8_192];
     let mut left = max;
@@ -61,6 +62,8 @@ impl<R: RuntimeFiles> Files for StdFiles<'_, R> {
     ghost contents = { λ _. None };
 
     ghost calls = { λ _. None };
+
+    ghost wants = { λ _. None };
 
     ghost read_faults = { λ s. s.read_faults };
 
