@@ -75,6 +75,13 @@ impl Consumer {
         self.merge.ready()
     }
 
+    /// What [`Consumer::next`] would give; it stays where it is. None exactly where it isn't ready.
+    pub fn peek(&self) -> Option<Item>
+        ensures { result ≡ item_of (least self.now.merge.waiting) }
+    {
+        self.merge.peek()
+    }
+
     /// The next item of the merged list. None exactly where it isn't ready.
     pub fn next(&mut self) -> Option<Item>
         requires room { IsTrue (all_wait self.old.merge.waiting) → self.old.merge.count + 1 < number_limit }

@@ -154,6 +154,16 @@ impl Merge {
         self.take_offered(edge, number, item)
     }
 
+    /// What [`Merge::next`] would give; it stays where it is.
+    pub fn peek(&self) -> Option<Item>
+        ensures { result ≡ item_of (least self.now.waiting) }
+    {
+        match least_head(&self.waiting) {
+            None => None,
+            Some(head) => Some(head.item),
+        }
+    }
+
     /// The next item of the merged list: the least head, where each edge has one.
     pub fn next(&mut self) -> Option<Item>
         requires room { IsTrue (all_wait self.old.waiting) → self.old.count + 1 < number_limit }
