@@ -1,5 +1,5 @@
--- The whole list of a move is one that the rebuilding calls allow.
-use Rattle.std.proofs.Common.{◌≡◌, ℕ, zero, suc, ◌+◌, ◌<◌, ◌≤◌, true, false, List, [], ◌∷◌, ◌++◌, fold, length, refl, sym, ap, ◌∙◌, subst, append_assoc, arith}
+-- In the whole list of a move each of the operator's entries is the next one.
+use Rattle.std.proofs.Common.{◌≡◌, ℕ, zero, suc, ◌+◌, true, false, List, [], ◌∷◌, ◌++◌, fold, length, refl, sym, ap, ◌∙◌, subst, append_assoc}
 use Rattle.std.proofs.lemmas.List.Sums.{fold-append}
 use Rattle.std.specs.List.{All}
 use Rattle.tuple_edge.specs.declared.item.Item.{Item}
@@ -12,52 +12,8 @@ use Rattle.stream_ops.specs.Times.{IsTimely}
 use Rattle.stream_ops.specs.declared.spec.OpSpec.{OpSpec}
 use Rattle.state_mover.specs.MoveList.{head_entries, kept_entries, low_entry, mark_entry, move_list, used_of}
 use Rattle.tuple_edge.specs.Entries.{each_below, numbered}
-use Rattle.catch_up.specs.Rebuild.{AllInside, AllNext, IsInside, keyed_step}
+use Rattle.catch_up.specs.Rebuild.{AllNext, keyed_step}
 use Rattle.catch_up.proofs.Steps.{AllKeyed, skip_below, skip_numbered}
-
--- ---- in-edges that are there
-
-inside_append : (n : ℕ) (xs ys : List Entry) → AllInside n xs → AllInside n ys → AllInside n (xs ++ ys)
-inside_append n [] ys left right = right
-inside_append n (x ∷ xs) ys left right = (left.0, inside_append n xs ys left.1 right)
-
-inside_below : (n k : ℕ) (f : ℕ → List Entry) → k ≤ n → ((q : ℕ) → q < n → AllInside n (f q)) → AllInside n (each_below k f)
-inside_below n zero f within each = tt
-inside_below n (suc k) f within each = inside_append n (each_below k f) (f k) (inside_below n k f (omega (arith, within)) each) (each k (omega (arith, within)))
-
-any_below : (n k : ℕ) (f : ℕ → List Entry) → ((q : ℕ) → AllInside n (f q)) → AllInside n (each_below k f)
-any_below n zero f each = tt
-any_below n (suc k) f each = inside_append n (each_below k f) (f k) (any_below n k f each) (each k)
-
-inside_numbered : (n : ℕ) (f : ℕ → Item → Entry) → ((j : ℕ) (x : Item) → IsInside n (f j x)) → (k : ℕ) (xs : List Item) → AllInside n (numbered f k xs)
-inside_numbered n f each k [] = tt
-inside_numbered n f each k (x ∷ xs) = (each (k + 1) x, inside_numbered n f each (k + 1) xs)
-
-inside_keyed : (n : ℕ) (es : List Entry) → AllKeyed es → AllInside n es
-inside_keyed n [] keyed = tt
-inside_keyed n (entry.Keyed k slot a b c ∷ es) keyed = (tt, inside_keyed n es keyed.1)
-inside_keyed n (entry.Mark q upto ∷ es) keyed = let h : false ≡ true = keyed.0 in cc
-inside_keyed n (entry.Count count ∷ es) keyed = let h : false ≡ true = keyed.0 in cc
-inside_keyed n (entry.Head q j x ∷ es) keyed = let h : false ≡ true = keyed.0 in cc
-inside_keyed n (entry.Low t low produced ∷ es) keyed = let h : false ≡ true = keyed.0 in cc
-inside_keyed n (entry.Kept t j x ∷ es) keyed = let h : false ≡ true = keyed.0 in cc
-
-pub whole_inside : (m : MergeView) (p : ProducerView) (es : List Entry) → AllKeyed es → AllInside (length m.marks) (move_list m p es)
-whole_inside m p es keyed =
-    let n : ℕ = length m.marks in
-    inside_append n _ es
-    (inside_append n _ (each_below (length p.edges) (kept_entries p))
-    (inside_append n _ (each_below (length p.edges) (low_entry p))
-    (inside_append n _ (each_below n (head_entries m))
-    (inside_append n (each_below n (mark_entry m)) (entry.Count m.count ∷ [])
-    (inside_below n n (mark_entry m) (omega arith) (λ q inside. (inside, tt)))
-    (tt, tt))
-    (inside_below n n (head_entries m) (omega arith) (λ q inside. inside_numbered n (entry.Head q) (λ j x. inside) (used_of m q) (waiting_of m q))))
-    (any_below n (length p.edges) (low_entry p) (λ t. (tt, tt))))
-    (any_below n (length p.edges) (kept_entries p) (λ t. inside_numbered n (entry.Kept t) (λ j x. tt) (buffer_at p t).low (buffer_at p t).items)))
-    (inside_keyed n es keyed)
-
--- ---- the operator's entries, each the next one
 
 next_append : (spec : OpSpec) (acc xs ys : List Entry) → AllNext spec acc xs → AllNext spec (fold keyed_step acc xs) ys → AllNext spec acc (xs ++ ys)
 next_append spec acc [] ys left right = right

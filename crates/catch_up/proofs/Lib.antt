@@ -1,8 +1,9 @@
 pub mod Allowed
 pub mod Buffers
 pub mod Ends
-pub mod Fitting
 pub mod Folds
+pub mod KeyedEntries
+pub mod Lows
 pub mod Refilled
 pub mod Steps
 pub mod Whole

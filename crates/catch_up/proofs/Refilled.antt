@@ -14,7 +14,6 @@ use Rattle.flux_producer.specs.ProducerView.{ProducerView, buffer_at}
 use Rattle.stream_ops.specs.Entries.{IsKeyed}
 use Rattle.state_mover.specs.MoveList.{head_entries, kept_entries, low_entry, mark_entry, move_list, used_of}
 use Rattle.tuple_edge.specs.Entries.{each_below, numbered}
-use Rattle.state_mover.specs.Pieces.{AreFilled}
 use Rattle.catch_up.specs.Rebuild.{buffer_of, buffers_in, buffers_step, without_spare}
 use Rattle.catch_up.proofs.Steps.{AllKeyed, at_below, fold_six, length_below, set_set, skip_below, skip_keyed, skip_numbered}
 
@@ -138,8 +137,8 @@ module _ (m : MergeView) (p : ProducerView) (es : List Entry) (keyed : AllKeyed 
   refilled_all = fold buffers_step (lows (length p.edges)) (each_below (length p.edges) (kept_entries p))
 
   -- the buffers are those of the beginning, their room left aside
-  pub buffers_whole : AreFilled p → buffers_in (move_list m p es) ≡ map (λ e. without_spare e.buffer) p.edges
-  buffers_whole numbered_all =
+  pub buffers_whole : ((t : ℕ) → t < length p.edges → length (buffer_at p t).items ≡ (buffer_at p t).produced - (buffer_at p t).low) → buffers_in (move_list m p es) ≡ map (λ e. without_spare e.buffer) p.edges
+  buffers_whole exact =
       buffers_parts
       ∙ ext_get_or (starting_at 0 0) refilled_all (map (λ e. without_spare e.buffer) p.edges) (long ∙ sym (length-map p.edges (λ e. without_spare e.buffer))) (λ t inside. at t (omega (arith, long, inside)))
     where
@@ -157,5 +156,5 @@ module _ (m : MergeView) (p : ProducerView) (es : List Entry) (keyed : AllKeyed 
           at_below (starting_at 0 0) buffers_step (kept_entries p) (λ t b. fold again b (buffer_at p t).items) (λ t bs inside. kept_edge t (buffer_at p t).low (buffer_at p t).items bs inside)
           (length p.edges) (lows (length p.edges)) t (omega (arith, lows_long)) (omega (arith, lows_long, inside))
           ∙ rw below (ap (λ b. fold again b (buffer_at p t).items) (lows_at (length p.edges) t inside))
-          ∙ refilled (buffer_at p t) (numbered_all t inside).exact
+          ∙ refilled (buffer_at p t) (exact t inside)
           ∙ sym (get_or-map (λ e. without_spare e.buffer) p.edges t unused (starting_at 0 0) inside)

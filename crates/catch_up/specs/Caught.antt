@@ -1,36 +1,31 @@
 -- What a newcomer is given, and what it is once it has caught up.
-use Rattle.std.specs.Prelude.{◌≡◌, ℕ, ◌<◌, ◌≤◌, List, length, map}
+use Rattle.std.specs.Prelude.{◌≡◌, ℕ, ◌-◌, ◌<◌, List, length, map}
 use Rattle.std.specs.List.{All}
 use Rattle.tuple_edge.specs.declared.item.Item.{Item}
 use Rattle.tuple_edge.specs.declared.packet.Entry.{Entry}
 use Rattle.merge_order.specs.MergeView.{MergeView, mark_of}
 use Rattle.flux_consumer.specs.ConsumerView.{over}
-use Rattle.flux_producer.specs.Limits.{max_copies}
-use Rattle.flux_producer.specs.ProducerView.{ProducerView, contents_of, over_buffers}
+use Rattle.flux_producer.specs.ProducerView.{ProducerView, buffer_at, contents_of, over_buffers}
 use Rattle.stream_ops.specs.Entries.{entries}
-use Rattle.stream_ops.specs.Spec.{IsSpec}
 use Rattle.stream_ops.specs.State.{rebuilt}
 use Rattle.stream_ops.specs.Times.{IsTimely}
 use Rattle.stream_ops.specs.declared.spec.OpSpec.{OpSpec}
 use Rattle.state_mover.specs.MoveList.{move_list}
-use Rattle.state_mover.specs.Pieces.{AreFilled, IsMerge}
+use Rattle.state_mover.specs.Pieces.{IsMerge}
 use Rattle.catch_up.specs.Fold.{AllRising, IsRunFrom}
 use Rattle.catch_up.specs.NewcomerView.{NewcomerView, held_of}
 use Rattle.catch_up.specs.Rebuild.{folded}
 use Rattle.catch_up.specs.declared.newcomer.CaughtUp.{CaughtUp}
 
--- the entries are the whole list of a move: of a merge of so many in-edges, a producer whose targets have so many replicas, and an operator
--- of these settings after some items
-pub record IsWholeMove (edges copies : ℕ) (spec : OpSpec) (taken : List Entry) : Type 0 where
+-- the entries are the whole list of a move: of a merge of so many in-edges, a producer of which each buffer holds as many items as its numbers
+-- say, and an operator of these settings after some items
+pub record IsWholeMove (edges : ℕ) (spec : OpSpec) (taken : List Entry) : Type 0 where
   pub merge : MergeView
   pub producer : ProducerView
   pub items : List Item
   pub merges : IsMerge merge
   pub edges_are : length merge.marks ≡ edges
-  pub filled : AreFilled producer
-  pub some : 1 ≤ copies
-  pub few : copies ≤ max_copies
-  pub settings : IsSpec spec
+  pub exact : (t : ℕ) → t < length producer.edges → length (buffer_at producer t).items ≡ (buffer_at producer t).produced - (buffer_at producer t).low
   pub timely : All IsTimely items
   pub list : taken ≡ move_list merge producer (entries spec items)
 
@@ -47,4 +42,4 @@ pub record IsCaughtUp (n : NewcomerView) (spec : OpSpec) (stage part copies : �
 -- whatever pieces the entries tell of, it is these
 abbrev pub CatchesUp : NewcomerView → OpSpec → ℕ → ℕ → ℕ → CaughtUp → Type 0
 CatchesUp n spec stage part copies c =
-    (w : IsWholeMove (length n.held) copies spec n.taken) → IsCaughtUp n spec stage part copies c w.merge w.producer w.items
+    (w : IsWholeMove (length n.held) spec n.taken) → IsCaughtUp n spec stage part copies c w.merge w.producer w.items

@@ -1,6 +1,5 @@
 -- What the entries of a move make, one after another; and the fold-in of the tuples that are held.
-use Rattle.std.specs.Prelude.{ℕ, ◌+◌, ◌-◌, ◌<◌, List, [], ◌∷◌, ◌++◌, fold, length, min, replicate, slice_index_or, slice_set, zero, suc}
-use Rattle.tuple_edge.specs.Limits.{number_limit}
+use Rattle.std.specs.Prelude.{ℕ, ◌-◌, List, [], ◌∷◌, ◌++◌, fold, length, min, replicate, slice_index_or, slice_set, zero, suc}
 use Rattle.tuple_edge.specs.declared.item.Item.{Item}
 use Rattle.tuple_edge.specs.declared.packet.Entry.{Entry}
 use Rattle.tuple_edge.specs.declared.packet.Entry.TheVariants as entry
@@ -11,7 +10,7 @@ use Rattle.merge_order.specs.MergeView.{MergeView, after_offer, starting}
 
 -- ---- the merge
 
--- the marks of the in-edges, each less by the items that wait: those are offered again
+-- the marks of the in-edges, each less by the items that wait: those are offered again; an entry of an edge that isn't there changes nothing
 abbrev pub marks_step : List ℕ → Entry → List ℕ
 marks_step marks (entry.Mark q upto) = slice_set marks q upto
 marks_step marks (entry.Count count) = marks
@@ -47,19 +46,6 @@ heads_step m (entry.Keyed k slot a b c) = m
 abbrev pub merge_in : ℕ → List Entry → MergeView
 merge_in edges es = fold heads_step (starting (marks_in edges es) (count_in es)) es
 
--- the entry's in-edge is there
-abbrev pub IsInside : ℕ → Entry → Type 0
-IsInside edges (entry.Mark q upto) = q < edges
-IsInside edges (entry.Count count) = Unit {0}
-IsInside edges (entry.Head q number item) = q < edges
-IsInside edges (entry.Low t low produced) = Unit {0}
-IsInside edges (entry.Kept t number item) = Unit {0}
-IsInside edges (entry.Keyed k slot a b c) = Unit {0}
-
-abbrev pub AllInside : ℕ → List Entry → Type 0
-AllInside edges [] = Unit {0}
-AllInside edges (e ∷ es) = IsInside edges e × AllInside edges es
-
 -- ---- the buffers, their room left aside
 
 abbrev pub without_spare : BufferView → BufferView
@@ -68,7 +54,7 @@ without_spare b = record b { spare = 0 }
 abbrev pub buffer_of : List BufferView → ℕ → BufferView
 buffer_of bs t = slice_index_or bs t (starting_at 0 0)
 
--- a buffer begins with low as moved and nothing above it produced, and produces again what is kept
+-- a buffer begins with low as moved and nothing above it produced, and produces again what is kept; an item of a buffer that isn't there changes nothing
 abbrev pub buffers_step : List BufferView → Entry → List BufferView
 buffers_step bs (entry.Mark q upto) = bs
 buffers_step bs (entry.Count count) = bs
@@ -79,19 +65,6 @@ buffers_step bs (entry.Keyed k slot a b c) = bs
 
 abbrev pub buffers_in : List Entry → List BufferView
 buffers_in es = fold buffers_step [] es
-
--- the entry's out-edge is there, and its numbers are within their limit
-abbrev pub Fits : List BufferView → Entry → Type 0
-Fits bs (entry.Mark q upto) = Unit {0}
-Fits bs (entry.Count count) = Unit {0}
-Fits bs (entry.Head q number item) = Unit {0}
-Fits bs (entry.Low t low produced) = low < number_limit
-Fits bs (entry.Kept t number item) = (t < length bs) × ((buffer_of bs t).produced + 1 < number_limit)
-Fits bs (entry.Keyed k slot a b c) = Unit {0}
-
-abbrev pub AllFit : List BufferView → List Entry → Type 0
-AllFit bs [] = Unit {0}
-AllFit bs (e ∷ es) = Fits bs e × AllFit (buffers_step bs e) es
 
 -- ---- the operator's state
 

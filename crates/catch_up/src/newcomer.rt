@@ -1,18 +1,18 @@
 // The newcomer: what it took of the move, and what it holds meanwhile.
-ghost use Rattle.catch_up.specs.Caught.{CatchesUp, IsWholeMove};
+ghost use Rattle.catch_up.specs.Caught.{CatchesUp};
 ghost use Rattle.catch_up.specs.Fold.{AllRising};
 ghost use Rattle.catch_up.specs.NewcomerView.{after_chunk, after_hold, begun, entry_at, held_of, hold_of, is_held, took_of};
-ghost use Rattle.catch_up.specs.Rebuild.{AllFit, AllInside, AllNext, buffers_in, folded, keyed_in, merge_in};
+ghost use Rattle.catch_up.specs.Rebuild.{AllNext, buffers_in, folded, keyed_in, merge_in};
 ghost use Rattle.flux_consumer.specs.ConsumerView.{over};
 ghost use Rattle.flux_producer.specs.Limits.{max_copies};
 ghost use Rattle.flux_producer.specs.ProducerView.{contents_of, over_buffers};
 ghost use Rattle.stream_ops.specs.Spec.{IsSpec};
 ghost use Rattle.stream_ops.specs.State.{rebuilt};
 ghost use Rattle.std.specs.Map.{keys_of};
-ghost use Rattle.std.specs.Prelude.{◌≡◌, ◌≤◌, ◌<◌, ◌+◌, ◌^◌, [], ◌↔◌, false, IfOk, IfNone, IfSome, IsSome, IsTrue, OnErr, OnOk, length, replicate, slice_get};
+ghost use Rattle.std.specs.Prelude.{◌≡◌, ◌≤◌, ◌<◌, ◌+◌, ◌^◌, [], ◌↔◌, false, None, IfOk, IfNone, IfSome, IsSome, IsTrue, OnErr, OnOk, length, replicate, slice_get};
 
 use crate::held::Held;
-use crate::rebuild::{buffers_of, fold_in, merge_of, state_of};
+use crate::rebuild::{buffers_of, fold_in, lows_in, merge_of, state_of};
 use flux_consumer::Consumer;
 use flux_producer::Producer;
 use std::alloc::Global;
@@ -143,15 +143,13 @@ impl Newcomer {
         copies: u32,
     ) -> Result<CaughtUp, OutOfMemory>
         requires spec { IsSpec spec }
-        requires edges { 1 ≤ length self.now.held }
-        requires inside { AllInside (length self.now.held) self.now.taken }
-        requires fit { AllFit [] self.now.taken }
-        requires next { AllNext spec [] self.now.taken }
         requires some { 1 ≤ copies }
         requires few { copies ≤ max_copies }
+        requires edges { 1 ≤ length self.now.held }
         ensures consumer { IfOk result (λ caught. caught.consumer ≡ over (folded (merge_in (length self.now.held) self.now.taken) self.now.held)) }
         ensures producer { IfOk result (λ caught. contents_of caught.producer ≡ contents_of (over_buffers stage part copies (buffers_in self.now.taken))) }
-        ensures state { IfOk result (λ caught. caught.state ≡ rebuilt spec (keyed_in self.now.taken)) }
+        ensures state { IfOk result (λ caught. AllNext spec [] self.now.taken → caught.state ≡ rebuilt spec (keyed_in self.now.taken)) }
+        ensures settings { IfOk result (λ caught. (caught.state.spec ≡ spec) × (caught.state.old ≡ None)) }
         ensures rising { IfOk result (λ _. AllRising self.now.held (length self.now.held)) }
     {
         let mut merge = merge_of(self.alloc, self.held.len() as u32, &self.taken)?;
@@ -167,7 +165,7 @@ impl Newcomer {
         })
     }
 
-    // What the whole list of a move and the items held make.
+    // The same, with what it is where the entries are the whole list of a move.
     fn catch_up(
         &self,
         spec: OpSpec,
@@ -175,8 +173,14 @@ impl Newcomer {
         part: u32,
         copies: u32,
     ) -> Result<CaughtUp, OutOfMemory>
-        requires whole { IsWholeMove (length self.now.held) copies spec self.now.taken }
-        ensures { IfOk result (CatchesUp self.now spec stage part copies) }
+        requires spec { IsSpec spec }
+        requires some { 1 ≤ copies }
+        requires few { copies ≤ max_copies }
+        requires edges { 1 ≤ length self.now.held }
+        ensures rebuilds { IfOk result (CatchesUp self.now spec stage part copies) }
+        ensures merges { IfOk result (λ caught. caught.consumer ≡ over (folded (merge_in (length self.now.held) self.now.taken) self.now.held)) }
+        ensures sends { IfOk result (λ caught. contents_of caught.producer ≡ contents_of (over_buffers stage part copies (buffers_in self.now.taken))) }
+        ensures settings { IfOk result (λ caught. (caught.state.spec ≡ spec) × (caught.state.old ≡ None)) }
     {
         self.rebuild(spec, stage, part, copies)
     }
@@ -191,6 +195,9 @@ impl Newcomer {
     /// Ends the catch-up, where it is of this incarnation and all entries were taken: rebuilds what
     /// they tell of, and folds in what is held. Then the newcomer is empty. None exactly where the
     /// incarnations differ or another number of entries was taken.
+    ///
+    /// Any entries may have been taken. Those of edges that aren't there are passed over, and numbers
+    /// past their limit are answered as want of memory.
     pub fn end(
         &mut self,
         inc: u64,
@@ -200,9 +207,17 @@ impl Newcomer {
         part: u32,
         copies: u32,
     ) -> Result<Option<CaughtUp>, OutOfMemory>
-        requires whole { inc ≡ self.old.inc → count ≡ length self.old.taken → IsWholeMove (length self.old.held) copies spec self.old.taken }
+        requires spec { IsSpec spec }
+        requires some { 1 ≤ copies }
+        requires few { copies ≤ max_copies }
+        requires edges { 1 ≤ length self.old.held }
         ensures known { IfOk result (λ ended. IsSome ended ↔ ((inc ≡ self.old.inc) × (count ≡ length self.old.taken))) }
         ensures rebuilds { IfOk result (λ ended. IfSome ended (CatchesUp self.old spec stage part copies)) }
+
+        // Whatever was taken.
+        ensures merges { IfOk result (λ ended. IfSome ended (λ c. c.consumer ≡ over (folded (merge_in (length self.old.held) self.old.taken) self.old.held))) }
+        ensures sends { IfOk result (λ ended. IfSome ended (λ c. contents_of c.producer ≡ contents_of (over_buffers stage part copies (buffers_in self.old.taken)))) }
+        ensures settings { IfOk result (λ ended. IfSome ended (λ c. (c.state.spec ≡ spec) × (c.state.old ≡ None))) }
         ensures emptied { IfOk result (λ ended. IfSome ended (λ _. self.new ≡ begun self.old.inc (length self.old.held))) }
         ensures refused { IfOk result (λ ended. IfNone ended (self.new ≡ self.old)) }
         ensures unchanged { OnErr result (self.new ≡ self.old) }
@@ -217,11 +232,25 @@ impl Newcomer {
         Ok(Some(caught))
     }
 
+    /// Its incarnation.
+    pub fn inc(&self) -> u64
+        ensures { result ≡ self.now.inc }
+    {
+        self.inc
+    }
+
     /// How many entries were taken.
     pub fn taken(&self) -> u64
         ensures { result ≡ length self.now.taken }
     {
         self.taken.len() as u64
+    }
+
+    /// Of how many out-edges the entries taken tell. It takes a step for each entry, and no memory.
+    pub fn lows(&self) -> u64
+        ensures { result ≡ length (buffers_in self.now.taken) }
+    {
+        lows_in(&self.taken)
     }
 
     /// The number at a place, from 0, of those that are held of an in-edge, in rising order. None

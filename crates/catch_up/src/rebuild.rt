@@ -1,12 +1,11 @@
 // What the entries of a move make: the merge, the buffers and the operator's state.
-ghost use Rattle.ack_buffer.specs.Buffer.{BufferView, produced_on, starting_at};
+ghost use Rattle.ack_buffer.specs.Buffer.{produced_on, starting_at};
 ghost use Rattle.catch_up.specs.Fold.{AllRising, IsRising};
-ghost use Rattle.catch_up.specs.Rebuild.{AllFit, AllInside, AllNext, Fits, IsInside, IsNextOf, all_offered, buffers_in, buffers_step, count_in, count_step, folded_below, heads_step, keyed_in, keyed_step, marks_in, marks_step, merge_in, without_spare};
+ghost use Rattle.catch_up.specs.Rebuild.{AllNext, IsNextOf, all_offered, buffer_of, buffers_in, buffers_step, count_in, count_step, folded_below, heads_step, keyed_in, keyed_step, marks_in, marks_step, merge_in, without_spare};
 ghost use Rattle.merge_order.specs.MergeView.{MergeView};
 ghost use Rattle.stream_ops.specs.Spec.{IsSpec};
 ghost use Rattle.stream_ops.specs.State.{rebuilt};
-ghost use Rattle.tuple_edge.specs.Limits.{number_limit};
-ghost use Rattle.std.specs.Prelude.{◌≡◌, ◌≤◌, ◌<◌, ◌+◌, [], None, IfOk, OnOk, fold, length, map, replicate};
+ghost use Rattle.std.specs.Prelude.{◌≡◌, ◌≤◌, ◌<◌, ◌-◌, ◌++◌, ◌∷◌, [], None, IfOk, OnOk, fold, length, map, min, replicate, slice_index_or, slice_set};
 
 use crate::held::Held;
 use ack_buffer::AckBuffer;
@@ -15,24 +14,40 @@ use std::alloc::Global;
 use stream_ops::{OpSpec, OpState};
 use tuple_edge::{Entry, Item, OutOfMemory};
 
+// Every number of an item stays below this.
+const LIMIT: u64 = 1 << 62;
+
+// Sets a mark, where the in-edge is there.
+fn set_mark(marks: &mut [u64], at: usize, upto: u64)
+    ensures { marks.new ≡ slice_set marks.old at upto }
+{
+    if at < marks.len() {
+        marks[at] = upto;
+    }
+}
+
+// Lowers a mark by an item that waits, where the in-edge is there.
+fn lower_mark(marks: &mut [u64], at: usize)
+    ensures { marks.new ≡ slice_set marks.old at (slice_index_or marks.old at 0 - 1) }
+{
+    if at < marks.len() {
+        marks[at] = marks[at].saturating_sub(1);
+    }
+}
+
 // Notes the mark of an in-edge, or that one item of it waits.
 fn note_mark(marks: &mut [u64], entry: &Entry)
-    requires { IsInside (length marks.old) entry.now }
     ensures { marks.new ≡ marks_step marks.old entry.now }
 {
     match *entry {
-        Entry::Mark { edge, upto } => marks[edge as usize] = upto,
-        Entry::Head { edge, .. } => {
-            let at = edge as usize;
-            marks[at] = marks[at].saturating_sub(1);
-        }
+        Entry::Mark { edge, upto } => set_mark(marks, edge as usize, upto),
+        Entry::Head { edge, .. } => lower_mark(marks, edge as usize),
         _ => {}
     }
 }
 
 // The marks of the in-edges, less the items that wait.
 fn marks_in(alloc: Global, edges: u32, entries: &[Entry]) -> Result<Vec<u64>, OutOfMemory>
-    requires { AllInside edges entries.now }
     ensures marks { IfOk result (λ marks. marks.items ≡ marks_in edges entries.now) }
     ensures edges { IfOk result (λ marks. length marks.items ≡ edges) }
 {
@@ -64,21 +79,24 @@ fn count_in(entries: &[Entry]) -> u64
     count
 }
 
-// Offers an item that waits.
+// Offers an item that waits, where its in-edge is there.
 fn offer_head(merge: &mut Merge, entry: &Entry) -> Result<(), OutOfMemory>
-    requires { IsInside (length merge.old.marks) entry.now }
+    requires { length merge.old.waiting ≡ length merge.old.marks }
     ensures offers { OnOk result (merge.new ≡ heads_step merge.old entry.now) }
-    ensures edges { OnOk result (length merge.new.marks ≡ length merge.old.marks) }
 {
-    if let Entry::Head { edge, number, item } = *entry {
-        let _offer = merge.offer(edge, number, item)?;
+    let Entry::Head { edge, number, item } = *entry else {
+        return Ok(());
+    };
+    if edge >= merge.edges() {
+        return Ok(());
     }
+    let _offer = merge.offer(edge, number, item)?;
     Ok(())
 }
 
 // Offers the items that wait.
 fn offer_heads(merge: &mut Merge, entries: &[Entry]) -> Result<(), OutOfMemory>
-    requires { AllInside (length merge.old.marks) entries.now }
+    requires { length merge.old.waiting ≡ length merge.old.marks }
     ensures offers { OnOk result (merge.new ≡ fold heads_step merge.old entries.now) }
     ensures edges { OnOk result (length merge.new.marks ≡ length merge.old.marks) }
 {
@@ -90,8 +108,7 @@ fn offer_heads(merge: &mut Merge, entries: &[Entry]) -> Result<(), OutOfMemory>
 
 /// The merge that entries tell of.
 pub(crate) fn merge_of(alloc: Global, edges: u32, entries: &[Entry]) -> Result<Merge, OutOfMemory>
-    requires some { 1 ≤ edges }
-    requires inside { AllInside edges entries.now }
+    requires { 1 ≤ edges }
     ensures merge { IfOk result (λ merge. merge ≡ merge_in edges entries.now) }
     ensures edges { IfOk result (λ merge. length merge.marks ≡ edges) }
 {
@@ -103,12 +120,43 @@ pub(crate) fn merge_of(alloc: Global, edges: u32, entries: &[Entry]) -> Result<M
 
 // Produces an item again.
 fn produce_again(buffer: &mut AckBuffer, item: Item) -> Result<(), OutOfMemory>
-    requires { buffer.old.produced + 1 < number_limit }
     ensures { OnOk result (without_spare buffer.new ≡ without_spare (produced_on buffer.old item)) }
 {
+    // A number past the limit is answered as want of memory.
+    if buffer.produced() >= LIMIT - 1 {
+        return Err(OutOfMemory);
+    }
     buffer.reserve(1)?;
     let _number = buffer.produce(item);
     Ok(())
+}
+
+// Begins a buffer.
+fn begin_buffer(
+    alloc: Global,
+    buffers: &mut Vec<AckBuffer>,
+    upto: u64,
+    produced: u64,
+) -> Result<(), OutOfMemory>
+    ensures { OnOk result (map without_spare buffers.new.items ≡ map without_spare buffers.old.items ++ starting_at upto (min upto produced) ∷ []) }
+{
+    // A number past the limit is answered as want of memory.
+    if upto >= LIMIT {
+        return Err(OutOfMemory);
+    }
+    buffers.push(AckBuffer::starting(alloc, upto, produced.min(upto)))?;
+    Ok(())
+}
+
+// Produces an item of a buffer again, where the buffer is there.
+fn produce_at(buffers: &mut Vec<AckBuffer>, at: usize, item: Item) -> Result<(), OutOfMemory>
+    ensures { OnOk result (map without_spare buffers.new.items
+        ≡ slice_set (map without_spare buffers.old.items) at (without_spare (produced_on (buffer_of (map without_spare buffers.old.items) at) item))) }
+{
+    if at >= buffers.len() {
+        return Ok(());
+    }
+    produce_again(&mut buffers[at], item)
 }
 
 // Begins a buffer, or produces an item of one again.
@@ -117,22 +165,17 @@ fn add_to_buffers(
     buffers: &mut Vec<AckBuffer>,
     entry: &Entry,
 ) -> Result<(), OutOfMemory>
-    requires { Fits (map without_spare buffers.old.items) entry.now }
     ensures { OnOk result (map without_spare buffers.new.items ≡ buffers_step (map without_spare buffers.old.items) entry.now) }
 {
     match *entry {
-        Entry::Low { upto, produced, .. } => {
-            buffers.push(AckBuffer::starting(alloc, upto, produced.min(upto)))?;
-            Ok(())
-        }
-        Entry::Kept { edge, item, .. } => { produce_again(&mut buffers[edge as usize], item) }
+        Entry::Low { upto, produced, .. } => begin_buffer(alloc, buffers, upto, produced),
+        Entry::Kept { edge, item, .. } => produce_at(buffers, edge as usize, item),
         _ => Ok(()),
     }
 }
 
 /// The buffers that entries tell of.
 pub(crate) fn buffers_of(alloc: Global, entries: &[Entry]) -> Result<Vec<AckBuffer>, OutOfMemory>
-    requires { AllFit [] entries.now }
     ensures { IfOk result (λ buffers. map without_spare buffers.items ≡ buffers_in entries.now) }
 {
     let mut buffers = Vec::new(alloc);
@@ -142,11 +185,26 @@ pub(crate) fn buffers_of(alloc: Global, entries: &[Entry]) -> Result<Vec<AckBuff
     Ok(buffers)
 }
 
+/// How many out-edges entries tell of.
+pub(crate) fn lows_in(entries: &[Entry]) -> u64
+    ensures { result ≡ length (buffers_in entries.now) }
+{
+    let mut lows = 0;
+    for entry in entries {
+        let Entry::Low { .. } = *entry else {
+            continue;
+        };
+        lows += 1;
+    }
+    lows
+}
+
 // Puts an entry of the operator back.
 fn put_back(state: &mut OpState, entry: &Entry) -> Result<(), OutOfMemory>
-    requires unwatched { state.old.old ≡ None }
-    requires next { IsNextOf state.old.spec state.old.entries entry.now }
-    ensures { OnOk result (state.new ≡ rebuilt state.old.spec (keyed_step state.old.entries entry.now)) }
+    requires { state.old.old ≡ None }
+    ensures adds { OnOk result (IsNextOf state.old.spec state.old.entries entry.now
+        → state.new ≡ rebuilt state.old.spec (keyed_step state.old.entries entry.now)) }
+    ensures settings { (state.new.spec ≡ state.old.spec) × (state.new.old ≡ None) }
 {
     match *entry {
         Entry::Keyed { .. } => state.put_entry(*entry),
@@ -154,15 +212,15 @@ fn put_back(state: &mut OpState, entry: &Entry) -> Result<(), OutOfMemory>
     }
 }
 
-/// The operator's state that entries tell of.
+/// The operator's state that entries tell of, where they are those of one.
 pub(crate) fn state_of(
     alloc: Global,
     spec: OpSpec,
     entries: &[Entry],
 ) -> Result<OpState, OutOfMemory>
-    requires spec { IsSpec spec }
-    requires next { AllNext spec [] entries.now }
-    ensures { IfOk result (λ state. state ≡ rebuilt spec (keyed_in entries.now)) }
+    requires { IsSpec spec }
+    ensures rebuilt { IfOk result (λ state. AllNext spec [] entries.now → state ≡ rebuilt spec (keyed_in entries.now)) }
+    ensures settings { IfOk result (λ state. (state.spec ≡ spec) × (state.old ≡ None)) }
 {
     let mut state = OpState::new(alloc, spec);
     for entry in entries {

@@ -37,3 +37,9 @@ abbrev pub most_after : OpSpec → List Item → Item → ℕ
 most_after spec before (item.Row stamp row) = most_rows spec
 most_after spec before (item.Mark stamp) = 0
 most_after spec before (item.End stamp) = length (keys_after spec before)
+
+-- at most how many rows answer an item, by what is seen of the state: for the end one for each entry
+abbrev pub most_by : StateView → Item → ℕ
+most_by s (item.Row stamp row) = most_rows s.spec
+most_by s (item.Mark stamp) = 0
+most_by s (item.End stamp) = length s.entries

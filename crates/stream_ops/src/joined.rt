@@ -63,6 +63,7 @@ pub(crate) fn pair(
 ) -> Result<(), OutOfMemory>
     requires width { pos 1 ≤ℤ width.now }
     ensures answers { OnOk result (out.new.items ≡ out.old.items ++ map (row_of_pair row.now.time key.now) (pairs_with (side_row width.now row.now) (other_side left (lookup (is_at (key_cmp (join_key key.now))) join.old.sides.kept)))) }
+    ensures few { OnOk result (length out.new.items ≤ length out.old.items + join.old.rows) }
     ensures keeps { OnOk result (join.new ≡ joined join.old (join_key key.now) (record { left = left; row = side_row width.now row.now })) }
     ensures err { OnErr result ((join.new ≡ join.old) × (out.new.items ≡ out.old.items)) }
 {

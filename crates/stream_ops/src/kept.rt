@@ -86,7 +86,8 @@ pub(crate) fn add_crossing(
     key: &Key,
 )
     requires { vec_len out.old + 1 ≤ vec_capacity out.old }
-    ensures { out.new.items ≡ out.old.items ++ told_crossing limit.now key.now time.now before.now after.now }
+    ensures rows { out.new.items ≡ out.old.items ++ told_crossing limit.now key.now time.now before.now after.now }
+    ensures few { length out.new.items ≤ length out.old.items + 1 }
 {
     if before.is_above(limit) != after.is_above(limit) {
         out.push_reserved(after.row(time, key));
@@ -96,7 +97,8 @@ pub(crate) fn add_crossing(
 // Appends the row that tells of the window that was closed, if any.
 pub(crate) fn add_window(out: &mut Vec<Row>, closed: &Option<OpenWindow>, key: &Key)
     requires { vec_len out.old + 1 ≤ vec_capacity out.old }
-    ensures { out.new.items ≡ out.old.items ++ told_closed key.now closed.now }
+    ensures rows { out.new.items ≡ out.old.items ++ told_closed key.now closed.now }
+    ensures few { length out.new.items ≤ length out.old.items + 1 }
 {
     if let Some(open) = closed {
         out.push_reserved(open.row(key));

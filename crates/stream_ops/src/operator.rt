@@ -1,5 +1,5 @@
 // An operator's settings, with what it keeps for each key.
-ghost use Rattle.std.specs.Prelude.{ℕ, ◌≡◌, ◌∷◌, ◌++◌, [], List, Some, None, IfOk, OnErr, OnOk, length};
+ghost use Rattle.std.specs.Prelude.{ℕ, ◌≡◌, ◌≤◌, ◌+◌, ◌∷◌, ◌++◌, [], List, Some, None, IfOk, OnErr, OnOk, length};
 ghost use Rattle.stream_ops.specs.Answers.{end_answer, row_answer};
 ghost use Rattle.join_stage.specs.Store.{first_where};
 ghost use Rattle.std.specs.Option.{option_and_then};
@@ -150,6 +150,7 @@ impl Operator {
     pub(crate) fn finish(&self, out: &mut Vec<Row>) -> Result<(), OutOfMemory>
         ensures answers { OnOk result ((before : List Item) → KeepsOf self.now before
             → out.new.items ≡ out.old.items ++ end_answer (spec_of self.now) before) }
+        ensures few { OnOk result (length out.new.items ≤ length out.old.items + length (entries_of self.now)) }
         ensures err { OnErr result (out.new.items ≡ out.old.items) }
     {
         match self {
@@ -176,6 +177,7 @@ impl Operator {
         requires sound { IsSound self.old }
         ensures answers { OnOk result ((before : List Item) → KeepsOf self.old before
             → out.new.items ≡ out.old.items ++ row_answer (spec_of self.old) before row.now) }
+        ensures few { OnOk result (length out.new.items ≤ length out.old.items + most_rows (spec_of self.old)) }
         ensures keeps { OnOk result ((before : List Item) (stamp : ℕ) → KeepsOf self.old before
             → KeepsOf self.new (before ++ item.Row stamp row.now ∷ [])) }
         ensures sound { IsSound self.new }
@@ -345,11 +347,12 @@ impl Operator {
         }
     }
 
-    // Puts back an entry.
+    // Puts back an entry. One that tells of a window whose start doesn't fit into 64 bits is of no
+    // state, and is left out.
     pub(crate) fn put(&mut self, alloc: Global, entry: &Entry) -> Result<(), OutOfMemory>
         requires sound { IsSound self.old }
-        requires next { IsNextEntry (spec_of self.old) (entries_of self.old) entry.now }
-        ensures entries { OnOk result (entries_of self.new ≡ entries_of self.old ++ entry.now ∷ []) }
+        ensures entries { OnOk result (IsNextEntry (spec_of self.old) (entries_of self.old) entry.now
+            → entries_of self.new ≡ entries_of self.old ++ entry.now ∷ []) }
         ensures same { (spec_of self.new ≡ spec_of self.old) × (old_of self.new ≡ old_of self.old) }
         ensures sound { IsSound self.new }
         ensures err { OnErr result (self.new ≡ self.old) }
@@ -378,7 +381,10 @@ impl Operator {
                 ref mut windows,
                 ..
             } => {
-                windows.insert(*key, OpenWindow::numbered(c, &width, &sums))?;
+                let Some(window) = OpenWindow::numbered(c, &width, &sums) else {
+                    return Ok(());
+                };
+                windows.insert(*key, window)?;
                 Ok(())
             }
             Operator::Crossing { ref mut totals, .. } => {

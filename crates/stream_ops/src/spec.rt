@@ -2,7 +2,7 @@
 ghost use Rattle.std.specs.Prelude.{◌≡◌};
 ghost use Rattle.stream_ops.specs.Compares.{holds};
 ghost use Rattle.stream_ops.specs.Keys.{key_of};
-ghost use Rattle.stream_ops.specs.Spec.{is_join};
+ghost use Rattle.stream_ops.specs.Spec.{is_join, most_rows};
 
 use tuple_edge::{Column, Key, Row};
 
@@ -88,6 +88,16 @@ impl OpSpec {
         ensures { result ≡ is_join self }
     {
         matches!(self, OpSpec::Join { .. })
+    }
+
+    /// At most how many rows answer one row.
+    pub fn most_rows(&self) -> u64
+        ensures { result ≡ most_rows self.now }
+    {
+        match self {
+            OpSpec::Join { rows, .. } => u64::from(*rows),
+            _ => 1,
+        }
     }
 }
 

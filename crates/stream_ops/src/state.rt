@@ -1,12 +1,12 @@
 // An operator, with what it keeps of the items that it was given.
-ghost use Rattle.std.specs.Prelude.{ℕ, IfSome, slice_get, ◌≡◌, ◌≤◌, ◌∷◌, ◌++◌, [], List, Some, None, IfOk, OnErr, OnOk, length};
+ghost use Rattle.std.specs.Prelude.{ℕ, IfSome, slice_get, ◌≡◌, ◌≤◌, ◌+◌, ◌∷◌, ◌++◌, [], List, Some, None, IfOk, OnErr, OnOk, length};
 ghost use Rattle.stream_ops.specs.Answers.{IsOpen, answer};
 ghost use Rattle.join_stage.specs.Store.{first_where};
 ghost use Rattle.std.specs.Option.{option_and_then};
 ghost use Rattle.stream_ops.specs.Entries.{IsKeyed, entries, is_after, last_place};
 ghost use Rattle.tuple_edge.specs.declared.packet.Entry.{Entry};
 ghost use Rattle.stream_ops.specs.Spec.{IsSpec};
-ghost use Rattle.stream_ops.specs.State.{IsNextEntry, StandsFor, most_after, rebuilt, unseen};
+ghost use Rattle.stream_ops.specs.State.{IsNextEntry, StandsFor, most_after, most_by, rebuilt, unseen};
 ghost use Rattle.stream_ops.specs.Times.{IsTimely};
 ghost use Rattle.tuple_edge.specs.declared.item.Item.{Item};
 
@@ -67,6 +67,9 @@ impl OpState {
             → out.new.items ≡ out.old.items ++ answer self.old.spec before item) }
         ensures stands { OnOk result ((before : List Item) → IsOpen before → StandsFor self.old before
             → StandsFor self.new (before ++ item ∷ [])) }
+
+        // Whatever it was given before.
+        ensures few { OnOk result (length out.new.items ≤ length out.old.items + most_by self.old item) }
         ensures spec { self.new.spec ≡ self.old.spec }
 
         // What was kept when a watch began stays.
@@ -118,15 +121,19 @@ impl OpState {
         Ok(entries)
     }
 
-    /// Puts back one entry, the next one of a state of the same settings.
+    /// Puts back one entry. Any entry may be given; what is promised is of the next one of a state of
+    /// the same settings.
     pub fn put_entry(&mut self, entry: Entry) -> Result<(), OutOfMemory>
         requires unwatched { self.old.old ≡ None }
-        requires next { IsNextEntry self.old.spec self.old.entries entry }
-        ensures adds { OnOk result (self.new ≡ rebuilt self.old.spec (self.old.entries ++ entry ∷ [])) }
+        ensures adds { OnOk result (IsNextEntry self.old.spec self.old.entries entry
+            → self.new ≡ rebuilt self.old.spec (self.old.entries ++ entry ∷ [])) }
 
         // Once all entries after some items are put back, the state stands for these items.
-        ensures stands { OnOk result ((items : List Item) → entries self.old.spec items ≡ self.old.entries ++ entry ∷ []
-            → StandsFor self.new items) }
+        ensures stands { OnOk result (IsNextEntry self.old.spec self.old.entries entry
+            → (items : List Item) → entries self.old.spec items ≡ self.old.entries ++ entry ∷ [] → StandsFor self.new items) }
+
+        // Whatever the entry, and also at want of memory.
+        ensures settings { (self.new.spec ≡ self.old.spec) × (self.new.old ≡ None) }
         ensures err { OnErr result (self.new ≡ self.old) }
     {
         self.operator.put(self.alloc, &entry)

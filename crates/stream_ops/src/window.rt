@@ -1,6 +1,6 @@
 // The open window of a key.
 ghost use Rattle.std.specs.Int.{w64};
-ghost use Rattle.std.specs.Prelude.{◌≡◌, ◌*ℤ◌, ◌≤ℤ◌, pos, FitsSigned};
+ghost use Rattle.std.specs.Prelude.{◌≡◌, ◌*ℤ◌, ◌≤ℤ◌, pos, FitsSigned, SomeIff};
 ghost use Rattle.stream_ops.specs.Windows.{window_of};
 
 use crate::Sums;
@@ -53,12 +53,15 @@ impl OpenWindow {
         )
     }
 
-    // The window of this number, with these sums.
-    pub(crate) fn numbered(number: &i64, width: &i64, sums: &Sums) -> OpenWindow
-        requires { FitsSigned w64 (number.now *ℤ width.now) }
-        ensures { result ≡ record { number = number.now; start = number.now *ℤ width.now; sums = sums.now } }
+    // The window of this number, with these sums. None exactly where its start doesn't fit into 64
+    // bits.
+    pub(crate) fn numbered(number: &i64, width: &i64, sums: &Sums) -> Option<OpenWindow>
+        ensures { SomeIff result (FitsSigned w64 (number.now *ℤ width.now)) (record { number = number.now; start = number.now *ℤ width.now; sums = sums.now }) }
     {
-        OpenWindow::starting(number, &start_of(number, width), sums)
+        match number.checked_mul(*width) {
+            Some(start) => Some(OpenWindow::starting(number, &start, sums)),
+            None => None,
+        }
     }
 
     fn starting(number: &i64, start: &i64, sums: &Sums) -> OpenWindow

@@ -68,7 +68,7 @@ returns-in_ok-closed-in-Window-clause-answers c = λ before keeps.
     let limits : IsSpec (spec_of (operator.Window c.in-Window.by c.in-Window.width c.in-Window.windows)) = (subst (λ (o : Operator). IsSound o) c.in-Window.is c.requires.sound).0 in
     let back : to_z w64 (of_z w64 c.in-Window.width) ≡ c.in-Window.width = omega (arith, ints) in
     let had : Keeps (window_of_rows c.in-Window.width) c.in-Window.by c.in-Window.windows.kept before = subst (λ (o : Operator). KeepsOf o before) c.in-Window.is keeps in
-    c.add_window.ensures
+    c.add_window.ensures.rows
     ∙ ap (λ (rows : List Row). rows ++ told_closed c.key-key-in-Window.result c.in_ok-closed-in-Window.closed) c.in_ok-reserve-in-Window.ensures.items
     ∙ ap (λ (rows : List Row). c.args.out.now.items ++ rows) (window_answered c.in-Window.by c.in-Window.width c.in-Window.windows.kept before c.args.row.now c.key-key-in-Window.result c.in_ok-closed-in-Window.closed had c.key-key-in-Window.ensures (rw back at c.in_ok-closed-in-Window.ensures.closed))
     ∙ ap (λ (o : Operator). c.args.out.now.items ++ row_answer (spec_of o) before c.args.row.now) (sym c.in-Window.is)
@@ -97,7 +97,7 @@ returns-in_ok-after-in-Crossing-clause-answers c = λ before keeps.
     let limits : IsSpec (spec_of (operator.Crossing c.in-Crossing.by c.in-Crossing.limit c.in-Crossing.totals)) = (subst (λ (o : Operator). IsSound o) c.in-Crossing.is c.requires.sound).0 in
     let back : to_z w64 (of_z w64 c.in-Crossing.limit) ≡ c.in-Crossing.limit = omega (arith, ints) in
     let had : Keeps total_of_rows c.in-Crossing.by c.in-Crossing.totals.kept before = subst (λ (o : Operator). KeepsOf o before) c.in-Crossing.is keeps in
-    (rw back at c.add_crossing.ensures)
+    (rw back at c.add_crossing.ensures.rows)
     ∙ ap (λ (rows : List Row). rows ++ told_crossing c.in-Crossing.limit c.key-key-in-Crossing.result c.args.row.now.time c.sums_at-before.result c.in_ok-after-in-Crossing.after) c.in_ok-reserve-in-Crossing.ensures.items
     ∙ ap (λ (rows : List Row). c.args.out.now.items ++ rows) (crossing_answers c.in-Crossing.by c.in-Crossing.limit c.in-Crossing.totals.kept before c.args.row.now c.key-key-in-Crossing.result c.sums_at-before.result c.in_ok-after-in-Crossing.after had c.key-key-in-Crossing.ensures c.sums_at-before.ensures c.in_ok-after-in-Crossing.ensures.sums)
     ∙ ap (λ (o : Operator). c.args.out.now.items ++ row_answer (spec_of o) before c.args.row.now) (sym c.in-Crossing.is)
