@@ -12,7 +12,7 @@ use Rattle.ingress_egress.specs.IngressStands.{IsMade}
 use Rattle.ingress_egress.specs.IngressView.{AreWide, IngressView, MayMake, producer_in}
 use Rattle.ingress_egress.specs.IngressView as code
 use Rattle.ingress_egress.specs.declared.making.Made.TheVariants as made
-use Rattle.ingress_egress.proofs.OnEdges.{made_so, none_made}
+use Rattle.node_edges.proofs.OnEdges.{made_so, none_made}
 use Rattle.pair_machine.specs.CountLaws.{made_for}
 use Rattle.pair_machine.specs.Ingress.{row_of_source}
 use Rattle.pair_machine.proofs.Tests.{nat_not, nat_self}

@@ -1,6 +1,5 @@
 mod EgressSteps
 mod IngressSteps
-mod OnEdges
 mod EachSource
 mod Admitting
 mod EgressPlan

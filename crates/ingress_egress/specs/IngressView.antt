@@ -18,6 +18,7 @@ use Rattle.pair_machine.specs.CountLaws.{made_for}
 use Rattle.pair_machine.specs.Edges.{edge_to}
 use Rattle.pair_machine.specs.Replicas.{which_of}
 use Rattle.node_edges.specs.OutEdges.{HasMade, copy_of, which_at}
+pub use Rattle.node_edges.specs.OutEdges.{MayMakeMore}
 use Rattle.ingress_egress.specs.EgressView.{WorkDone}
 use Rattle.ingress_egress.specs.declared.making.Given.{Given}
 
@@ -126,10 +127,6 @@ input_of given = record { source = given.source; row = given.row }
 abbrev pub any_input_of : Option Given → Option Input
 any_input_of None = None
 any_input_of (Some given) = Some (input_of given)
-
--- each edge of a producer may have so many more items
-abbrev pub MayMakeMore : ℕ → ProducerView → Type 0
-MayMakeMore more y = (t : ℕ) → t < length y.edges → (buffer_at y t).produced + more < number_limit
 
 -- each edge may have so many more items
 abbrev pub MayMake : ℕ → List ProducerView → Type 0

@@ -1,3 +1,4 @@
 pub mod Consumers
+pub mod OnEdges
 pub mod OutEdges
 pub mod Producers

@@ -1,12 +1,13 @@
 -- When a producer in code stands for a producer of the machine: each of its buffers holds the items of its edge that are numbered above
 -- low up to what was made, and its cursors, its term and whether it leads are the machine's.
-use Rattle.std.specs.Prelude.{◌≡◌, ◌<◌, ◌≤◌, ℕ, zero, suc, List, [], ◌∷◌, ◌++◌, Option, None, Some, length, take}
+use Rattle.std.specs.Prelude.{◌≡◌, ◌<◌, ◌≤◌, ◌+◌, ℕ, zero, suc, List, [], ◌∷◌, ◌++◌, Option, None, Some, length, take}
+use Rattle.tuple_edge.specs.Limits.{number_limit}
 use Rattle.tuple_edge.specs.declared.item.Item.{Item}
 use Rattle.tuple_edge.specs.declared.node.EdgeId.{EdgeId}
 use Rattle.tuple_edge.specs.declared.node.Which.{Which}
 use Rattle.tuple_edge.specs.declared.node.Which.TheVariants.{A, B}
 use Rattle.flux_producer.specs.OutEdge.{OutEdgeView, with_item}
-use Rattle.flux_producer.specs.ProducerView.{ProducerView, edge_at, without_room}
+use Rattle.flux_producer.specs.ProducerView.{ProducerView, buffer_at, edge_at, without_room}
 use Rattle.flux_producer.specs.declared.due.Due.{Due as Sending}
 use Rattle.pair_machine.specs.Contents.{between}
 use Rattle.pair_machine.specs.Flow.{Flow}
@@ -66,6 +67,10 @@ pub record HasMade (news : ℕ → List Item) (y z : ProducerView) : Type 0 wher
   pub leads : z.leads ≡ y.leads
   pub targets : length z.edges ≡ length y.edges
   pub edges : (t : ℕ) → t < length y.edges → without_room (edge_at z t) ≡ without_room (with_items (edge_at y t) (news t))
+
+-- each edge of a producer may have so many more items
+abbrev pub MayMakeMore : ℕ → ProducerView → Type 0
+MayMakeMore more y = (t : ℕ) → t < length y.edges → (buffer_at y t).produced + more < number_limit
 
 -- the next items of an edge, of which so many were made, are these
 pub record AreNext (items : List Item) (made later : ℕ) (news : List Item) : Type 0 where

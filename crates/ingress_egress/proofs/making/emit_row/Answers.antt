@@ -6,7 +6,7 @@ use Rattle.flux_producer.specs.ProducerView.{ProducerView, emitted}
 use Rattle.pair_machine.specs.Edges.{edge_to}
 use Rattle.node_edges.specs.OutEdges.{HasMade}
 use Rattle.ingress_egress.proofs.EachSource.{edges_alike, edges_many}
-use Rattle.ingress_egress.proofs.OnEdges.{made_from, made_row}
+use Rattle.node_edges.proofs.OnEdges.{made_from, made_row}
 use Rattle.ingress_egress.proofs.making.emit_row.Goals as goal
 
 pub emit-number-requires-clause-fits : goal.emit-number-requires-clause-fits

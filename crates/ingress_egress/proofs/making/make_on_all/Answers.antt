@@ -1,6 +1,6 @@
 use Rattle.std.proofs.Common.{arith}
 use Rattle.ingress_egress.proofs.EachSource.{alike, fits_alike, wide_alike}
-use Rattle.ingress_egress.proofs.OnEdges.{made_from}
+use Rattle.node_edges.proofs.OnEdges.{made_from}
 use Rattle.ingress_egress.proofs.making.make_on_all.Goals as goal
 
 pub make_each-requires-clause-wide : goal.make_each-requires-clause-wide
