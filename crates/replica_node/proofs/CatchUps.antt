@@ -1,10 +1,10 @@
 -- A newcomer at the end of its move stands for the machine's replica that has caught up.
-use Rattle.std.proofs.Common.{◌≡◌, ℕ, List, length, map, sym, ap, ◌∙◌, subst}
-use Rattle.flux_consumer.specs.ConsumerView.{ConsumerView, over}
+use Rattle.std.proofs.Common.{length, map, sym, ap, ◌∙◌, subst}
+use Rattle.flux_consumer.specs.ConsumerView.{ConsumerView}
 use Rattle.flux_producer.specs.ProducerView.{over_buffers}
 use Rattle.stream_ops.specs.State.{StateView}
 use Rattle.pair_machine.specs.Counts.{flow_of, items_on, made_on}
-use Rattle.pair_machine.specs.Numbers.{Producer, out_edge}
+use Rattle.pair_machine.specs.Numbers.{out_edge}
 use Rattle.pair_machine.specs.Producers.{copies}
 use Rattle.pair_machine.specs.Replicas.{caught_up}
 use Rattle.node_edges.specs.InEdges.{ConsumerStands}

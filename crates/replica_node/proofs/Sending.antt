@@ -1,9 +1,8 @@
 -- The producer of a newcomer that has caught up, in the machine's numbers.
-use Rattle.std.proofs.Common.{◌≡◌, ℕ, zero, suc, ◌+◌, List, [], ◌∷◌, length, map, refl, sym, ap, ◌∙◌, slice_index_or}
+use Rattle.std.proofs.Common.{◌≡◌, ℕ, zero, suc, ◌+◌, List, [], ◌∷◌, length, map, refl, ap, ◌∙◌, slice_index_or}
 use Rattle.std.proofs.lemmas.List.{length-map}
 use Rattle.tuple_edge.specs.declared.item.Item.{Item}
 use Rattle.tuple_edge.specs.declared.node.EdgeId.{EdgeId}
-use Rattle.ack_buffer.specs.Buffer.{BufferView}
 use Rattle.flux_producer.specs.OutEdge.{OutEdgeView, over, unused}
 use Rattle.flux_producer.specs.ProducerView.{ProducerView, edge_at, over_buffers}
 use Rattle.pair_machine.specs.Contents.{between}

@@ -1,6 +1,5 @@
 -- The list of a move, by what is held and by numbers.
 use Rattle.std.proofs.Common.{◌≡◌, ◌<◌, ◌+◌, ℕ, zero, suc, List, [], ◌∷◌, ◌++◌, length, refl, ap, ◌∙◌, arith}
-use Rattle.tuple_edge.specs.declared.item.Item.{Item}
 use Rattle.tuple_edge.specs.declared.packet.Entry.{Entry}
 use Rattle.tuple_edge.specs.declared.packet.Entry.TheVariants as entry
 use Rattle.merge_order.specs.MergeView.{waiting_of}
@@ -10,7 +9,7 @@ use Rattle.pair_machine.specs.Contents as contents
 use Rattle.pair_machine.specs.Counts.{entries_after, made_on}
 use Rattle.pair_machine.specs.Counts as counts
 use Rattle.pair_machine.specs.Numbers.{out_edge}
-use Rattle.state_mover.specs.MoveList.{head_entries, kept_entries, low_entry, mark_entry, used_of}
+use Rattle.state_mover.specs.MoveList.{head_entries, kept_entries, low_entry, mark_entry}
 use Rattle.tuple_edge.specs.Entries.{each_below, numbered}
 use Rattle.replica_node.specs.Moves.{MovesTellTheirNumbers}
 

@@ -13,7 +13,7 @@ use Rattle.plan_reader.specs.Nodes.{sources_of}
 use Rattle.plan_reader.specs.PlanView.{PlanView}
 use Rattle.pair_machine.specs.CountLaws.{IsMerging}
 use Rattle.pair_machine.specs.Counts.{entries_after, flow_of, items_on, made_on}
-use Rattle.pair_machine.specs.Numbers.{Consumer, MoveNumbers, Partition, Producer, in_edge, out_edge}
+use Rattle.pair_machine.specs.Numbers.{MoveNumbers, Partition, Producer, in_edge, out_edge}
 use Rattle.pair_machine.specs.Producers.{copies}
 use Rattle.pair_machine.specs.Replicas.{caught_up, run_up}
 use Rattle.node_edges.specs.InEdges.{ConsumerStands}

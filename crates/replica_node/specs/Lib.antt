@@ -1,2 +1,11 @@
+pub mod Admitted
+pub mod Answering
 pub mod CaughtUp
+pub mod Course
+pub mod IsReplica
 pub mod Moves
+pub mod Phases
+pub mod ReplicaView
+pub mod Rules
+pub mod StandsFor
+pub mod Takers

@@ -1,10 +1,27 @@
-//! What a replica holds, and the numbers that it stands for.
+//! One replica of a pair: it takes, merges, answers and sends, gives its state to its restarted partner,
+//! and gathers its partner's state when it is restarted itself.
 //!
-//! So far: the list that its mover gives is the list of the move's numbers, and a newcomer at the end of
-//! its move has the numbers of the machine's replica that has caught up. The crate stands on catch_up and
-//! node_edges, and on pair_machine for the numbers.
+//! A [`Replica`] runs, gathers or is gone, and has just what it needs in that mode. It promises that each
+//! of its events is its step of the machine of `pair_machine`, and that a packet that a sound machine has
+//! sent is admitted. It stands on flux_consumer and flux_producer for its edges, on stream_ops for its
+//! operator, and on state_mover and catch_up for moves.
 #![tactic(auto)]
 
+mod admission;
+mod answer;
 mod law;
+mod moving;
+mod phase;
+mod replica;
+mod role;
+mod taking;
+mod working;
 
 pub use law::{moves_tell_their_numbers, newcomers_catch_up, pieces_hold_numbers, runs_are_folded};
+pub use phase::Mode;
+// Contracts see what a replica is made of.
+#[doc(hidden)]
+pub use phase::{Phase, Running};
+pub use replica::Replica;
+#[doc(hidden)]
+pub use role::Role;

@@ -1,0 +1,72 @@
+-- A replica's piece of work is a step of its course, and where it had none the machine refuses one.
+use Rattle.std.proofs.Common.{◌≡◌, ◌≤◌, ◌+◌, ◌++◌, [], arith, length, List, Err, Ok, Result, refl, sym, ap, ◌∙◌, subst}
+use Rattle.std.specs.Prelude.{IfOk, OnErr, drop}
+use Rattle.std.proofs.lemmas.List.{append-nil, drop_at, length-append}
+use Rattle.tuple_edge.specs.declared.event.Worked.{Worked}
+use Rattle.tuple_edge.specs.declared.event.Worked.TheVariants as worked
+use Rattle.tuple_edge.specs.declared.memory.OutOfMemory.{OutOfMemory}
+use Rattle.tuple_edge.specs.declared.node.NodeId.{NodeId}
+use Rattle.tuple_edge.specs.declared.packet.Body.{Body}
+use Rattle.tuple_edge.specs.Input.{Input}
+use Rattle.plan_reader.specs.PlanView.{IsPlan, PlanView}
+use Rattle.pair_machine.specs.Contents.{BodyStands}
+use Rattle.pair_machine.specs.Counts.{flow_of}
+use Rattle.pair_machine.specs.Machine.{as_replica, does, replica_in}
+use Rattle.pair_machine.specs.Numbers.{Node, ReplicaNode, RunningNumbers}
+use Rattle.pair_machine.specs.Receivers.{GoOverLinks, appended}
+use Rattle.pair_machine.proofs.Delivered.{delivered}
+use Rattle.replica_node.specs.Course.{IsWorked}
+use Rattle.replica_node.specs.IsReplica.{IsReplica, IsRunning}
+use Rattle.replica_node.specs.ReplicaView.{ReplicaView, node_of}
+use Rattle.replica_node.specs.Rules.{IsWorkOf, contents_in}
+use Rattle.replica_node.specs.StandsFor.{IsOfPlan, StandsFor}
+use Rattle.replica_node.specs.declared.phase.Phase.{Phase}
+use Rattle.replica_node.specs.declared.phase.Running.{Running}
+use Rattle.replica_node.proofs.WorkLinks.{works_few, works_linked}
+use Rattle.replica_node.proofs.WorkSteps.{MergesSo, WorksSo, work_comes}
+
+module _ (plan : PlanView) (rows : List Input) (old : ReplicaView) (after : Phase) (sent : List (NodeId × Body)) where
+  -- whatever numbers it stands for, it works as they do
+  worked_so : (did : Worked) → ((x : Node) → StandsFor plan rows old x → WorksSo plan rows old.role old.phase (replica_in x) after sent did)
+      → IsWorked plan rows old (record { role = old.role; phase = after }) sent did
+  worked_so worked.Idle works = λ n s. ap as_replica (works n s).0
+  worked_so worked.Did works = λ clock a act n s asks.
+      let so = works n s asks.0 in (
+        (ReplicaNode so.0.0, so.0.1),
+        (λ j. does (flow_of plan rows) (node_of old.role) (act j) n) ∙ ap as_replica so.1,
+        record { of_plan = s.of_plan; phase_stands = so.2.stands },
+        λ to. delivered (BodyStands plan rows) (node_of old.role) clock to sent so.0.1 so.2.packets,
+      )
+
+-- the rule of a merge is another one's
+pub work_course : (plan : PlanView) (rows : List Input) → IsPlan plan → (old new : ReplicaView) (sent : List (NodeId × Body)) (did : Worked)
+    → ((x : RunningNumbers) (r : Running) → IsOfPlan plan old.role → IsRunning old.role r → MergesSo plan rows old.role r x)
+    → IsReplica old → IsWorkOf old new sent did → IsWorked plan rows old new sent did
+work_course plan rows is_plan old new sent did merges sound work =
+    subst (λ (v : ReplicaView). IsWorked plan rows old v sent did) (λ i. record { role = sym work.role i; phase = new.phase })
+    (worked_so plan rows old new.phase sent did (λ n s.
+    work_comes plan rows old.role is_plan s.of_plan (λ r x running. merges x r s.of_plan running) old.phase (replica_in n) sound.1 s.phase_stands new.phase sent did work.works))
+
+-- ---- of a call, which may have wanted memory
+
+none_appended : (before later : List (NodeId × Body)) → later ≡ before → appended before later ≡ []
+none_appended before later same = ap (drop (length before)) (same ∙ sym (append-nil before)) ∙ drop_at before [] (length before) refl
+
+pub work_done : (r : Result Worked OutOfMemory) (old new : ReplicaView) (sent : List (NodeId × Body))
+    → ((plan : PlanView) (rows : List Input) → IsPlan plan → IsOfPlan plan old.role → (r : Running) (x : RunningNumbers) → IsRunning old.role r → MergesSo plan rows old.role r x)
+    → IsReplica old → IfOk r (IsWorkOf old new sent) → IfOk r (λ did. (plan : PlanView) (rows : List Input) → IsPlan plan → IsWorked plan rows old new sent did)
+work_done (Ok did) old new sent merges sound work = λ plan rows is_plan. work_course plan rows is_plan old new sent did (λ x r of_plan running. merges plan rows is_plan of_plan r x running) sound work
+work_done (Err e) old new sent merges sound work = tt
+
+pub work_linked : (r : Result Worked OutOfMemory) (old new : ReplicaView) (before later : List (NodeId × Body)) → IsReplica old → IfOk r (IsWorkOf old new (appended before later))
+    → OnErr r ((contents_in new ≡ contents_in old) × (later ≡ before)) → (plan : PlanView) → IsOfPlan plan old.role → GoOverLinks plan (node_of old.role) (appended before later)
+work_linked (Ok did) old new before later sound work same plan of_plan = works_linked plan old.role of_plan old.phase new.phase (appended before later) did sound.1 work.works
+work_linked (Err e) old new before later sound work same plan of_plan = subst (GoOverLinks plan (node_of old.role)) (sym (none_appended before later same.1)) tt
+
+pub work_few : (r : Result Worked OutOfMemory) (old new : ReplicaView) (before later : List (NodeId × Body)) → IfOk r (IsWorkOf old new (appended before later))
+    → OnErr r ((contents_in new ≡ contents_in old) × (later ≡ before)) → later ≡ before ++ appended before later → length later ≤ length before + 1
+work_few (Ok did) old new before later work same more =
+    let one : length (appended before later) ≤ 1 = works_few old.role old.phase new.phase (appended before later) did work.works in
+    let many : length later ≡ length before + length (appended before later) = ap length more ∙ length-append before (appended before later) in
+    omega (arith, one, many)
+work_few (Err e) old new before later work same more = let many : length later ≡ length before = ap length same.1 in omega (arith, many)

@@ -1,0 +1,188 @@
+// Which packets a replica may be given.
+ghost use Rattle.pair_machine.specs.Contents.{BodyStands};
+ghost use Rattle.pair_machine.specs.Counts.{flow_of};
+ghost use Rattle.pair_machine.specs.Links.{link};
+ghost use Rattle.pair_machine.specs.Lists.{Among};
+ghost use Rattle.pair_machine.specs.Machine.{State};
+ghost use Rattle.pair_machine.specs.Messages.{Message};
+ghost use Rattle.pair_machine.specs.Small.{EachOfMessage};
+ghost use Rattle.pair_machine.specs.Sound.{IsSound};
+ghost use Rattle.plan_reader.specs.Nodes.{has_link};
+ghost use Rattle.plan_reader.specs.PlanView.{IsPlan};
+ghost use Rattle.replica_node.specs.Admitted.{IsAdmitted, IsController, IsEntryHere, IsFromHere, IsIntoHere, IsPartner, IsWholeAt, SendsAcks, SendsItems, SendsWants};
+ghost use Rattle.replica_node.specs.Course.{AreTimely};
+ghost use Rattle.replica_node.specs.ReplicaView.{node_of};
+ghost use Rattle.replica_node.specs.StandsFor.{StandsFor};
+ghost use Rattle.std.specs.Prelude.{◌<◌, ◌↔◌, IsTrue, List};
+ghost use Rattle.stream_ops.specs.Times.{IsTimely};
+ghost use Rattle.tuple_edge.specs.Input.{Input};
+ghost use Rattle.tuple_edge.specs.Limits.{number_limit};
+
+use crate::moving::LIMIT;
+use crate::phase::Phase;
+use crate::replica::Replica;
+use crate::role::Role;
+use plan_reader::Plan;
+use stream_ops::MAX_TIME_SECONDS;
+use tuple_edge::{Body, EdgeId, Entry, Item, LinkId, NodeId};
+
+// Whether the time of an item's row, if it has one, is within its limits.
+fn is_timely(item: &Item) -> bool
+    ensures { IsTrue result ↔ IsTimely item.now }
+{
+    match *item {
+        Item::Row { row, .. } => 0 <= row.time && row.time <= MAX_TIME_SECONDS,
+        Item::Mark { .. } | Item::End { .. } => true,
+    }
+}
+
+// Whether a node sends the items of an edge.
+fn sends_items(edge: EdgeId, from: NodeId) -> bool
+    ensures { IsTrue result ↔ SendsItems edge from }
+{
+    match from {
+        NodeId::Ingress => edge.stage == 0,
+        NodeId::Replica { stage, part, .. } => edge.stage == stage && edge.from == part,
+        NodeId::Control { .. } | NodeId::Egress => false,
+    }
+}
+
+impl Role {
+    // Whether an edge leads into the partition.
+    fn is_into(&self, edge: EdgeId) -> bool
+        ensures { IsTrue result ↔ IsIntoHere self.now edge }
+    {
+        u64::from(edge.stage) + 1 == u64::from(self.stage)
+            && edge.to == self.part
+            && edge.from < self.sources
+    }
+
+    // Whether an edge leads from the partition.
+    fn is_from(&self, edge: EdgeId) -> bool
+        ensures { IsTrue result ↔ IsFromHere self.now edge }
+    {
+        edge.stage == self.stage && edge.from == self.part && edge.to < self.targets()
+    }
+
+    // Whether a node acknowledges the items of an edge.
+    fn sends_acks(&self, edge: EdgeId, from: NodeId) -> bool
+        ensures { IsTrue result ↔ SendsAcks self.now edge from }
+    {
+        match from {
+            NodeId::Control { stage, part } => {
+                u64::from(edge.stage) + 1 == u64::from(stage) && edge.to == part
+            }
+            NodeId::Egress => self.next.is_none(),
+            NodeId::Ingress | NodeId::Replica { .. } => false,
+        }
+    }
+
+    // Whether a node may want the items of an edge.
+    fn sends_wants(&self, edge: EdgeId, from: NodeId) -> bool
+        ensures { IsTrue result ↔ SendsWants self.now edge from }
+    {
+        match from {
+            NodeId::Replica { stage, part, .. } => {
+                self.next.is_some()
+                    && u64::from(edge.stage) + 1 == u64::from(stage)
+                    && edge.to == part
+            }
+            NodeId::Ingress | NodeId::Control { .. } | NodeId::Egress => false,
+        }
+    }
+
+    // Whether a node is the controller of the pair.
+    fn is_controller(&self, from: NodeId) -> bool
+        ensures { IsTrue result ↔ IsController self.now from }
+    {
+        match from {
+            NodeId::Control { stage, part } => stage == self.stage && part == self.part,
+            _ => false,
+        }
+    }
+
+    // Whether a node is the partner.
+    fn is_partner(&self, from: NodeId) -> bool
+        ensures { IsTrue result ↔ IsPartner self.now from }
+    {
+        match from {
+            NodeId::Replica { stage, part, which } => {
+                stage == self.stage && part == self.part && which != self.which
+            }
+            _ => false,
+        }
+    }
+
+    // Whether an entry of a move is one of this partition.
+    fn has_entry(&self, entry: &Entry) -> bool
+        ensures { IsTrue result ↔ IsEntryHere self.now entry.now }
+    {
+        match *entry {
+            Entry::Mark { edge, upto } => edge < self.sources && upto < LIMIT,
+            Entry::Head { edge, item, .. } => edge < self.sources && is_timely(&item),
+            Entry::Low { edge, .. } | Entry::Kept { edge, .. } => edge < self.targets(),
+            Entry::Count { .. } | Entry::Keyed { .. } => true,
+        }
+    }
+}
+
+impl Phase {
+    // Whether, where a move ends here, the entries taken tell of each out-edge.
+    fn is_whole(&self, role: &Role, inc: u64, count: u64) -> bool
+        ensures { IsTrue result ↔ IsWholeAt role.now self.now inc count }
+    {
+        match self {
+            Phase::Gathering(newcomer) => {
+                inc != newcomer.inc()
+                    || count != newcomer.taken()
+                    || newcomer.lows() == u64::from(role.targets())
+            }
+            Phase::Running(_) | Phase::Gone { .. } => true,
+        }
+    }
+}
+
+impl Replica {
+    /// Whether a packet from this node may be given to `on`: the plan has the link, which carries such a
+    /// packet; it names an edge between the two; its number and times are within their limits; an entry
+    /// of a move is one of this partition, and where a move ends, the entries taken tell of each out-edge.
+    /// It takes no memory.
+    pub fn admits(&self, plan: &Plan, from: NodeId, body: &Body) -> bool
+        ensures exact { IsTrue result ↔ (IsTrue (has_link plan.now (link from (node_of self.now.role)))
+            × IsAdmitted self.now from body.now) }
+        // Every packet that a sound machine has sent there is admitted, for inputs whose times are within their limits.
+        ensures complete { (rows : List Input) (s : State) (m : Message) →
+            let f = flow_of plan.now rows in
+            let here = node_of self.now.role in
+            IsPlan plan.now → AreTimely rows → IsSound f s → StandsFor plan.now rows self.now (s.nodes here)
+            → EachOfMessage (λ n. n < number_limit) m → Among m (s.sent (link from here))
+            → BodyStands plan.now rows (link from here) body.now m → IsTrue result }
+    {
+        let to = self.id();
+        plan.links(LinkId { from, to }) && self.may_take(from, body)
+    }
+
+    // All that `on` asks for of the replica itself.
+    fn may_take(&self, from: NodeId, body: &Body) -> bool
+        ensures { IsTrue result ↔ IsAdmitted self.now from body.now }
+    {
+        let (role, phase) = (self.role(), self.phase());
+        match *body {
+            Body::Tuple { edge, number, item } => {
+                sends_items(edge, from) && role.is_into(edge) && number < LIMIT && is_timely(&item)
+            }
+            Body::Ack { edge, upto } => {
+                role.sends_acks(edge, from) && role.is_from(edge) && upto < LIMIT
+            }
+            Body::Want { edge, .. } => role.sends_wants(edge, from) && role.is_from(edge),
+            Body::Lead { .. } | Body::Serve { .. } | Body::Begin { .. } | Body::Stop { .. } => {
+                role.is_controller(from)
+            }
+            Body::Chunk { entry, .. } => role.is_partner(from) && role.has_entry(&entry),
+            Body::ChunkEnd { inc, count } => {
+                role.is_partner(from) && phase.is_whole(role, inc, count)
+            }
+            _ => false,
+        }
+    }
+}

@@ -1,0 +1,232 @@
+// The work of a replica that runs: it merges, gives its state to its partner, sends and reports.
+ghost use Rattle.flux_consumer.specs.ConsumerView.{report_of};
+ghost use Rattle.flux_producer.specs.Due.{due_of};
+ghost use Rattle.merge_order.specs.MergeView.{item_of, least};
+ghost use Rattle.node_edges.specs.OutEdges.{which_at};
+ghost use Rattle.pair_machine.specs.Receivers.{appended};
+ghost use Rattle.replica_node.specs.Admitted.{MayWorkIn};
+ghost use Rattle.replica_node.specs.Answering.{HasParts};
+ghost use Rattle.replica_node.specs.IsReplica.{IsRole, IsRunning};
+ghost use Rattle.replica_node.specs.Rules.{Merges, Moves, MovesOrSends, Reports, SendsOrReports, Works, contents_in_phase, contents_in_running, receiver_of, report_packet, tuples_of};
+ghost use Rattle.replica_node.specs.Takers.{IsReadyToWork};
+ghost use Rattle.replica_node.specs.declared.phase.Phase.TheVariants as phase;
+ghost use Rattle.state_mover.specs.MoverView.{MoverView};
+ghost use Rattle.std.specs.Prelude.{◌≡◌, ◌<◌, ◌≤◌, ◌+◌, ◌++◌, ◌∷◌, [], IfOk, None, OnErr, OnOk, Some};
+ghost use Rattle.stream_ops.specs.State.{most_by};
+ghost use Rattle.stream_ops.specs.Times.{IsTimely};
+ghost use Rattle.tuple_edge.specs.Limits.{edge_limit, number_limit};
+ghost use Rattle.tuple_edge.specs.declared.event.Worked.TheVariants as worked;
+
+use crate::answer::{emit_answer, make_room};
+use crate::moving::replica;
+use crate::phase::{Phase, Running};
+use crate::role::Role;
+use flux_producer::Due;
+use state_mover::Moved;
+use stream_ops::OpState;
+use tuple_edge::{Body, EdgeId, Item, NodeId, OutOfMemory, Outbox, Row, Which, Worked};
+
+impl Phase {
+    // Does the first piece of work that is due; only one that runs has any.
+    pub(crate) fn work(
+        &mut self,
+        role: &Role,
+        rows: &mut Vec<Row>,
+        out: &mut Outbox,
+    ) -> Result<Worked, OutOfMemory>
+        requires fits { MayWorkIn self.old }
+        requires ready { IsReadyToWork role.now self.old }
+        ensures works { IfOk result (λ did. Works role.now self.old self.new (appended out.old.packets out.new.packets) did) }
+        ensures packets { out.new.packets ≡ out.old.packets ++ appended out.old.packets out.new.packets }
+        ensures idle { IfOk result (λ did. did ≡ worked.Idle → (self.new ≡ self.old) × (out.new ≡ out.old)) }
+        ensures unchanged { OnErr result ((contents_in_phase self.new ≡ contents_in_phase self.old) × (out.new.packets ≡ out.old.packets)) }
+    {
+        match self {
+            Phase::Running(running) => running.work(role, rows, out),
+            Phase::Gathering(_) | Phase::Gone { .. } => Ok(Worked::Idle),
+        }
+    }
+}
+
+// Room for at most how many rows an item's answer needs.
+fn answer_room(role: &Role, state: &OpState, item: &Item) -> u64
+    requires { state.now.spec ≡ role.now.op }
+    ensures { result ≡ most_by state.now item.now }
+{
+    match item {
+        Item::Row { .. } => role.op.most_rows(),
+        Item::Mark { .. } => 0,
+        Item::End { .. } => state.entry_count(),
+    }
+}
+
+impl Running {
+    // Does the first piece of work that is due.
+    fn work(
+        &mut self,
+        role: &Role,
+        rows: &mut Vec<Row>,
+        out: &mut Outbox,
+    ) -> Result<Worked, OutOfMemory>
+        requires fits { MayWorkIn (phase.Running self.old) }
+        requires ready { IsReadyToWork role.now (phase.Running self.old) }
+        ensures works { IfOk result (λ did. Works role.now (phase.Running self.old) (phase.Running self.new) (appended out.old.packets out.new.packets) did) }
+        ensures packets { out.new.packets ≡ out.old.packets ++ appended out.old.packets out.new.packets }
+        ensures idle { IfOk result (λ did. did ≡ worked.Idle → (self.new ≡ self.old) × (out.new ≡ out.old)) }
+        ensures unchanged { OnErr result ((contents_in_running self.new ≡ contents_in_running self.old) × (out.new.packets ≡ out.old.packets)) }
+    {
+        match self.consumer.peek() {
+            None => self.move_or_send(role, out),
+            Some(item) => {
+                self.merge(role, rows, item)?;
+                Ok(Worked::Did)
+            }
+        }
+    }
+
+    // Merges the next item, which is this one, and produces what answers it. All room is made first.
+    fn merge(&mut self, role: &Role, rows: &mut Vec<Row>, item: Item) -> Result<(), OutOfMemory>
+        requires next { item_of (least self.old.consumer.merge.waiting) ≡ Some item }
+        requires fits { self.old.consumer.merge.count + 1 < number_limit }
+        requires timely { IsTimely item }
+        requires parts { HasParts role.now.next }
+        requires running { IsRunning role.now self.old }
+        ensures merges { OnOk result (Merges role.now item self.old self.new) }
+        ensures unchanged { OnErr result (contents_in_running self.new ≡ contents_in_running self.old) }
+    {
+        let room = answer_room(role, &self.state, &item).saturating_add(1);
+        make_room(&mut self.producer, room)?;
+        rows.clear();
+        self.state.step(item, rows)?;
+        let _merged = self.consumer.next();
+        emit_answer(&mut self.producer, &role.next, item, rows);
+        Ok(())
+    }
+
+    // Gives the next part of its move, or sends, or reports.
+    fn move_or_send(&mut self, role: &Role, out: &mut Outbox) -> Result<Worked, OutOfMemory>
+        requires role { IsRole role.now }
+        requires running { IsRunning role.now self.old }
+        ensures moves { IfOk result (λ did. MovesOrSends role.now self.old self.old.mover (phase.Running self.new) (appended out.old.packets out.new.packets) did) }
+        ensures packets { out.new.packets ≡ out.old.packets ++ appended out.old.packets out.new.packets }
+        ensures idle { IfOk result (λ did. did ≡ worked.Idle → (self.new ≡ self.old) × (out.new ≡ out.old)) }
+        ensures unchanged { OnErr result ((self.new ≡ self.old) × (out.new ≡ out.old)) }
+    {
+        if self.mover.is_some() {
+            out.reserve(1)?;
+            self.move_on(role, out);
+            return Ok(Worked::Did);
+        }
+        self.send_or_report(role, out)
+    }
+
+    // Gives the next part of its move to its partner. After the end the move is over.
+    fn move_on(&mut self, role: &Role, out: &mut Outbox)
+        requires running { IsRunning role.now self.old }
+        requires room { 1 ≤ out.old.spare }
+        ensures moves { (m : MoverView) → self.old.mover ≡ Some m → Moves role.now m self.old self.new (appended out.old.packets out.new.packets) }
+        ensures packets { out.new.packets ≡ out.old.packets ++ appended out.old.packets out.new.packets }
+    {
+        let Some(mover) = &mut self.mover else {
+            return;
+        };
+        let inc = mover.target();
+        match mover.next(&self.state) {
+            None => {}
+            Some(Moved::Chunk { number, entry }) => {
+                out.push(role.partner(), Body::Chunk { inc, number, entry })
+            }
+            Some(Moved::End { count }) => {
+                out.push(role.partner(), Body::ChunkEnd { inc, count });
+                self.mover = None;
+                self.state.unwatch();
+            }
+        }
+    }
+
+    // Sends what is due, or reports the first mark that is above what was told.
+    fn send_or_report(&mut self, role: &Role, out: &mut Outbox) -> Result<Worked, OutOfMemory>
+        requires role { IsRole role.now }
+        ensures sends { IfOk result (λ did. SendsOrReports role.now self.old (due_of self.old.producer) (phase.Running self.new) (appended out.old.packets out.new.packets) did) }
+        ensures packets { out.new.packets ≡ out.old.packets ++ appended out.old.packets out.new.packets }
+        ensures idle { IfOk result (λ did. did ≡ worked.Idle → (self.new ≡ self.old) × (out.new ≡ out.old)) }
+        ensures unchanged { OnErr result ((self.new ≡ self.old) × (out.new ≡ out.old)) }
+    {
+        if self.producer.due().is_none() {
+            return self.report(role, out);
+        }
+        out.reserve(1)?;
+        if let Some((due, item)) = self.producer.send_due() {
+            push_tuple(role, due, item, out);
+        }
+        Ok(Worked::Did)
+    }
+
+    // Reports the first mark that is above what was told to the controller.
+    fn report(&mut self, role: &Role, out: &mut Outbox) -> Result<Worked, OutOfMemory>
+        requires stage { 1 ≤ role.now.stage }
+        ensures reports { IfOk result (λ did. Reports role.now self.old (report_of self.old.consumer) (phase.Running self.new) (appended out.old.packets out.new.packets) did) }
+        ensures packets { out.new.packets ≡ out.old.packets ++ appended out.old.packets out.new.packets }
+        ensures idle { IfOk result (λ did. did ≡ worked.Idle → (self.new ≡ self.old) × (out.new ≡ out.old)) }
+        ensures unchanged { OnErr result ((self.new ≡ self.old) × (out.new ≡ out.old)) }
+    {
+        let Some((edge, upto)) = self.consumer.report_due() else {
+            return Ok(Worked::Idle);
+        };
+        out.reserve(1)?;
+        self.consumer.tell(edge);
+        push_report(role, self.inc, edge, upto, out);
+        Ok(Worked::Did)
+    }
+}
+
+// Sends an item to the replica that it is due to, or to egress.
+fn push_tuple(role: &Role, due: Due, item: Item, out: &mut Outbox)
+    requires stage { role.now.stage + 1 < edge_limit }
+    requires room { 1 ≤ out.old.spare }
+    ensures { out.new.packets ≡ out.old.packets ++ tuples_of role.now due (Some item) }
+{
+    let edge = EdgeId {
+        stage: role.stage,
+        from: role.part,
+        to: due.to,
+    };
+    let number = due.number;
+    let body = Body::Tuple { edge, number, item };
+    out.push(receiver_of(role, due), body);
+}
+
+// The replica at the other end of an edge, or egress.
+fn receiver_of(role: &Role, due: Due) -> NodeId
+    requires { role.now.stage + 1 < edge_limit }
+    ensures { result ≡ receiver_of role.now role.now.next due }
+{
+    match role.next {
+        None => NodeId::Egress,
+        Some(_) => replica(role.stage + 1, due.to, which_at(due.copy)),
+    }
+}
+
+// The replica of this number.
+fn which_at(copy: u32) -> Which
+    ensures { result ≡ which_at copy }
+{
+    match copy {
+        0 => Which::A,
+        _ => Which::B,
+    }
+}
+
+// Reports the mark of an in-edge to the controller.
+fn push_report(role: &Role, inc: u64, edge: u32, upto: u64, out: &mut Outbox)
+    requires stage { 1 ≤ role.now.stage }
+    requires room { 1 ≤ out.old.spare }
+    ensures { out.new.packets ≡ out.old.packets ++ report_packet role.now inc edge upto ∷ [] }
+{
+    let edge = EdgeId {
+        stage: role.stage - 1,
+        from: edge,
+        to: role.part,
+    };
+    out.push(role.controller(), Body::Report { inc, edge, upto });
+}
