@@ -1,5 +1,5 @@
 // The join by itself: pairs worked out by hand, and the rows that it keeps, also under a watch.
-use join_stage::{JoinKey, JoinState, Pair};
+use join_stage::{JoinKey, JoinState, Kept, Pair};
 use std::process::Abort;
 use std::test::Fail;
 
@@ -87,5 +87,38 @@ fn tells_the_last_rows_of_both_sides(rt: HostRuntime) -> Result<(), Fail> {
     assert_eq!(rt; told(&join, true, key, 1), Some((4, 1, 100, 570)));
     join.unwatch();
     assert_eq!(rt; join.old_after(None).is_none(), true);
+    Ok(())
+}
+
+// Rows that are put back are kept on the side that their slot tells, and paired as if they had come.
+#[test]
+fn puts_rows_back(rt: HostRuntime) -> Result<(), Fail> {
+    let mut join = JoinState::new(rt.alloc(), 2);
+    let key = JoinKey {
+        account: 7,
+        symbol: 0,
+    };
+    let rows = [
+        (0, 0, -100, 570),
+        (1, 0, 900, 571),
+        (4, 1, 100, 570),
+        (5, 2, 200, 570),
+    ];
+    for (slot, qty, value, window) in rows {
+        join.put(Kept {
+            key,
+            slot,
+            qty,
+            value,
+            window,
+        })?;
+    }
+    assert_eq!(rt; join.entry_count(), 4);
+    assert_eq!(rt; told(&join, false, key, 0), Some((1, 0, 900, 571)));
+    assert_eq!(rt; told(&join, false, key, 1), Some((4, 1, 100, 570)));
+    assert_eq!(rt; told(&join, false, key, 4), Some((5, 2, 200, 570)));
+    let mut out = Vec::new(rt.alloc());
+    join.step(key, true, 570, 0, 5, &mut out)?;
+    assert_eq!(rt; out.as_slice(), [pair(1, 105), pair(2, 205)].as_slice());
     Ok(())
 }
