@@ -1,5 +1,6 @@
 -- Blanks at the ends of a field.
-use Rattle.std.proofs.Common.{ℕ, ◌≡◌, ◌&&◌, Bool, true, false, cond, List, [], ◌∷◌, ◌++◌, length, refl, sym, ap, ◌∙◌, arith}
+use Rattle.std.proofs.Common.{ℕ, ◌≡◌, ◌&&◌, IsTrue, nat_lt, Bool, true, false, cond, List, [], ◌∷◌, ◌++◌, length, refl, sym, ap, ◌∙◌, arith}
+use Rattle.std.proofs.lemmas.Bool.Decides.{nat_tests}
 use Rattle.plan_reader.specs.Lines.{is_blank}
 use Rattle.trade_text.specs.Fields.{drop_blanks, is_none_left, trim_end}
 
@@ -47,3 +48,7 @@ pub trim_end-none : (field : List ℕ) → length field ≡ 0 → trim_end field
 unfolding trim_end
 trim_end-none [] e = refl
 trim_end-none (b ∷ field) e = absurd (omega arith)
+
+-- a byte above the blanks is none
+pub above_blanks : (b : ℕ) → IsTrue (nat_lt 32 b) → is_blank b ≡ false
+above_blanks b above = grind (arith, nat_tests)

@@ -1,11 +1,12 @@
 // The fields of trades and cash movements, each from its text. The forms and limits are this crate's own.
 ghost use Rattle.std.specs.List.{list_all};
-ghost use Rattle.std.specs.Prelude.{◌==◌, ◌≡◌, neg_ℤ, pos, ◌+◌, ◌*◌, ◌<◌, ◌≤◌, IfOk, IfSome, length, option_map, position};
+ghost use Rattle.std.specs.Prelude.{◌==◌, ◌≡◌, neg_ℤ, pos, ◌+◌, ◌*◌, ◌<◌, ◌≤◌, IfOk, IfSome, IsTrue, Err, length, option_map, position};
 ghost use Rattle.std.specs.Str.{str_eq_ignore_ascii_case};
 ghost use Rattle.plan_reader.specs.Lines.{is_blank};
 ghost use Rattle.trade_text.specs.Fields.{account_of, amount_of, cents_of, clock_of, digits_of, drop_blanks, fraction_of, is_symbol, is_symbol_byte, number_between, one_or_two_digits, price_of, qty_of, ranged, seconds_of_day, side_of, split_once, time_of, trim_blanks, trim_end, two_digits};
 ghost use Rattle.trade_text.specs.Limits.{max_account, max_amount, max_cents, max_qty, max_second_of_day, max_seconds};
 ghost use Rattle.trade_text.specs.TradesView.{IsBetween};
+ghost use Rattle.trade_text.specs.declared.fields.Fault.TheVariants as fault;
 
 use plan_reader::number_of;
 
@@ -75,11 +76,46 @@ fn without_back(text: &[u8]) -> &[u8]
     rest
 }
 
-// A text without blanks at either end.
-pub(crate) fn trimmed(text: &[u8]) -> &[u8]
+// Whether a text begins with a byte above the blanks.
+#[inline(always)]
+fn begins_bare(text: &[u8]) -> bool
+    ensures { IsTrue result → drop_blanks text.now ≡ text.now }
+{
+    match text.split_first() {
+        None => false,
+        Some((first, _)) => *first > b' ',
+    }
+}
+
+// Whether a text ends with a byte above the blanks.
+#[inline(always)]
+fn ends_bare(text: &[u8]) -> bool
+    ensures { IsTrue result → trim_end text.now ≡ text.now }
+{
+    match text.split_last() {
+        None => false,
+        Some((last, _)) => *last > b' ',
+    }
+}
+
+// A text without blanks at either end, looked for byte by byte.
+#[cold]
+#[inline(never)]
+fn without_blanks(text: &[u8]) -> &[u8]
     ensures { result.now ≡ trim_blanks text.now }
 {
     without_back(without_front(text))
+}
+
+// A text without blanks at either end. Most fields have none, which their first and last bytes tell.
+#[inline(always)]
+pub(crate) fn trimmed(text: &[u8]) -> &[u8]
+    ensures { result.now ≡ trim_blanks text.now }
+{
+    if begins_bare(text) && ends_bare(text) {
+        return text;
+    }
+    without_blanks(text)
 }
 
 // Whether a text is this word, in either case.
@@ -185,14 +221,29 @@ fn clock_of(front: &[u8], back: &[u8]) -> Result<u64, Fault>
     seconds_of_day(hours, minutes, seconds)
 }
 
-// A time in seconds: a number of them, or a time of day.
-pub(crate) fn time_of(text: &[u8]) -> Result<u64, Fault>
+// A time of a text that is no number.
+#[inline(never)]
+fn time_of_day(text: &[u8]) -> Result<u64, Fault>
+    requires { number_between 0 max_seconds text.now ≡ Err fault.Form }
     ensures value { result ≡ time_of text.now }
     ensures within { IfOk result (λ time. time ≤ max_seconds) }
 {
     match split_once(text, b':') {
-        None => number_between(text, 0, MAX_SECONDS),
+        None => Err(Fault::Form),
         Some((front, back)) => clock_of(front, back),
+    }
+}
+
+// A time in seconds: a number of them, or a time of day. Most are numbers, in which no colon is looked for.
+#[inline(always)]
+pub(crate) fn time_of(text: &[u8]) -> Result<u64, Fault>
+    ensures value { result ≡ time_of text.now }
+    ensures within { IfOk result (λ time. time ≤ max_seconds) }
+{
+    match number_between(text, 0, MAX_SECONDS) {
+        Ok(seconds) => Ok(seconds),
+        Err(Fault::Range) => Err(Fault::Range),
+        Err(Fault::Form) => time_of_day(text),
     }
 }
 
@@ -279,6 +330,7 @@ fn total_of(most: u64, units: u64, cents: u64) -> Result<u64, Fault>
 }
 
 // Money in cents, up to a limit: digits, or digits with a point and one or two digits.
+#[inline(always)]
 fn cents_of(most: u64, text: &[u8]) -> Result<u64, Fault>
     requires { most ≤ max_amount }
     ensures value { result ≡ cents_of most text.now }
@@ -300,6 +352,7 @@ fn cents_of(most: u64, text: &[u8]) -> Result<u64, Fault>
 }
 
 // A price in cents.
+#[inline(always)]
 pub(crate) fn price_of(text: &[u8]) -> Result<u64, Fault>
     ensures value { result ≡ price_of text.now }
     ensures within { IfOk result (λ cents. cents ≤ max_cents) }

@@ -61,6 +61,7 @@ pub(crate) fn located<T, F: FileField>(
 }
 
 // The field at a place, without blanks at its ends.
+#[inline(always)]
 pub(crate) fn text_at<'a>(fields: &'a ByteRecord, place: usize) -> &'a [u8]
     ensures { result.now ≡ text_at (fields_of fields.now) place }
 {

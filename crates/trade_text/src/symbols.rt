@@ -1,7 +1,8 @@
 // Symbols, numbered from 1 by first appearance.
-ghost use Rattle.std.specs.Prelude.{◌≡◌, ◌≤◌, [], length, IfOk, IfSome, OnErr, option_map};
-ghost use Rattle.trade_text.specs.Limits.{max_symbols};
-ghost use Rattle.trade_text.specs.Symbols.{numbered, symbol_at};
+ghost use Rattle.std.specs.Prelude.{◌≡◌, ◌≤◌, [], None, length, IfOk, IfSome, IsSome, OnErr, option_map, true};
+ghost use Rattle.trade_text.specs.Fields.{is_symbol};
+ghost use Rattle.trade_text.specs.Limits.{max_symbol_bytes, max_symbols};
+ghost use Rattle.trade_text.specs.Symbols.{number_in, numbered, symbol_at};
 
 use indexmap::IndexSet;
 use std::alloc::Global;
@@ -24,13 +25,13 @@ impl Model for Symbols {
     ghost use Rattle.std.specs.Prelude.{ℕ, ◌≤◌, List};
     ghost use Rattle.indexmap.specs.IndexSet.{index_set_len};
     ghost use Rattle.trade_text.specs.Limits.{max_symbols};
-    ghost use Rattle.trade_text.specs.Symbols.{texts};
+    ghost use Rattle.trade_text.specs.Symbols.{AreSymbols, texts};
 
     ghost Value = { List (List ℕ) };
 
     ghost view = { λ s. texts s.names.keys };
 
-    ghost invariant = { λ s. index_set_len s.names ≤ max_symbols };
+    ghost invariant = { λ s. (index_set_len s.names ≤ max_symbols) × AreSymbols s.names.keys };
 }
 
 impl Symbols {
@@ -43,17 +44,28 @@ impl Symbols {
         }
     }
 
-    // The number of a symbol, which becomes known where it is new. None where it is new and no more
-    // fit.
-    pub(crate) fn number(&mut self, alloc: Global, name: &[u8]) -> Result<Option<u64>, OutOfMemory>
+    // The number of a symbol that is known, which tells that the text is one.
+    #[inline(always)]
+    pub(crate) fn known(&self, name: &[u8]) -> Option<u64>
+        ensures number { result ≡ number_in self.now name.now }
+        ensures symbol { IsSome result → is_symbol name.now ≡ true }
+        ensures within { IfSome result (λ n. (1 ≤ n) × (n ≤ max_symbols)) }
+    {
+        match self.names.get_index_of(name) {
+            None => None,
+            Some(place) => Some(place as u64 + 1),
+        }
+    }
+
+    // The number of a symbol that becomes known, or None where no more fit.
+    pub(crate) fn add(&mut self, alloc: Global, name: &[u8]) -> Result<Option<u64>, OutOfMemory>
+        requires new { number_in self.old name.now ≡ None }
+        requires symbol { is_symbol name.now ≡ true }
         ensures numbers { IfOk result (λ number. numbered self.old name.now ≡ option_map (λ n. (n, self.new)) number) }
         ensures within { IfOk result (λ number. IfSome number (λ n. (1 ≤ n) × (n ≤ max_symbols))) }
         ensures few { length self.new ≤ max_symbols }
         ensures unchanged { OnErr result (self.new ≡ self.old) }
     {
-        if let Some(place) = self.names.get_index_of(name) {
-            return Ok(Some(place as u64 + 1));
-        }
         let count = self.names.len();
         if count >= MAX_SYMBOLS {
             return Ok(None);
@@ -65,7 +77,8 @@ impl Symbols {
 
     // The symbol of a number: `-` where it is that of none.
     pub(crate) fn name(&self, number: i64) -> &[u8]
-        ensures { result.now ≡ symbol_at self.now number }
+        ensures symbol { result.now ≡ symbol_at self.now number }
+        ensures short { length result.now ≤ max_symbol_bytes }
     {
         if number < 1 {
             return NO_SYMBOL;

@@ -43,11 +43,14 @@ fn symbol_in(alloc: Global, rec: u64, symbols: &mut Symbols, text: &[u8]) -> Res
     ensures within { IfOk result (λ number. (1 ≤ number) × (number ≤ max_symbols)) }
     ensures few { length symbols.new ≤ max_symbols }
 {
+    if let Some(number) = symbols.known(text) {
+        return Ok(number);
+    }
     let field = Field::Symbol;
     if !is_symbol(text) {
         return Err(ReadError::Field { rec, field });
     }
-    match symbols.number(alloc, text)? {
+    match symbols.add(alloc, text)? {
         None => Err(ReadError::Range { rec, field }),
         Some(number) => Ok(number),
     }
@@ -87,21 +90,32 @@ impl RecordForm<Field> for TradeForm {
     // The symbol of the record becomes known.
     #[tactic(auto, unfolding(crate::specs::Trades::trade_in))]
     fn row(&mut self, alloc: Global, rec: u64, fields: &ByteRecord) -> Result<Row, TradeError> {
-        let columns = self.columns;
-        if fields.len() != columns.count {
+        if fields.len() != self.columns.count {
             return Err(ReadError::Row { rec });
         }
-        let time = located(rec, Field::Time, time_of(text_at(fields, columns.time)))?;
+        let time = located(
+            rec,
+            Field::Time,
+            time_of(text_at(fields, self.columns.time)),
+        )?;
         let account = located(
             rec,
             Field::Account,
-            account_of(text_at(fields, columns.account)),
+            account_of(text_at(fields, self.columns.account)),
         )?;
-        let text = text_at(fields, columns.symbol);
+        let text = text_at(fields, self.columns.symbol);
         let symbol = symbol_in(alloc, rec, &mut self.symbols, text)?;
-        let side = located(rec, Field::Side, side_of(text_at(fields, columns.side)))?;
-        let qty = located(rec, Field::Qty, qty_of(text_at(fields, columns.qty)))?;
-        let cents = located(rec, Field::Price, price_of(text_at(fields, columns.price)))?;
+        let side = located(
+            rec,
+            Field::Side,
+            side_of(text_at(fields, self.columns.side)),
+        )?;
+        let qty = located(rec, Field::Qty, qty_of(text_at(fields, self.columns.qty)))?;
+        let cents = located(
+            rec,
+            Field::Price,
+            price_of(text_at(fields, self.columns.price)),
+        )?;
         Ok(trade_row(time, account, symbol, side, qty, cents))
     }
 }

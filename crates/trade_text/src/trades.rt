@@ -33,6 +33,7 @@ impl Model for Trades {
 }
 
 impl Trades {
+    ghost use Rattle.trade_text.specs.Limits.{max_symbol_bytes};
     ghost use Rattle.trade_text.specs.Symbols.{symbol_at};
     ghost use Rattle.trade_text.specs.TradesView.{IsTrades, inputs_in};
 
@@ -75,7 +76,8 @@ impl Trades {
 
     /// The symbol of a number: `-` where it is that of none.
     pub fn symbol(&self, number: i64) -> &[u8]
-        ensures { result.now ≡ symbol_at self.now.symbols number }
+        ensures symbol { result.now ≡ symbol_at self.now.symbols number }
+        ensures short { length result.now ≤ max_symbol_bytes }
     {
         self.symbols.name(number)
     }
