@@ -1,0 +1,11 @@
+-- The entries of histories, as the code holds them.
+use Rattle.std.specs.Prelude.{List, map}
+use Rattle.tuple_edge.specs.declared.event.History.{History}
+use Rattle.pair_machine.specs.Joint.{Logged}
+use Rattle.run_journal.specs.declared.histories.Placed.{Placed}
+
+abbrev pub logged : Placed → Logged
+logged entry = record { at = entry.node; stamped = entry.stamped }
+
+abbrev pub entries_of : History → List Placed
+entries_of h = map (λ s. record { node = h.node; stamped = s }) h.entries.items

@@ -1,0 +1,9 @@
+pub mod Entries
+pub mod Events
+pub mod Grammar
+pub mod Limits
+pub mod Logs
+pub mod Messages
+pub mod Names
+pub mod Reading
+pub mod Text

@@ -1,0 +1,20 @@
+-- The limits of a text of events. What is counted in them is at least 1.
+use Rattle.std.specs.Prelude.{ℕ}
+
+abbrev pub max_events_bytes : ℕ
+max_events_bytes = 536870912
+
+abbrev pub max_events : ℕ
+max_events = 20000000
+
+-- how often a line may repeat its event
+abbrev pub max_repeats : ℕ
+max_repeats = 1000000
+
+-- the greatest place of a packet on its link that a line may name
+abbrev pub max_index : ℕ
+max_index = 4611686018427387903
+
+-- digits of a stage and of a partition in a node's name
+abbrev pub max_name_digits : ℕ
+max_name_digits = 9

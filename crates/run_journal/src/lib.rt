@@ -1,0 +1,25 @@
+//! Events as text, and the histories of nodes as one list of events.
+//!
+//! It promises that every text of events is read as its definition says, each event with its line, or
+//! refused by its first fault; that what it writes reads back; and that the events of histories come by
+//! clock and node, each once. It stands on `tuple_edge` for nodes and events, on `plan_reader` for plans
+//! and the readers of lines, words and numbers, and on `pair_machine` for what a log is. Of `trade_text`
+//! its proofs use one lemma, on stable sorts.
+#![tactic(auto)]
+
+mod error;
+mod histories;
+mod limits;
+mod lined;
+mod names;
+mod read;
+mod statement;
+mod words;
+mod write;
+
+pub use error::EventsError;
+pub use histories::{merge, merged_histories_are_a_log};
+pub use limits::{MAX_EVENTS, MAX_EVENTS_BYTES, MAX_INDEX, MAX_NAME_DIGITS, MAX_REPEATS};
+pub use lined::Lined;
+pub use read::read_events;
+pub use write::{canonical_text_reads_back, write_events};

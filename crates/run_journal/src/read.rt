@@ -1,0 +1,116 @@
+// How events are read.
+ghost use Rattle.std.specs.Prelude.{All, ◌≡◌, ◌≤◌, IfOk, length};
+ghost use Rattle.plan_reader.specs.Reading.{Reads, Takes};
+ghost use Rattle.run_journal.specs.Events.{body_of, events_of, events_of_lines, header_at, with_line, with_lines};
+ghost use Rattle.run_journal.specs.Limits.{max_events};
+ghost use Rattle.run_journal.specs.Reading.{Gives};
+ghost use Rattle.run_journal.specs.Text.{IsNamed};
+
+use crate::error::Fault;
+use crate::statement::statement;
+use crate::words::{end, fixed};
+use crate::{EventsError, Lined, MAX_EVENTS, MAX_EVENTS_BYTES};
+use plan_reader::{Line, Lines, Plan, Words};
+use std::alloc::Global;
+use tuple_edge::OutOfMemory;
+
+// The words of the first line that counts.
+#[tactic(auto, unfolding(crate::specs::Events::header_at))]
+fn header(words: &mut Words<'_>) -> Result<(), Fault>
+    ensures { Takes words.new result (header_at words.old) }
+{
+    fixed(words, "events")?;
+    fixed(words, "1")?;
+    end(words)
+}
+
+// Passes the first line that counts.
+#[tactic(auto, unfolding(crate::specs::Events::body_of))]
+fn pass_header(lines: &mut Lines<'_>) -> Result<(), EventsError>
+    ensures { Reads (λ x. lines.new) result (body_of lines.old) }
+{
+    match lines.next_line() {
+        None => Err(EventsError::Header),
+        Some(mut line) => match header(&mut line.words) {
+            Err(_) => Err(EventsError::Header),
+            Ok(()) => Ok(()),
+        },
+    }
+}
+
+// Adds the events of a line.
+#[tactic(auto, unfolding(crate::specs::Events::with_line))]
+fn take_line(events: &mut Vec<Lined>, line: Line<'_>, plan: &Plan) -> Result<(), EventsError>
+    requires few { length events.old.items ≤ max_events }
+    requires named { All (λ x. IsNamed plan.now x.event) events.old.items }
+    ensures value { Gives (λ x. events.new.items) result (with_line plan.now events.old.items (record { number = line.entry.number; words = line.entry.words })) }
+    ensures few { length events.new.items ≤ max_events }
+    ensures named { All (λ x. IsNamed plan.now x.event) events.new.items }
+{
+    let Line { number, mut words } = line;
+    match statement(&mut words, plan) {
+        Err(fault) => Err(fault.at(number)),
+        Ok(said) => {
+            let many = events.len() + said.times as usize;
+            if many > MAX_EVENTS {
+                return Err(EventsError::TooMany);
+            }
+            let event = Lined {
+                line: number,
+                event: said.event,
+            };
+            match events.resize(many, event) {
+                Err(_) => Err(EventsError::OutOfMemory),
+                Ok(()) => Ok(()),
+            }
+        }
+    }
+}
+
+// Adds the events of all further lines.
+#[tactic(auto, unfolding(crate::specs::Events::with_lines))]
+fn take_all(events: &mut Vec<Lined>, lines: &mut Lines<'_>, plan: &Plan) -> Result<(), EventsError>
+    requires few { length events.old.items ≤ max_events }
+    requires named { All (λ x. IsNamed plan.now x.event) events.old.items }
+    ensures value { Gives (λ x. events.new.items) result (with_lines plan.now events.old.items lines.old) }
+    ensures few { length events.new.items ≤ max_events }
+    ensures named { All (λ x. IsNamed plan.now x.event) events.new.items }
+{
+    while let Some(line) = lines.next_line() {
+        take_line(events, line, plan)?;
+    }
+    Ok(())
+}
+
+// The events that lines say.
+#[tactic(auto, unfolding(crate::specs::Events::events_of_lines))]
+fn events_of_lines(
+    alloc: Global,
+    mut lines: Lines<'_>,
+    plan: &Plan,
+) -> Result<Vec<Lined>, EventsError>
+    ensures reads { Gives (λ events. events.items) result (events_of_lines plan.now lines.entry) }
+    ensures few { IfOk result (λ events. length events.items ≤ max_events) }
+    ensures named { IfOk result (λ events. All (λ x. IsNamed plan.now x.event) events.items) }
+{
+    pass_header(&mut lines)?;
+    let mut events = Vec::new(alloc);
+    take_all(&mut events, &mut lines, plan)?;
+    Ok(events)
+}
+
+/// The events that a text says to a plan, in order, each with its line, or the first of its faults. A
+/// line that repeats its event gives it so often.
+#[tactic(auto, unfolding(crate::specs::Events::events_of))]
+pub fn read_events(alloc: Global, bytes: &[u8], plan: &Plan) -> Result<Vec<Lined>, EventsError>
+    ensures reads { Gives (λ events. events.items) result (events_of plan.now bytes.now) }
+    // They are not too many, and each names what the plan has.
+    ensures few { IfOk result (λ events. length events.items ≤ max_events) }
+    ensures named { IfOk result (λ events. All (λ x. IsNamed plan.now x.event) events.items) }
+{
+    let length = bytes.len() as u64;
+    if length > MAX_EVENTS_BYTES {
+        return Err(EventsError::TooLong { bytes: length });
+    }
+    events_of_lines(alloc, Lines::new(bytes), plan)
+}

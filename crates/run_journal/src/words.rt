@@ -1,0 +1,196 @@
+// The readers of a line's words: each takes words from the front, and gives a value or the first fault.
+ghost use Rattle.std.specs.Prelude.{◌≡◌, ◌≤◌, IfOk, true};
+ghost use Rattle.plan_reader.specs.Nodes.{has_link, has_node};
+ghost use Rattle.plan_reader.specs.Reading.{Takes, TakesBy};
+ghost use Rattle.run_journal.specs.Grammar.{end_at, fixed_at, has_edge, has_replica, in_range, index_at, link_at, node_at, replica_at, target_at, times_at, word_at};
+ghost use Rattle.run_journal.specs.Limits.{max_index, max_repeats};
+
+use crate::error::Fault;
+use crate::names::{is, link_named, node_named};
+use crate::{MAX_INDEX, MAX_REPEATS};
+use plan_reader::{Plan, Words, number_of};
+use tuple_edge::{LinkId, NodeId};
+
+// The next word.
+pub(crate) fn word<'a>(words: &mut Words<'a>) -> Result<&'a [u8], Fault>
+    ensures { TakesBy (λ word. word.now) words.new result (word_at words.old) }
+{
+    match words.next_word() {
+        None => Err(Fault::Grammar),
+        Some(word) => Ok(word),
+    }
+}
+
+// No further word.
+pub(crate) fn end(words: &mut Words<'_>) -> Result<(), Fault>
+    ensures { Takes words.new result (end_at words.old) }
+{
+    match words.next_word() {
+        None => Ok(()),
+        Some(_) => Err(Fault::Grammar),
+    }
+}
+
+// A word that is fixed.
+#[tactic(auto, unfolding(crate::specs::Grammar::fixed_at))]
+pub(crate) fn fixed(words: &mut Words<'_>, text: &str) -> Result<(), Fault>
+    ensures { Takes words.new result (fixed_at text.now words.old) }
+{
+    let found = word(words)?;
+    if is(found, text) {
+        Ok(())
+    } else {
+        Err(Fault::Grammar)
+    }
+}
+
+// A node of the plan.
+#[tactic(auto, unfolding(crate::specs::Grammar::node_at))]
+pub(crate) fn node(words: &mut Words<'_>, plan: &Plan) -> Result<NodeId, Fault>
+    ensures value { Takes words.new result (node_at plan.now words.old) }
+    ensures there { IfOk result (λ n. has_node plan.now n ≡ true) }
+{
+    let found = word(words)?;
+    match node_named(found) {
+        None => Err(Fault::Grammar),
+        Some(node) => {
+            if plan.has(node) {
+                Ok(node)
+            } else {
+                Err(Fault::NoSuchNode)
+            }
+        }
+    }
+}
+
+// Whether the plan has this node, and it is a replica.
+fn has_replica(plan: &Plan, node: NodeId) -> bool
+    ensures { result ≡ has_replica plan.now node }
+{
+    match node {
+        NodeId::Replica { .. } => plan.has(node),
+        NodeId::Ingress | NodeId::Control { .. } | NodeId::Egress => false,
+    }
+}
+
+// A replica of the plan.
+#[tactic(auto, unfolding(crate::specs::Grammar::replica_at))]
+pub(crate) fn replica(words: &mut Words<'_>, plan: &Plan) -> Result<NodeId, Fault>
+    ensures value { Takes words.new result (replica_at plan.now words.old) }
+    ensures there { IfOk result (λ n. has_replica plan.now n ≡ true) }
+{
+    let found = word(words)?;
+    match node_named(found) {
+        None => Err(Fault::Grammar),
+        Some(node) => {
+            if has_replica(plan, node) {
+                Ok(node)
+            } else {
+                Err(Fault::NoSuchNode)
+            }
+        }
+    }
+}
+
+// Whether an edge of the plan leads from one node to another.
+fn has_edge(plan: &Plan, from: NodeId, to: NodeId) -> bool
+    ensures { result ≡ has_edge plan.now from to }
+{
+    if !plan.has(from) || !plan.has(to) {
+        return false;
+    }
+    let last = plan.stages().len();
+    match (from, to) {
+        (NodeId::Ingress, NodeId::Replica { stage, .. }) => stage == 1,
+        (
+            NodeId::Replica { stage, .. },
+            NodeId::Replica {
+                stage: to_stage,
+                ..
+            },
+        ) => u64::from(to_stage) == u64::from(stage) + 1,
+        (NodeId::Replica { stage, .. }, NodeId::Egress) => stage as usize == last,
+        _ => false,
+    }
+}
+
+// A node to which an edge leads from this one.
+#[tactic(auto, unfolding(crate::specs::Grammar::target_at))]
+pub(crate) fn target(words: &mut Words<'_>, plan: &Plan, from: NodeId) -> Result<NodeId, Fault>
+    ensures value { Takes words.new result (target_at plan.now from words.old) }
+    ensures there { IfOk result (λ to. has_edge plan.now from to ≡ true) }
+{
+    let found = word(words)?;
+    match node_named(found) {
+        None => Err(Fault::Grammar),
+        Some(to) => {
+            if has_edge(plan, from, to) {
+                Ok(to)
+            } else {
+                Err(Fault::NoSuchNode)
+            }
+        }
+    }
+}
+
+// A link of the plan.
+#[tactic(auto, unfolding(crate::specs::Grammar::link_at))]
+pub(crate) fn link(words: &mut Words<'_>, plan: &Plan) -> Result<LinkId, Fault>
+    ensures value { Takes words.new result (link_at plan.now words.old) }
+    ensures there { IfOk result (λ link. has_link plan.now link ≡ true) }
+{
+    let found = word(words)?;
+    match link_named(found) {
+        None => Err(Fault::Grammar),
+        Some(link) => {
+            if plan.links(link) {
+                Ok(link)
+            } else {
+                Err(Fault::NoSuchNode)
+            }
+        }
+    }
+}
+
+// A number from `low` to `high`.
+fn in_range(number: Option<u64>, low: u64, high: u64) -> Result<u64, Fault>
+    ensures value { result ≡ in_range low high number }
+    ensures within { IfOk result (λ n. (low ≤ n) × (n ≤ high)) }
+{
+    match number {
+        None => Err(Fault::Grammar),
+        Some(n) => {
+            if low <= n && n <= high {
+                Ok(n)
+            } else {
+                Err(Fault::Range)
+            }
+        }
+    }
+}
+
+// A packet's place on its link.
+#[tactic(auto, unfolding(crate::specs::Grammar::index_at))]
+pub(crate) fn index(words: &mut Words<'_>) -> Result<u64, Fault>
+    ensures value { Takes words.new result (index_at words.old) }
+    ensures within { IfOk result (λ n. n ≤ max_index) }
+{
+    let found = word(words)?;
+    in_range(number_of(found), 0, MAX_INDEX)
+}
+
+// How often an event happens: a last word, or once where there is none.
+#[tactic(auto, unfolding(crate::specs::Grammar::times_at))]
+pub(crate) fn times(words: &mut Words<'_>) -> Result<u64, Fault>
+    ensures value { Takes words.new result (times_at words.old) }
+    ensures within { IfOk result (λ n. (1 ≤ n) × (n ≤ max_repeats)) }
+{
+    match words.next_word() {
+        None => Ok(1),
+        Some(word) => {
+            let n = in_range(number_of(word), 1, MAX_REPEATS)?;
+            end(words)?;
+            Ok(n)
+        }
+    }
+}
