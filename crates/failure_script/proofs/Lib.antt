@@ -1,0 +1,3 @@
+pub mod DueOrders
+pub mod SafeScripts
+pub mod ShortNumbers

@@ -1,0 +1,6 @@
+pub mod Grammar
+pub mod Limits
+pub mod Messages
+pub mod Names
+pub mod Orders
+pub mod Script
