@@ -17,6 +17,8 @@ flux: a stream dataflow over trades, whose exact output is proved
 
   flux eval PLAN TRADES [--cash C]    writes the rows that the plan gives for the trades,
                                       and for the cash movements of the file C
+  flux make START COUNT               writes trades that are made from a number
+  flux COMMAND --help                 says more of a command
   flux --help                         writes this
   flux --version                      writes the commit
 
@@ -24,11 +26,49 @@ Try it, in this repository:
 
   ./flux eval examples/first/total.txt examples/first/blotter.csv
 
-The usage line also names run, replay, make and trial: they aren't there yet.
+The usage line also names run, replay and trial: they aren't there yet.
 
 The exit status is 0 where the whole text was written, 2 for words that have no form, 3 for a plan or
 trades that are refused, 4 for a file that can't be read, 5 for an output that took not all, 8 for want
 of memory, and 70 where the program could not be built. The formats are in docs/FORMATS.md.
+TEXT
+}
+
+help_eval() {
+  cat <<'TEXT'
+flux eval PLAN TRADES [--cash C]
+
+Reads a plan and trades, and writes the rows that the plan gives for them, as CSV.
+
+  PLAN        the file with the plan, of at most 65,536 bytes
+  TRADES      the file with the trades, CSV of at most 16,777,216 bytes and 100,000 trades
+  --cash C    the file with the cash movements, CSV of at most 16,777,216 bytes; together with the trades
+              at most 100,000. Only a plan of version 2 has any; without the option there are none. It
+              stands anywhere behind eval, once, as --cash C or as --cash=C.
+
+A name isn't empty and doesn't begin with "-".
+
+Try it, in this repository:
+
+  ./flux eval examples/cash/owed.txt examples/cash/day.csv --cash examples/cash/cash.csv
+TEXT
+}
+
+help_make() {
+  cat <<'TEXT'
+flux make START COUNT
+
+Writes trades that are made from a number, the same ones for the same words, as CSV that eval reads. It
+reads no file.
+
+  START       the number that they are made from, 0 to 2147483647
+  COUNT       how many trades, 0 to 100000
+
+A number is 1 to 10 digits.
+
+Try it, in this repository:
+
+  ./flux make 1 1000 >made.csv && ./flux eval examples/first/total.txt made.csv
 TEXT
 }
 
@@ -88,6 +128,7 @@ case $#,${1-} in
   0,) echo "$usage" >&2; exit 2 ;;
   1,--help | 1,-h | 1,help) answer help ;;
   1,--version) answer version ;;
+  2,eval | 2,make) [ "$2" != --help ] || answer "help_$1" ;;
 esac
 if ! is_fresh; then
   # Of several first calls one builds, and the others wait for it.

@@ -9,8 +9,12 @@ mod faults;
 #[cfg(test)]
 mod fixture;
 #[cfg(test)]
+mod made;
+#[cfg(test)]
 mod memory;
 #[cfg(test)]
 mod outside;
 #[cfg(test)]
 mod plans;
+#[cfg(test)]
+mod words;

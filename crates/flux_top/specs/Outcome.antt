@@ -15,9 +15,10 @@ use Rattle.trade_text.specs.Text.{text}
 use Rattle.trade_text.specs.Trades.{trades_of}
 use Rattle.trade_text.specs.TradesView.{TradesView}
 use Rattle.pair_machine.specs.Output.{output}
+use Rattle.trade_maker.specs.MadeText.{made_text}
 use Rattle.flux_top.specs.Course.{Course, Reading, Refuses, Writes, reads}
 use Rattle.flux_top.specs.Lines.{line_of, not_in_plan_line}
-use Rattle.flux_top.specs.Words.{Eval, Request, form}
+use Rattle.flux_top.specs.Words.{Eval, Make, Request, form}
 
 -- ---- inputs
 
@@ -64,6 +65,7 @@ eval_plan trades (Some cash) plan = if plan.version == 1 then Refuses (not_in_pl
 -- the course of a command
 abbrev pub course_of : Request → Course
 course_of (Eval plan trades cash) = reads plan_from plan (eval_plan trades cash)
+course_of (Make start count) = Writes (made_text start count)
 
 -- words ask for this request, and something holds of its course
 pub record AsksFor (words : List (List ℕ)) (holds : Course → Type 0) : Type 0 where

@@ -1,19 +1,22 @@
 -- What the words of a command line ask for.
-use Rattle.std.specs.Prelude.{ℕ, ◌==◌, ◌+◌, ◌&&◌, ◌||◌, nat_eq, nat_lt, not, Bool, true, false, List, [], ◌∷◌, codes, drop, length, slice_index_or, Option, Some, None, option_map, if◌then◌else◌}
+use Rattle.std.specs.Prelude.{ℕ, ◌==◌, ◌≤◌, ◌+◌, ◌&&◌, ◌||◌, nat_eq, nat_le, nat_lt, not, Bool, true, false, List, [], ◌∷◌, codes, drop, length, slice_index_or, Option, Some, None, option_map, if◌then◌else◌}
 use Rattle.std.specs.Option.{is_some, option_map_or}
 use Rattle.std.specs.List.{position_or_len, starts_with}
 use Rattle.std.specs.Str.{bytes_eq}
+use Rattle.plan_reader.specs.Numbers.{number_of}
 use Rattle.flux_top.specs.declared.words.CashOption.{CashOption}
 use Rattle.flux_top.specs.declared.words.Command.{Command}
 use Rattle.flux_top.specs.declared.words.Command.TheVariants as command
 
--- a command, with the names of its files
+-- a command, with the names of its files or with its numbers
 pub data Request : Type 0 where
   Eval : (plan trades : List ℕ) (cash : Option (List ℕ)) → Request
+  Make : (start count : ℕ) → Request
 
 -- the same of the command that the code made of the words
 abbrev pub request_of : Command → Request
 request_of (command.Eval plan trades cash) = Eval plan.now trades.now (option_map (λ name. name.now) cash)
+request_of (command.Make start count) = Make start count
 
 -- a word that may name a file: it is not empty, and doesn't begin with `-`
 abbrev pub is_name : List ℕ → Bool
@@ -59,21 +62,63 @@ cash_within place value = record { place = place; width = if is_some value then 
 abbrev pub cash_at : List (List ℕ) → ℕ → CashWords
 cash_at words place = if is_cash (word words place) then record { place = place; width = 2; value = Some (word words (place + 1)) } else cash_within place (behind_name (word words place))
 
+-- ---- numbers
+
+-- the most digits of a number
+abbrev pub max_digits : ℕ
+max_digits = 10
+
+-- the greatest number from which trades are made
+abbrev pub max_start : ℕ
+max_start = 2147483647
+
+-- the most trades that are made
+abbrev pub max_count : ℕ
+max_count = 100000
+
+abbrev pub at_most : ℕ → Option ℕ → Option ℕ
+at_most most None = None
+at_most most (Some n) = if nat_le n most then Some n else None
+
+-- the number that a word says, where it has at most ten digits and is at most this
+unfoldable pub number_up_to : ℕ → List ℕ → Option ℕ
+number_up_to most word = if nat_le (length word) max_digits then at_most most (number_of word) else None
+
+-- the numbers of a command are within their bounds
+abbrev pub IsInRange : Command → Type 0
+IsInRange (command.Eval plan trades cash) = Unit {0}
+IsInRange (command.Make start count) = (start ≤ max_start) × (count ≤ max_count)
+
 -- ---- the forms
 
 -- the word at a place, from 0, of those that the option doesn't take
 abbrev pub word_beside : List (List ℕ) → CashWords → ℕ → List ℕ
 word_beside words cash place = word words (if nat_lt place cash.place then place else place + cash.width)
 
--- words are `eval PLAN TRADES`, with this option anywhere behind the command
-unfoldable pub is_eval : List (List ℕ) → CashWords → Bool
-is_eval words cash =
-    (length words == 3 + cash.width) && bytes_eq (word words 0) (codes "eval") && is_name (word_beside words cash 1) && is_name (word_beside words cash 2)
-    && option_map_or is_name cash.value true
+-- behind the command stand two names, and with them this option, whose value is a name
+unfoldable pub has_eval_words : List (List ℕ) → CashWords → Bool
+has_eval_words words cash =
+    (length words == 3 + cash.width) && is_name (word_beside words cash 1) && is_name (word_beside words cash 2) && option_map_or is_name cash.value true
 
-abbrev pub form_beside : List (List ℕ) → CashWords → Option Request
-form_beside words cash = if is_eval words cash then Some (Eval (word_beside words cash 1) (word_beside words cash 2) cash.value) else None
+abbrev pub eval_beside : List (List ℕ) → CashWords → Option Request
+eval_beside words cash = if has_eval_words words cash then Some (Eval (word_beside words cash 1) (word_beside words cash 2) cash.value) else None
 
--- What words ask for, if they have a form. An option that is given again is a word that names no file.
+-- `PLAN TRADES`, with the option anywhere. An option that is given again is a word that names no file.
+unfoldable pub eval_form : List (List ℕ) → Option Request
+eval_form words = eval_beside words (cash_at words (cash_place words))
+
+abbrev pub make_with : Option ℕ → Option ℕ → Option Request
+make_with None count = None
+make_with (Some start) None = None
+make_with (Some start) (Some count) = Some (Make start count)
+
+-- `START COUNT`
+unfoldable pub make_form : List (List ℕ) → Option Request
+make_form words = if length words == 3 then make_with (number_up_to max_start (word words 1)) (number_up_to max_count (word words 2)) else None
+
+-- What words ask for, if they have a form: the first word is the command.
 unfoldable pub form : List (List ℕ) → Option Request
-form words = form_beside words (cash_at words (cash_place words))
+form words =
+    if bytes_eq (word words 0) (codes "eval") then eval_form words
+    else if bytes_eq (word words 0) (codes "make") then make_form words
+    else None

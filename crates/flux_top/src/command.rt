@@ -1,13 +1,16 @@
 // The one call that does what the words of a command line ask for.
 ghost use Rattle.std.specs.Prelude.{◌≡◌, ◌≢◌, ◌↔◌, ◌⊎◌, IfErr, IfOk, OnOk, Err, None, map, string_bytes};
 ghost use Rattle.flux_top.specs.Clauses.{Accepts, HasCause, IsQuiet, IsStatus, Rejects, SaysRefusal, SaysUnread, StopsShort, StopsTo, Tells, WritesPart, WritesWhole};
+ghost use Rattle.flux_top.specs.Course.{Came, Writes};
 ghost use Rattle.flux_top.specs.Lines.{cannot_write_line, memory_line, usage_line};
+ghost use Rattle.flux_top.specs.Outcome.{course_of};
 ghost use Rattle.flux_top.specs.Outside.{Rose, StopsAtWant};
-ghost use Rattle.flux_top.specs.Steps.{IsWant};
-ghost use Rattle.flux_top.specs.Words.{form};
+ghost use Rattle.flux_top.specs.Steps.{HasReadCause, IsWant, StopsOf};
+ghost use Rattle.flux_top.specs.Words.{IsInRange, form, request_of};
 ghost use Rattle.flux_top.specs.declared.stop.Stop.TheVariants.{Usage};
 
 use crate::eval::eval_text;
+use crate::make::made_text;
 use crate::stop::Stop;
 use crate::words::{Command, command_of};
 use crate::write::write_all;
@@ -126,14 +129,27 @@ fn run<F: Files, S: Sink>(
 {
     match command_of(words) {
         None => Err(Stop::Usage),
-        Some(Command::Eval { plan, trades, cash }) => {
-            match eval_text(alloc, files, plan, trades, cash) {
-                Ok(text) => match write_all(out, text.as_slice()) {
-                    Ok(()) => Ok(()),
-                    Err(Failed) => Err(Stop::CannotWrite),
-                },
-                Err(stop) => Err(stop),
-            }
-        }
+        Some(command) => match text_of(alloc, files, command) {
+            Ok(text) => match write_all(out, text.as_slice()) {
+                Ok(()) => Ok(()),
+                Err(Failed) => Err(Stop::CannotWrite),
+            },
+            Err(stop) => Err(stop),
+        },
+    }
+}
+
+// The text that a command writes.
+fn text_of<F: Files>(alloc: Global, files: &mut F, command: Command<'_>) -> Result<Vec<u8>, Stop>
+    requires { IsInRange command }
+    ensures comes { IfOk result (λ bytes. Came (F.contents files.old) (F.calls files.old) (F.calls files.new) (course_of (request_of command.entry)) (Writes bytes.items)) }
+    ensures stops { IfErr result (λ stop. StopsOf (F.contents files.old) (F.calls files.old) (F.calls files.new) (course_of (request_of command.entry)) stop) }
+    ensures cause { IfErr result (λ stop. HasReadCause (F.read_faults files.old) (F.read_faults files.new) stop) }
+    ensures still { OnOk result (F.read_faults files.new ≡ F.read_faults files.old) }
+    ensures wants { StopsAtWant (F.wants files.old) (F.wants files.new) (IsWant result) }
+{
+    match command {
+        Command::Eval { plan, trades, cash } => eval_text(alloc, files, plan, trades, cash),
+        Command::Make { start, count } => made_text(alloc, start, count),
     }
 }

@@ -11,6 +11,7 @@ mod eval;
 mod evaluation;
 mod input_files;
 mod inputs;
+mod make;
 mod mem_files;
 mod mem_sink;
 mod outside;

@@ -1,9 +1,11 @@
 // The words of a command line.
-ghost use Rattle.std.specs.Prelude.{◌≡◌, ◌<◌, ◌≤◌, ◌^◌, length, true, map, option_map, string_bytes};
+ghost use Rattle.std.specs.Prelude.{◌≡◌, ◌<◌, ◌≤◌, ◌^◌, IfSome, length, true, map, option_map, string_bytes};
 ghost use Rattle.std.specs.Option.{option_map_or};
-ghost use Rattle.flux_top.specs.Words.{behind_name, cash_at, cash_place, cash_words, form, is_eval, is_name, request_of, says_cash, word, word_beside};
+ghost use Rattle.flux_top.specs.Words.{IsInRange, behind_name, cash_at, cash_place, cash_words, eval_form, form, has_eval_words, is_name, make_form, number_up_to, request_of, says_cash, word, word_beside};
 
-/// A command with the names of its files.
+use plan_reader::number_of;
+
+/// A command with the names of its files, or with its numbers.
 #[derive(Clone, Copy)]
 pub(crate) enum Command<'a> {
     Eval {
@@ -11,7 +13,20 @@ pub(crate) enum Command<'a> {
         trades: &'a str,
         cash: Option<&'a str>,
     },
+    Make {
+        start: u32,
+        count: u32,
+    },
 }
+
+/// The most digits of a number.
+const MAX_DIGITS: usize = 10;
+
+/// The greatest number from which trades are made.
+const MAX_START: u32 = 2_147_483_647;
+
+/// The most trades that are made.
+const MAX_COUNT: u32 = 100_000;
 
 // The option `--cash` among words: where it stands, how many words it takes, and its value. It takes none
 // where it isn't given.
@@ -117,32 +132,89 @@ fn word_beside<'a>(words: &'a [String], cash: CashOption<'a>, place: usize) -> &
     }
 }
 
-// Whether words have the form of `eval` with this option.
-#[tactic(auto, unfolding(crate::specs::Words::is_eval))]
-fn is_eval(words: &[String], cash: CashOption<'_>) -> bool
+// Whether two names stand behind the command, beside this option.
+#[tactic(auto, unfolding(crate::specs::Words::has_eval_words))]
+fn has_eval_words(words: &[String], cash: CashOption<'_>) -> bool
     requires { cash.width ≤ 2 }
-    ensures { result ≡ is_eval (map string_bytes words.now) (cash_words cash.entry) }
+    ensures { result ≡ has_eval_words (map string_bytes words.now) (cash_words cash.entry) }
 {
     words.len() == 3 + cash.width
-        && word(words, 0) == "eval"
         && is_name(word_beside(words, cash, 1))
         && is_name(word_beside(words, cash, 2))
         && is_name_if_given(cash.value)
 }
 
-/// The command that words ask for, if they have a form.
-#[tactic(auto, unfolding(crate::specs::Words::form))]
-pub(crate) fn command_of(words: &[String]) -> Option<Command<'_>>
-    ensures { option_map request_of result ≡ form (map string_bytes words.now) }
+// `eval` with its names, if words behind it have its form.
+#[tactic(auto, unfolding(crate::specs::Words::eval_form))]
+fn eval_of(words: &[String]) -> Option<Command<'_>>
+    ensures form { option_map request_of result ≡ eval_form (map string_bytes words.now) }
+    ensures within { IfSome result IsInRange }
 {
     let place = cash_place(words);
     let cash = cash_at(words, place);
-    if is_eval(words, cash) {
+    if has_eval_words(words, cash) {
         Some(Command::Eval {
             plan: word_beside(words, cash, 1),
             trades: word_beside(words, cash, 2),
             cash: cash.value,
         })
+    } else {
+        None
+    }
+}
+
+// The number that a word says, where it is at most this.
+#[tactic(auto, unfolding(crate::specs::Words::number_up_to))]
+fn number_up_to(word: &str, most: u32) -> Option<u32>
+    ensures number { result ≡ number_up_to most word.now }
+    ensures within { IfSome result (λ n. n ≤ most) }
+{
+    if word.len() <= MAX_DIGITS {
+        match number_of(word.as_bytes()) {
+            None => None,
+            Some(number) => {
+                if number <= u64::from(most) {
+                    Some(number as u32)
+                } else {
+                    None
+                }
+            }
+        }
+    } else {
+        None
+    }
+}
+
+// `make` with its numbers, if words behind it have its form.
+#[tactic(auto, unfolding(crate::specs::Words::make_form))]
+fn make_of(words: &[String]) -> Option<Command<'_>>
+    ensures form { option_map request_of result ≡ make_form (map string_bytes words.now) }
+    ensures within { IfSome result IsInRange }
+{
+    if words.len() == 3 {
+        match number_up_to(word(words, 1), MAX_START) {
+            None => None,
+            Some(start) => match number_up_to(word(words, 2), MAX_COUNT) {
+                None => None,
+                Some(count) => Some(Command::Make { start, count }),
+            },
+        }
+    } else {
+        None
+    }
+}
+
+/// The command that words ask for, if they have a form.
+#[tactic(auto, unfolding(crate::specs::Words::form))]
+pub(crate) fn command_of(words: &[String]) -> Option<Command<'_>>
+    ensures form { option_map request_of result ≡ form (map string_bytes words.now) }
+    ensures within { IfSome result IsInRange }
+{
+    let command = word(words, 0);
+    if command == "eval" {
+        eval_of(words)
+    } else if command == "make" {
+        make_of(words)
     } else {
         None
     }
