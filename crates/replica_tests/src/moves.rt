@@ -56,24 +56,51 @@ fn takes(
     Ok(())
 }
 
+// The first two parts of the survivor's move.
+fn first_parts(rt: &impl Abort, alloc: Global) -> Result<[Body; 2], OutOfMemory> {
+    let mut survivor = survivor(rt, alloc)?;
+    let first = part_of(rt, &mut survivor)?;
+    let second = part_of(rt, &mut survivor)?;
+    Ok([first, second])
+}
+
+// These two come in this order, with the end before and repeats between. The first one makes the
+// newcomer want the items above the mark that it tells.
+fn in_any_order(first: Body, second: Body) -> [(Body, bool, u64); 5] {
+    [
+        (Body::ChunkEnd { inc: 2, count: 7 }, false, 0),
+        (second, false, 0),
+        (first, true, 1),
+        (first, false, 1),
+        (second, false, 2),
+    ]
+}
+
+// It wants the items of ingress above the move's mark.
+fn wanted() -> (NodeId, Body) {
+    let (edge, from) = (edge(0), 4);
+    (NodeId::Ingress, Body::Want { edge, from })
+}
+
+// It takes these parts one after another, and so many entries are taken then.
+fn takes_all(
+    rt: &impl Abort,
+    node: &mut Node,
+    parts: &[(Body, bool, u64)],
+) -> Result<(), OutOfMemory> {
+    for (part, wants, entries) in parts {
+        let packet = if *wants { Some(wanted()) } else { None };
+        takes(rt, node, *part, packet, Some(*entries))?;
+    }
+    Ok(())
+}
+
 // Chunks are taken in their order, each once; the end counts only after the last of them.
 #[test]
 fn chunks_come_in_any_order(rt: HostRuntime) -> Result<(), Fail> {
-    let mut survivor = survivor(&rt, rt.alloc())?;
+    let [first, second] = first_parts(&rt, rt.alloc())?;
     let mut node = newcomer(&rt, rt.alloc())?;
-    let first = part_of(&rt, &mut survivor)?;
-    let second = part_of(&rt, &mut survivor)?;
-    let (edge, from) = (edge(0), 4);
-    let want = Some((NodeId::Ingress, Body::Want { edge, from }));
-    for (part, packet, entries) in [
-        (Body::ChunkEnd { inc: 2, count: 7 }, None, 0),
-        (second, None, 0),
-        (first, want, 1),
-        (first, None, 1),
-        (second, None, 2),
-    ] {
-        takes(&rt, &mut node, part, packet, Some(entries))?;
-    }
+    takes_all(&rt, &mut node, &in_any_order(first, second))?;
     Ok(())
 }
 
@@ -144,19 +171,19 @@ fn keeps(
     Ok(())
 }
 
+// What a total of account 7 keeps of four rows.
+fn sum_of_four() -> Entry {
+    let (account, symbol) = (7, 0);
+    let key = Key { account, symbol };
+    let (slot, a, b, c) = (0, 4, 400, 0);
+    Entry::Keyed { key, slot, a, b, c }
+}
+
 // The operator goes on with the sums of the items that were merged before the move.
 #[test]
 fn a_newcomer_goes_on_from_there(rt: HostRuntime) -> Result<(), Fail> {
     let mut node = moved(&rt, rt.alloc(), &[4])?;
     node.goes(&rt, &[(Event::Work, None)])?;
-    let (account, symbol) = (7, 0);
-    let key = Key { account, symbol };
-    let (slot, a, b, c) = (0, 4, 400, 0);
-    keeps(
-        &rt,
-        rt.alloc(),
-        &node,
-        &[Entry::Keyed { key, slot, a, b, c }],
-    )?;
+    keeps(&rt, rt.alloc(), &node, &[sum_of_four()])?;
     Ok(())
 }
