@@ -105,7 +105,7 @@ build() {
   local crate number=0 from command
   command -v rt >/dev/null 2>&1 || stop "not built: the toolchain's command rt is not on the PATH"
   { mkdir -p "$main/out" && : >"$log"; } 2>/dev/null || stop "not built: $main/out can't be written"
-  echo "flux: proving and building the program; from nothing it takes about 23 minutes of one processor and 3 GB of disk" >&2
+  echo "flux: proving and building the program; from nothing it takes 23 minutes of one processor or more, and 3 GB of disk" >&2
   echo "flux: the log is $log" >&2
   from=$(sources)
   for crate in "${crates[@]}"; do
