@@ -1,9 +1,10 @@
-// Which words have a form: command lines with the statuses that they end with.
+// What words ask for: command lines with the statuses that they end with.
 use crate::fixture::call_with_cash;
 use std::alloc::Global;
 use std::test::Fail;
 
-/// A command line, and the status that it ends with: 2 exactly where its words have no form.
+/// A command line, and the status that it ends with: 2 where its words have no form, or their command isn't
+/// there.
 type Line = (&'static str, u8);
 
 const PLAN: &str = "flux 2\nstage 1 parts 1 by account total account\n";
@@ -179,7 +180,7 @@ fn other_words_have_no_form(rt: HostRuntime) -> Result<(), Fail> {
 }
 
 #[test]
-fn later_commands_have_no_form_yet(rt: HostRuntime) -> Result<(), Fail> {
+fn later_commands_are_not_there_yet(rt: HostRuntime) -> Result<(), Fail> {
     assert_eq!(rt; first_other(rt.alloc(), &LATER_COMMANDS)?, None);
     Ok(())
 }

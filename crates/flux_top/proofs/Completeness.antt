@@ -1,10 +1,9 @@
 -- Where files tell what they hold, words come to one end: a text or a refusal.
-use Rattle.std.proofs.Common.{ℕ, ◌≡◌, List, [], ◌∷◌, refl, sym, ap, ◌∙◌, subst, Some, None, Option}
+use Rattle.std.proofs.Common.{ℕ, ◌≡◌, List, [], ◌∷◌, sym, ◌∙◌, subst, Some, None, Option}
 use Rattle.flux_top.specs.Clauses.{Accepts, ComesToRefusal, ComesToText, LeadsTo, Rejects, Told, WritesPart}
 use Rattle.flux_top.specs.Course.{Course, Leads, Reads, Refuses, Writes}
-use Rattle.flux_top.specs.Outcome.{course_of}
+use Rattle.flux_top.specs.Outcome.{asked}
 use Rattle.flux_top.specs.Outside.{Call, Names}
-use Rattle.flux_top.specs.Words.{Request, form}
 
 -- a course that reads no further input
 abbrev IsEnd : Course → Type 0
@@ -30,18 +29,18 @@ one_end named (Refuses line) (call ∷ xs) ys x y end_x end_y to_x to_y = absurd
 -- words come to one end
 one_end_to : (named : Names) (words : List (List ℕ)) (x y : Course) → IsEnd x → IsEnd y → LeadsTo named words x → LeadsTo named words y → x ≡ y
 one_end_to named words x y end_x end_y to_x to_y =
-    let same : to_x.request ≡ to_y.request = same_value (sym to_x.formed ∙ to_y.formed) in
-    one_end named (course_of to_y.request) to_x.course.0 to_y.course.0 x y end_x end_y
-    (subst (λ request. Leads (Some named) (course_of request) to_x.course.0 x) same to_x.course.1) to_y.course.1
+    let same : to_x.course ≡ to_y.course = same_value (sym to_x.is_asked ∙ to_y.is_asked) in
+    one_end named to_y.course to_x.fact.0 to_y.fact.0 x y end_x end_y
+    (subst (λ course. Leads (Some named) course to_x.fact.0 x) same to_x.fact.1) to_y.fact.1
 
 writes_not_refuses : (text line : List ℕ) → Writes text ≡ Refuses line → ⊥
 writes_not_refuses text line e = cc
 
 leads_to_text : (named : Names) (old new : Option (List Call)) (words : List (List ℕ)) (text : List ℕ) → ComesToText (Some named) old new words text → LeadsTo named words (Writes text)
-leads_to_text named old new words text comes = record { request = comes.request; formed = comes.formed; course = (comes.course.calls, comes.course.leads) }
+leads_to_text named old new words text comes = record { course = comes.course; is_asked = comes.is_asked; fact = (comes.fact.calls, comes.fact.leads) }
 
 leads_to_refusal : (named : Names) (old new : Option (List Call)) (words : List (List ℕ)) (line : List ℕ) → ComesToRefusal (Some named) old new words line → LeadsTo named words (Refuses line)
-leads_to_refusal named old new words line comes = record { request = comes.request; formed = comes.formed; course = (comes.course.calls, comes.course.leads) }
+leads_to_refusal named old new words line comes = record { course = comes.course; is_asked = comes.is_asked; fact = (comes.fact.calls, comes.fact.leads) }
 
 -- what is accepted isn't refused
 pub accepted_unrefused : (told : Option Names) (old new : Option (List Call)) (words : List (List ℕ)) (line : List ℕ) → Accepts told words → ComesToRefusal told old new words line → ⊥
@@ -58,14 +57,14 @@ rejected_unwritten (Some named) old new words text rejected written =
 none_not_some : {A : Type 0} {x : A} → None ≡ Some x → ⊥
 none_not_some e = cc
 
--- both have a form
-pub accepted_formed : (told : Option Names) (words : List (List ℕ)) → Accepts told words → form words ≡ None → ⊥
-accepted_formed None words accepted none = accepted
-accepted_formed (Some named) words accepted none = none_not_some (sym none ∙ accepted.1.formed)
+-- both ask for something
+pub accepted_asked : (told : Option Names) (words : List (List ℕ)) → Accepts told words → asked words ≡ None → ⊥
+accepted_asked None words accepted none = accepted
+accepted_asked (Some named) words accepted none = none_not_some (sym none ∙ accepted.1.is_asked)
 
-pub rejected_formed : (told : Option Names) (words : List (List ℕ)) → Rejects told words → form words ≡ None → ⊥
-rejected_formed None words rejected none = rejected
-rejected_formed (Some named) words rejected none = none_not_some (sym none ∙ rejected.1.formed)
+pub rejected_asked : (told : Option Names) (words : List (List ℕ)) → Rejects told words → asked words ≡ None → ⊥
+rejected_asked None words rejected none = rejected
+rejected_asked (Some named) words rejected none = none_not_some (sym none ∙ rejected.1.is_asked)
 
 pub rejected_without_part : (told : Option Names) (before after : Option (List Call)) (words : List (List ℕ)) (old new : Told) → Rejects told words → WritesPart told before after words old new → ⊥
 rejected_without_part told before after words old new rejected part = rejected_unwritten told before after words part.text rejected part.comes

@@ -5,7 +5,7 @@ use Rattle.std.specs.declared.alloc.Global.{Global}
 use Rattle.flux_top.specs.Course.{AtReading, Between, Came, CameToRead, Course, Leads, Reading, Reads, Refuses, StoppedShort, Writes, reads, ◌>>=◌}
 use Rattle.flux_top.specs.Lines.{cannot_read_line}
 use Rattle.flux_top.specs.Outside.{Adds, Call, IsHeld, IsRead, Joins, Names, Read, StopsAtWant, Wants, WantsLast}
-use Rattle.flux_top.specs.Steps.{Gives, IsRefusedBy, IsUnreadBy, IsWant, StopsAt, StopsOf, StopsOn}
+use Rattle.flux_top.specs.Steps.{Gives, IsRefusedBy, IsUnreadBy, StopsAt, StopsOf, StopsOn}
 use Rattle.flux_top.specs.declared.outside.Got.TheVariants as got
 use Rattle.flux_top.specs.declared.stop.Stop.{Stop}
 use Rattle.flux_top.specs.declared.stop.Stop.TheVariants as stop

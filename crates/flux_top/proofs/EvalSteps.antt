@@ -1,5 +1,5 @@
 -- The last steps of `eval`: with a file of cash movements, without one, and where a plan can have none.
-use Rattle.std.proofs.Common.{ℕ, ◌≡◌, ◌-◌, ◌∙◌, List, [], length, refl, sym, ap, subst, Option, Some, None, Ok, Err}
+use Rattle.std.proofs.Common.{ℕ, ◌≡◌, ◌-◌, List, [], length, refl, sym, ap, subst, Option, Some, None}
 use Rattle.std.specs.Prelude.{IfErr, IfOk, Result, Vec, if◌then◌else◌}
 use Rattle.std.specs.declared.alloc.Global.{Global}
 use Rattle.std.proofs.lemmas.Bool.{eq-eqb}
@@ -10,7 +10,7 @@ use Rattle.trade_text.specs.Inputs.{inputs_of}
 use Rattle.trade_text.specs.Limits.{max_inputs}
 use Rattle.trade_text.specs.Text.{text}
 use Rattle.trade_text.specs.TradesView.{TradesView}
-use Rattle.flux_top.specs.Course.{Came, Course, Refuses, Writes}
+use Rattle.flux_top.specs.Course.{Came, Refuses, Writes}
 use Rattle.flux_top.specs.Lines.{not_in_plan_line}
 use Rattle.flux_top.specs.Outcome.{cash_from, eval_cash, eval_plan, eval_trades, writes_output}
 use Rattle.flux_top.specs.Outside.{Call, Names}

@@ -3,7 +3,6 @@ pub mod Courses
 pub mod EvalSteps
 pub mod FileNames
 pub mod MergedInputs
-pub mod OptionWords
 pub mod ReadLaws
 pub mod Refusals
 pub mod Requests

@@ -1,5 +1,5 @@
 -- Trades with which nothing was merged.
-use Rattle.std.proofs.Common.{◌≡◌, ◌∙◌, ℕ, false, List, [], ◌∷◌, refl, ap}
+use Rattle.std.proofs.Common.{◌≡◌, ◌∙◌, false, List, [], ◌∷◌, refl, ap}
 use Rattle.tuple_edge.specs.Input.{from_first}
 use Rattle.tuple_edge.specs.declared.row.Row.{Row}
 use Rattle.trade_text.specs.TradesView.{IsTrades, TradesView, inputs_in, paired}

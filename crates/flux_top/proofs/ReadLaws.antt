@@ -4,7 +4,7 @@ use Rattle.std.proofs.Math.Seq.{take-append_seam}
 use Rattle.std.proofs.lemmas.List.{length-replicate, length-take-le}
 use Rattle.std.specs.Prelude.{replicate}
 use Rattle.std.specs.Io.KnownBytes.{Consumes, IsAtEnd}
-use Rattle.flux_top.specs.Outside.{IsRead, KeepsFront, ReadsRest}
+use Rattle.flux_top.specs.Outside.{KeepsFront, ReadsRest}
 use Rattle.flux_top.specs.declared.outside.Got.TheVariants as got
 
 -- these bytes were appended, taken from what the reader had left, and so many more may be

@@ -1,5 +1,5 @@
 -- Why inputs are refused.
-use Rattle.std.proofs.Common.{ℕ, ◌≡◌, ◌<◌, ◌∙◌, true, List, [], ◌∷◌, length, refl, sym, ap, Option, Some, Err, Result, arith}
+use Rattle.std.proofs.Common.{ℕ, ◌≡◌, ◌<◌, ◌∙◌, true, List, length, refl, sym, ap, Err, Result, arith}
 use Rattle.std.specs.Prelude.{◌≢◌, nat_lt}
 use Rattle.std.proofs.lemmas.Bool.Decides.{nat_tests}
 use Rattle.plan_reader.specs.Plan.{plan_of}
@@ -8,9 +8,8 @@ use Rattle.plan_reader.specs.Messages.{plan_fault}
 use Rattle.plan_reader.specs.Reading.{Fails}
 use Rattle.plan_reader.specs.declared.error.PlanError.{PlanError}
 use Rattle.plan_reader.specs.declared.error.PlanError.TheVariants as plan_error
-use Rattle.tuple_edge.specs.declared.row.Row.{Row}
 use Rattle.trade_text.specs.Cash.{cash_of}
-use Rattle.trade_text.specs.Files.{File, file_of}
+use Rattle.trade_text.specs.Files.{file_of}
 use Rattle.trade_text.specs.Kinds.{Kind, cash_kind, trades_kind}
 use Rattle.trade_text.specs.Limits.{max_input_bytes}
 use Rattle.trade_text.specs.Messages.{fault_of}
@@ -21,7 +20,7 @@ use Rattle.trade_text.specs.declared.error.CashField.{CashField}
 use Rattle.trade_text.specs.declared.error.Field.{Field}
 use Rattle.trade_text.specs.declared.error.ReadError.{ReadError}
 use Rattle.trade_text.specs.declared.error.ReadError.TheVariants as read_error
-use Rattle.flux_top.specs.Course.{Course, Reading}
+use Rattle.flux_top.specs.Course.{Reading}
 use Rattle.flux_top.specs.Lines.{line_of}
 use Rattle.flux_top.specs.Outcome.{cash_from, plan_from, plan_or_line, rows_or_line, trades_from}
 use Rattle.flux_top.specs.Steps.{IsRefusedBy, StopsOn}

@@ -1,25 +1,23 @@
--- What words come to, of the course of their request.
-use Rattle.std.proofs.Common.{ℕ, ◌≡◌, List, Option, Some}
-use Rattle.flux_top.specs.Clauses.{ComesToText, StopsTo, Told}
-use Rattle.flux_top.specs.Course.{Came, Writes}
-use Rattle.flux_top.specs.Outcome.{course_of}
+-- What words come to, of the course that they ask for.
+use Rattle.std.proofs.Common.{ℕ, ◌≡◌, List, Option, Some, None, refl}
+use Rattle.std.specs.Prelude.{IfSome}
+use Rattle.flux_top.specs.Clauses.{ComesToText, StopsShort}
+use Rattle.flux_top.specs.Course.{Between, Course, StoppedShort, Writes}
+use Rattle.flux_top.specs.Outcome.{asked}
 use Rattle.flux_top.specs.Outside.{Call, Names}
-use Rattle.flux_top.specs.Steps.{StopsOf}
-use Rattle.flux_top.specs.Words.{Request, form}
-use Rattle.flux_top.specs.declared.stop.Stop.{Stop}
-use Rattle.flux_top.specs.declared.stop.Stop.TheVariants as stop
+use Rattle.flux_top.specs.Steps.{CameFor}
+use Rattle.flux_top.proofs.Courses.{came_here}
 
--- the text of the request is that of its words
-pub comes_to : (told : Option Names) (before after : Option (List Call)) (words : List (List ℕ)) (request : Request) (text : List ℕ) → form words ≡ Some request
-    → Came told before after (course_of request) (Writes text) → ComesToText told before after words text
-comes_to told before after words request text formed came = record { request = request; formed = formed; course = came }
+-- the text of the course is that of its words
+pub comes_to : (told : Option Names) (before after : Option (List Call)) (words : List (List ℕ)) (course : Option Course) (text : List ℕ) → asked words ≡ course
+    → CameFor told before after course (Writes text) → ComesToText told before after words text
+comes_to told before after words None text is came = absurd came
+comes_to told before after words (Some course) text is came = record { course = course; is_asked = is; fact = came }
 
--- a stop of the request is one of its words
-pub stops_to : (told : Option Names) (before after : Option (List Call)) (words : List (List ℕ)) (request : Request) (old new : Told) (why : Stop) → form words ≡ Some request
-    → StopsOf told before after (course_of request) why → StopsTo told before after words old new why
-stops_to told before after words request old new stop.Usage formed stops = absurd stops
-stops_to told before after words request old new (stop.Refused line) formed stops = record { request = request; formed = formed; course = stops }
-stops_to told before after words request old new (stop.CannotRead line) formed stops =
-    record { name = stops.name; comes = record { request = request; formed = formed; course = stops.came }; line_is = stops.line_is }
-stops_to told before after words request old new stop.CannotWrite formed stops = absurd stops
-stops_to told before after words request old new stop.OutOfMemory formed stops = record { request = request; formed = formed; course = stops }
+-- a want of memory before any call
+stopped_here : (told : Option Names) (calls : Option (List Call)) (course : Option Course) → IfSome course (StoppedShort told calls calls)
+stopped_here told calls None = tt
+stopped_here told calls (Some course) = Between course (came_here told calls course course refl)
+
+pub short_at_once : (told : Option Names) (calls : Option (List Call)) (words : List (List ℕ)) → StopsShort told calls calls words
+short_at_once told calls words = stopped_here told calls (asked words)

@@ -1,11 +1,10 @@
 -- What the clauses of `flux` and of its steps say.
-use Rattle.std.specs.Prelude.{ℕ, ◌≡◌, ◌⊎◌, List, Option, None, Some}
+use Rattle.std.specs.Prelude.{ℕ, ◌≡◌, ◌⊎◌, List, Option, None, Some, IfSome}
 use Rattle.std.specs.String.{string_bytes}
 use Rattle.flux_top.specs.Course.{Came, CameToRead, Course, Leads, Refuses, StoppedShort, Writes}
 use Rattle.flux_top.specs.Lines.{cannot_read_line}
 use Rattle.flux_top.specs.Outside.{Call, Names, OffersRests, Rose, Takes, TakesPart}
-use Rattle.flux_top.specs.Outcome.{AsksFor}
-use Rattle.flux_top.specs.Words.{form}
+use Rattle.flux_top.specs.Outcome.{AsksFor, asked}
 use Rattle.flux_top.specs.declared.stop.Stop.{Stop}
 use Rattle.flux_top.specs.declared.stop.Stop.TheVariants as stop
 
@@ -35,9 +34,9 @@ ComesToRefusal told old new words line = AsksFor words (λ course. Came told old
 abbrev pub ComesToRead : Option Names → Option (List Call) → Option (List Call) → List (List ℕ) → List ℕ → Type 0
 ComesToRead told old new words name = AsksFor words (λ course. CameToRead told old new course name)
 
--- the words' command stopped on its way
+-- the words' command stopped on its way, if they ask for one
 abbrev pub StopsShort : Option Names → Option (List Call) → Option (List Call) → List (List ℕ) → Type 0
-StopsShort told old new words = AsksFor words (StoppedShort told old new)
+StopsShort told old new words = IfSome (asked words) (StoppedShort told old new)
 
 -- the text of the words' command was written whole, each put being given all that was left of it
 pub record WritesWhole (told : Option Names) (before after : Option (List Call)) (words : List (List ℕ)) (old new : Told) : Type 0 where
@@ -89,7 +88,7 @@ pub record IsUnreadTo (told : Option Names) (old new : Option (List Call)) (word
 
 -- why the words' command stopped, and what was written of its text
 abbrev pub StopsTo : Option Names → Option (List Call) → Option (List Call) → List (List ℕ) → Told → Told → Stop → Type 0
-StopsTo told before after words old new stop.Usage = form words ≡ None
+StopsTo told before after words old new stop.Usage = asked words ≡ None
 StopsTo told before after words old new (stop.Refused line) = ComesToRefusal told before after words (string_bytes line)
 StopsTo told before after words old new (stop.CannotRead line) = IsUnreadTo told before after words (string_bytes line)
 StopsTo told before after words old new stop.CannotWrite = WritesPart told before after words old new

@@ -6,4 +6,3 @@ pub mod Outcome
 pub mod Outside
 pub mod StageRows
 pub mod Steps
-pub mod Words

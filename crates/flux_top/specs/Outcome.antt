@@ -1,5 +1,6 @@
 -- What each command does with its files.
-use Rattle.std.specs.Prelude.{ℕ, ◌≡◌, ◌-◌, ◌==◌, List, [], length, Option, Some, None, Result, Ok, Err, if◌then◌else◌}
+use Rattle.std.specs.Prelude.{ℕ, ◌≡◌, ◌-◌, ◌==◌, List, [], length, Option, Some, None, Result, Ok, Err, option_and_then, if◌then◌else◌}
+use Rattle.command_line.specs.Forms.{Eval, Make, Replay, Request, Run, Trial, form}
 use Rattle.plan_reader.specs.Messages.{plan_fault}
 use Rattle.plan_reader.specs.Plan.{plan_of}
 use Rattle.plan_reader.specs.PlanView.{PlanView}
@@ -18,7 +19,6 @@ use Rattle.pair_machine.specs.Output.{output}
 use Rattle.trade_maker.specs.MadeText.{made_text}
 use Rattle.flux_top.specs.Course.{Course, Reading, Refuses, Writes, reads}
 use Rattle.flux_top.specs.Lines.{line_of, not_in_plan_line}
-use Rattle.flux_top.specs.Words.{Eval, Make, Request, form}
 
 -- ---- inputs
 
@@ -62,13 +62,23 @@ abbrev pub eval_plan : List ℕ → Option (List ℕ) → PlanView → Course
 eval_plan trades None plan = eval_trades trades None plan
 eval_plan trades (Some cash) plan = if plan.version == 1 then Refuses (not_in_plan_line cash) else eval_trades trades (Some cash) plan
 
--- the course of a command
-abbrev pub course_of : Request → Course
-course_of (Eval plan trades cash) = reads plan_from plan (eval_plan trades cash)
-course_of (Make start count) = Writes (made_text start count)
+abbrev pub eval_course : List ℕ → List ℕ → Option (List ℕ) → Course
+eval_course plan trades cash = reads plan_from plan (eval_plan trades cash)
 
--- words ask for this request, and something holds of its course
+-- The course of a command, if it is there: a command comes by its line.
+abbrev pub course_of : Request → Option Course
+course_of (Eval plan trades cash) = Some (eval_course plan trades cash)
+course_of (Run plan trades options) = None
+course_of (Replay plan trades events cash) = None
+course_of (Make start count) = Some (Writes (made_text start count))
+course_of (Trial plan start count options) = None
+
+-- the course that words ask for, if they have a form and its command is there
+abbrev pub asked : List (List ℕ) → Option Course
+asked words = option_and_then course_of (form words)
+
+-- words ask for this course, and something holds of it
 pub record AsksFor (words : List (List ℕ)) (holds : Course → Type 0) : Type 0 where
-  pub request : Request
-  pub formed : form words ≡ Some request
-  pub course : holds (course_of request)
+  pub course : Course
+  pub is_asked : asked words ≡ Some course
+  pub fact : holds course

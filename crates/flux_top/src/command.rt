@@ -1,31 +1,32 @@
 // The one call that does what the words of a command line ask for.
-ghost use Rattle.std.specs.Prelude.{◌≡◌, ◌≢◌, ◌↔◌, ◌⊎◌, IfErr, IfOk, OnOk, Err, None, map, string_bytes};
+ghost use Rattle.std.specs.Prelude.{◌≡◌, ◌≢◌, ◌⊎◌, IfErr, IfOk, OnOk, Err, None, map, string_bytes};
+ghost use Rattle.command_line.specs.Views.{IsInRange, request_of};
 ghost use Rattle.flux_top.specs.Clauses.{Accepts, HasCause, IsQuiet, IsStatus, Rejects, SaysRefusal, SaysUnread, StopsShort, StopsTo, Tells, WritesPart, WritesWhole};
-ghost use Rattle.flux_top.specs.Course.{Came, Writes};
+ghost use Rattle.flux_top.specs.Course.{Writes};
 ghost use Rattle.flux_top.specs.Lines.{cannot_write_line, memory_line, usage_line};
-ghost use Rattle.flux_top.specs.Outcome.{course_of};
+ghost use Rattle.flux_top.specs.Outcome.{asked, course_of};
 ghost use Rattle.flux_top.specs.Outside.{Rose, StopsAtWant};
-ghost use Rattle.flux_top.specs.Steps.{HasReadCause, IsWant, StopsOf};
-ghost use Rattle.flux_top.specs.Words.{IsInRange, form, request_of};
-ghost use Rattle.flux_top.specs.declared.stop.Stop.TheVariants.{Usage};
+ghost use Rattle.flux_top.specs.Steps.{CameFor, HasReadCause, IsWant, StopsFor};
+ghost use Rattle.flux_top.specs.declared.stop.Stop.TheVariants.{OutOfMemory, Usage};
 
 use crate::eval::eval_text;
 use crate::make::made_text;
 use crate::stop::Stop;
-use crate::words::{Command, command_of};
 use crate::write::write_all;
 use crate::{Failed, Files, Sink};
+use command_line::{Command, read_words};
 use std::alloc::Global;
 
 /// Does what the words after the program's name ask for, and gives the status: 0 where it is done, 2 where
-/// the words have no form, 3 where an input is refused, 4 where a file can't be read, 5 where `out` took
-/// not all, 8 where no memory was to be had. One line goes to `err` for each status but 0.
+/// the words have no form or their command isn't there, 3 where an input is refused, 4 where a file can't
+/// be read, 5 where `out` took not all, 8 where no memory was to be had. One line goes to `err` for each
+/// status but 0.
 ///
 /// The clauses of each status also say which calls of `files` were added, where they are told: at 0 and 5
 /// one read of each input, in order; at 3 those up to the input that is refused; at 4 those up to the one
 /// that could not be read, whose name is said; at 8 those of the inputs that were accepted, and one more
 /// at most; at 2 none.
-#[tactic(auto, using(crate::proofs::Completeness::accepted_unrefused, crate::proofs::Completeness::rejected_unwritten, crate::proofs::Completeness::rejected_without_part, crate::proofs::Completeness::accepted_formed, crate::proofs::Completeness::rejected_formed, crate::proofs::Courses::wants_for))]
+#[tactic(auto, using(crate::proofs::Completeness::accepted_unrefused, crate::proofs::Completeness::rejected_unwritten, crate::proofs::Completeness::rejected_without_part, crate::proofs::Completeness::accepted_asked, crate::proofs::Completeness::rejected_asked, crate::proofs::Courses::wants_for))]
 pub fn flux<F: Files, S: Sink, E: Sink>(
     alloc: Global,
     words: &[String],
@@ -37,10 +38,12 @@ pub fn flux<F: Files, S: Sink, E: Sink>(
     ensures done { result ≡ 0 → WritesWhole (F.contents files.old) (F.calls files.old) (F.calls files.new) (map string_bytes words.now) (S.taken out.old, S.offered out.old) (S.taken out.new, S.offered out.new) }
     ensures silent { result ≡ 0 → err.new ≡ err.old }
 
-    // 2: the words have no form, and no file is asked for.
-    ensures usage { (result ≡ 2) ↔ (form (map string_bytes words.now) ≡ None) }
+    // 2: the words ask for nothing: they have no form, or their command isn't there. Such words end with 2 or,
+    // for want of memory, with 8, and no file is asked for.
+    ensures usage { result ≡ 2 → asked (map string_bytes words.now) ≡ None }
+    ensures formless { asked (map string_bytes words.now) ≡ None → (result ≡ 2) ⊎ (result ≡ 8) }
     ensures usage_line { result ≡ 2 → Tells (E.taken err.old) (E.taken err.new) (E.faults err.old) (E.faults err.new) usage_line }
-    ensures unasked { result ≡ 2 → files.new ≡ files.old }
+    ensures unasked { asked (map string_bytes words.now) ≡ None → files.new ≡ files.old }
 
     // 3: the first faulty input is refused, and it is said why.
     ensures refused { result ≡ 3 → SaysRefusal (F.contents files.old) (F.calls files.old) (F.calls files.new) (map string_bytes words.now) (E.taken err.old) (E.taken err.new) (E.faults err.old) (E.faults err.new) }
@@ -111,7 +114,7 @@ fn say<E: Sink>(err: &mut E, line: &str)
 }
 
 // Runs the command of the words: all is read and computed before anything is written.
-#[tactic(auto, using(crate::proofs::Requests::comes_to, crate::proofs::Requests::stops_to, crate::proofs::Courses::wants_for))]
+#[tactic(auto, using(crate::proofs::Requests::comes_to, crate::proofs::Requests::short_at_once, crate::proofs::Courses::wants_for))]
 fn run<F: Files, S: Sink>(
     alloc: Global,
     words: &[String],
@@ -119,17 +122,18 @@ fn run<F: Files, S: Sink>(
     out: &mut S,
 ) -> Result<(), Stop>
     ensures done { OnOk result (WritesWhole (F.contents files.old) (F.calls files.old) (F.calls files.new) (map string_bytes words.now) (S.taken out.old, S.offered out.old) (S.taken out.new, S.offered out.new)) }
-    ensures usage { (result ≡ Err Usage) ↔ (form (map string_bytes words.now) ≡ None) }
-    ensures unasked { result ≡ Err Usage → files.new ≡ files.old }
+    ensures usage { asked (map string_bytes words.now) ≡ None → (result ≡ Err Usage) ⊎ (result ≡ Err OutOfMemory) }
+    ensures unasked { asked (map string_bytes words.now) ≡ None → files.new ≡ files.old }
     ensures stops { IfErr result (λ stop. StopsTo (F.contents files.old) (F.calls files.old) (F.calls files.new) (map string_bytes words.now) (S.taken out.old, S.offered out.old) (S.taken out.new, S.offered out.new) stop) }
     ensures cause { IfErr result (λ stop. HasCause (F.read_faults files.old) (F.read_faults files.new) (S.faults out.old) (S.faults out.new) stop) }
     ensures still { OnOk result (F.read_faults files.new ≡ F.read_faults files.old) }
     ensures wants { StopsAtWant (F.wants files.old) (F.wants files.new) (IsWant result) }
     ensures quiet { IfErr result (λ stop. IsQuiet out.old out.new stop) }
 {
-    match command_of(words) {
-        None => Err(Stop::Usage),
-        Some(command) => match text_of(alloc, files, command) {
+    match read_words(alloc, words) {
+        Err(_) => Err(Stop::OutOfMemory),
+        Ok(None) => Err(Stop::Usage),
+        Ok(Some(command)) => match text_of(alloc, files, command) {
             Ok(text) => match write_all(out, text.as_slice()) {
                 Ok(()) => Ok(()),
                 Err(Failed) => Err(Stop::CannotWrite),
@@ -139,11 +143,12 @@ fn run<F: Files, S: Sink>(
     }
 }
 
-// The text that a command writes.
+// The text that a command writes. Those that aren't there write none.
 fn text_of<F: Files>(alloc: Global, files: &mut F, command: Command<'_>) -> Result<Vec<u8>, Stop>
     requires { IsInRange command }
-    ensures comes { IfOk result (λ bytes. Came (F.contents files.old) (F.calls files.old) (F.calls files.new) (course_of (request_of command.entry)) (Writes bytes.items)) }
-    ensures stops { IfErr result (λ stop. StopsOf (F.contents files.old) (F.calls files.old) (F.calls files.new) (course_of (request_of command.entry)) stop) }
+    ensures comes { IfOk result (λ bytes. CameFor (F.contents files.old) (F.calls files.old) (F.calls files.new) (course_of (request_of command.entry)) (Writes bytes.items)) }
+    ensures unasked { course_of (request_of command.entry) ≡ None → files.new ≡ files.old }
+    ensures stops { IfErr result (λ stop. StopsFor (F.contents files.old) (F.calls files.old) (F.calls files.new) (course_of (request_of command.entry)) stop) }
     ensures cause { IfErr result (λ stop. HasReadCause (F.read_faults files.old) (F.read_faults files.new) stop) }
     ensures still { OnOk result (F.read_faults files.new ≡ F.read_faults files.old) }
     ensures wants { StopsAtWant (F.wants files.old) (F.wants files.new) (IsWant result) }
@@ -151,5 +156,6 @@ fn text_of<F: Files>(alloc: Global, files: &mut F, command: Command<'_>) -> Resu
     match command {
         Command::Eval { plan, trades, cash } => eval_text(alloc, files, plan, trades, cash),
         Command::Make { start, count } => made_text(alloc, start, count),
+        Command::Run { .. } | Command::Replay { .. } | Command::Trial { .. } => Err(Stop::Usage),
     }
 }

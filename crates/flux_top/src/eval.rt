@@ -7,10 +7,9 @@ ghost use Rattle.trade_text.specs.Text.{text};
 ghost use Rattle.trade_text.specs.TradesView.{inputs_in};
 ghost use Rattle.flux_top.specs.Course.{Came, Writes};
 ghost use Rattle.flux_top.specs.Lines.{not_in_plan_line};
-ghost use Rattle.flux_top.specs.Outcome.{course_of, eval_cash, eval_plan, eval_trades, writes_output};
+ghost use Rattle.flux_top.specs.Outcome.{eval_cash, eval_course, eval_plan, eval_trades, writes_output};
 ghost use Rattle.flux_top.specs.Outside.{StopsAtWant};
 ghost use Rattle.flux_top.specs.Steps.{HasReadCause, IsRefusedBy, IsWant, StopsOf};
-ghost use Rattle.flux_top.specs.Words.{Eval};
 
 use crate::Files;
 use crate::evaluation::evaluate;
@@ -31,8 +30,8 @@ pub(crate) fn eval_text<F: Files>(
     trades: &str,
     cash: Option<&str>,
 ) -> Result<Vec<u8>, Stop>
-    ensures comes { IfOk result (λ bytes. Came (F.contents files.old) (F.calls files.old) (F.calls files.new) (course_of (Eval plan.now trades.now (option_map (λ name. name.now) cash.entry))) (Writes bytes.items)) }
-    ensures stops { IfErr result (λ stop. StopsOf (F.contents files.old) (F.calls files.old) (F.calls files.new) (course_of (Eval plan.now trades.now (option_map (λ name. name.now) cash.entry))) stop) }
+    ensures comes { IfOk result (λ bytes. Came (F.contents files.old) (F.calls files.old) (F.calls files.new) (eval_course plan.now trades.now (option_map (λ name. name.now) cash.entry)) (Writes bytes.items)) }
+    ensures stops { IfErr result (λ stop. StopsOf (F.contents files.old) (F.calls files.old) (F.calls files.new) (eval_course plan.now trades.now (option_map (λ name. name.now) cash.entry)) stop) }
     ensures cause { IfErr result (λ stop. HasReadCause (F.read_faults files.old) (F.read_faults files.new) stop) }
     ensures still { OnOk result (F.read_faults files.new ≡ F.read_faults files.old) }
     ensures wants { StopsAtWant (F.wants files.old) (F.wants files.new) (IsWant result) }

@@ -1,8 +1,8 @@
 //! The commands of `flux`, over files and sinks that are handed in.
 //!
 //! It promises that `flux` writes exactly the text of the plan's output where it answers 0, and gives
-//! every other answer its cause; `evaluate` gives the output as a list. It stands on plan_reader,
-//! trade_text and stream_ops, and on the definitions of merge_order and pair_machine. The adapters over
+//! every other answer its cause; `evaluate` gives the output as a list. It stands on command_line,
+//! plan_reader, trade_text and stream_ops, and on the definitions of merge_order and pair_machine. The adapters over
 //! std (`StdFiles`, `StdSink`) are its trusted edge.
 #![tactic(auto)]
 
@@ -18,7 +18,6 @@ mod outside;
 mod std_files;
 mod std_sink;
 mod stop;
-mod words;
 mod write;
 
 pub use command::flux;

@@ -1,7 +1,7 @@
 // The command `make`: trades that are made from a number. It reads no file.
 ghost use Rattle.std.specs.Prelude.{◌≡◌, ◌≤◌, IfErr, IfOk};
 ghost use Rattle.trade_maker.specs.MadeText.{made_text};
-ghost use Rattle.flux_top.specs.Words.{max_count, max_start};
+ghost use Rattle.command_line.specs.Forms.{max_count, max_start};
 
 use crate::stop::Stop;
 use std::alloc::Global;

@@ -5,7 +5,7 @@ use tuple_edge::OutOfMemory;
 /// Why a command stops before its text is written whole.
 #[derive(Drop)]
 pub(crate) enum Stop {
-    /// The words have no form.
+    /// The words have no form, or their command isn't there.
     Usage,
     /// An input is refused, by this line.
     Refused { line: String },

@@ -1,5 +1,7 @@
 -- The nodes of a plan, and the links between them.
 use Rattle.std.specs.Prelude.{ℕ, Bool, true, false, ◌+◌, ◌-◌, ◌==◌, ◌&&◌, ◌||◌, nat_lt, nat_le, length, slice_index}
+use Rattle.tuple_edge.specs.declared.event.Event.{Event}
+use Rattle.tuple_edge.specs.declared.event.Event.TheVariants as event
 use Rattle.tuple_edge.specs.declared.node.LinkId.{LinkId}
 use Rattle.tuple_edge.specs.declared.node.NodeId.{NodeId}
 use Rattle.tuple_edge.specs.declared.node.NodeId.TheVariants as node
@@ -110,3 +112,23 @@ carries_any plan from to =
 -- Whether a plan has a link: both its ends are nodes of the plan, and something goes from the one to the other.
 abbrev pub has_link : PlanView → LinkId → Bool
 has_link plan link = has_node plan link.from && has_node plan link.to && carries_any plan link.from link.to
+
+-- ---- events
+
+-- whether a plan has this node, and it is a replica
+abbrev pub has_replica : PlanView → NodeId → Bool
+has_replica plan n = is_replica n && has_node plan n
+
+-- whether an edge of a plan leads from one node to another
+abbrev pub has_edge : PlanView → NodeId → NodeId → Bool
+has_edge plan from to = has_node plan from && has_node plan to && carries_items plan from to
+
+-- Whether an event names what a plan has: a link, a node, a replica, or two nodes with an edge between them.
+abbrev pub names_event : PlanView → Event → Bool
+names_event plan (event.Take link index) = has_link plan link
+names_event plan (event.Work n) = has_node plan n
+names_event plan event.Make = true
+names_event plan (event.Kill n) = has_replica plan n
+names_event plan (event.AskStop n) = has_replica plan n
+names_event plan (event.AskBack n) = has_replica plan n
+names_event plan (event.Pull from to) = has_edge plan from to

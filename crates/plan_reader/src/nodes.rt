@@ -1,10 +1,10 @@
 // The nodes of a plan, and the links between them.
 ghost use Rattle.std.specs.Prelude.{◌≡◌, ◌≤◌, ◌+◌, length};
 ghost use Rattle.tuple_edge.specs.declared.node.NodeId.TheVariants as node;
-ghost use Rattle.plan_reader.specs.Nodes.{carries_any, has_link, has_node, has_pair, sources_of};
+ghost use Rattle.plan_reader.specs.Nodes.{carries_any, has_edge, has_link, has_node, has_pair, has_replica, names_event, sources_of};
 
 use crate::Plan;
-use tuple_edge::{LinkId, NodeId, Which};
+use tuple_edge::{Event, LinkId, NodeId, Which};
 
 impl Plan {
     /// The number of edges into each partition of a stage: for stage 1 the number of sources of
@@ -129,6 +129,50 @@ impl Plan {
             }
             NodeId::Control { stage, part } => self.leads_from_control(stage, part, to),
             NodeId::Egress => self.leads_from_egress(to),
+        }
+    }
+
+    // Whether the plan has this node, and it is a replica.
+    fn has_replica(&self, node: NodeId) -> bool
+        ensures { result ≡ has_replica self.now node }
+    {
+        match node {
+            NodeId::Replica { stage, part, .. } => self.has_pair(stage, part),
+            NodeId::Ingress | NodeId::Control { .. } | NodeId::Egress => false,
+        }
+    }
+
+    // Whether an edge leads from one node to another.
+    fn has_edge(&self, from: NodeId, to: NodeId) -> bool
+        ensures { result ≡ has_edge self.now from to }
+    {
+        let last = self.stages().len();
+        if !self.has(from) || !self.has(to) {
+            return false;
+        }
+        match (from, to) {
+            (NodeId::Ingress, NodeId::Replica { stage, .. }) => stage == 1,
+            (NodeId::Replica { stage, .. }, NodeId::Replica { stage: next, .. }) => {
+                u64::from(next) == u64::from(stage) + 1
+            }
+            (NodeId::Replica { stage, .. }, NodeId::Egress) => stage as usize == last,
+            _ => false,
+        }
+    }
+
+    /// Whether an event names what the plan has: the receiver and the sender of a link that is there,
+    /// a node, a replica that fails or is asked for, or two nodes with an edge between them.
+    pub fn names(&self, event: &Event) -> bool
+        ensures { result ≡ names_event self.now event.now }
+    {
+        match *event {
+            Event::Take { link, .. } => self.links(link),
+            Event::Work { node } => self.has(node),
+            Event::Make => true,
+            Event::Kill { node } | Event::AskStop { node } | Event::AskBack { node } => {
+                self.has_replica(node)
+            }
+            Event::Pull { from, to } => self.has_edge(from, to),
         }
     }
 }

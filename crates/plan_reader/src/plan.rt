@@ -1,9 +1,11 @@
 // A plan.
-ghost use Rattle.std.specs.Prelude.{◌≡◌};
+ghost use Rattle.std.specs.Prelude.{◌≡◌, IfOk};
 ghost use Rattle.plan_reader.specs.PlanView.{IsPlan};
 
 use crate::Stage;
+use std::alloc::Global;
 use std::marker::Model;
+use tuple_edge::OutOfMemory;
 
 /// The stages of a dataflow, its version and its settings.
 ///
@@ -72,5 +74,18 @@ impl Plan {
         ensures limits { IsPlan self.now }
     {
         self.hold
+    }
+
+    /// A copy of the plan.
+    pub fn copied(&self, alloc: Global) -> Result<Plan, OutOfMemory>
+        ensures { IfOk result (λ copy. copy ≡ self.now) }
+    {
+        let stages = Vec::from_slice(alloc, &self.stages)?;
+        Ok(Plan {
+            version: self.version,
+            stages,
+            mark: self.mark,
+            hold: self.hold,
+        })
     }
 }

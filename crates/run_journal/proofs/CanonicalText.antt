@@ -17,7 +17,8 @@ use Rattle.plan_reader.proofs.LineFacts.{both_true}
 use Rattle.plan_reader.proofs.NumberWords.{number_of_decimal}
 use Rattle.plan_reader.proofs.Spelling.{counting_spelled, spelled}
 use Rattle.run_journal.specs.Events.{ask_back_at, ask_stop_at, body_of, event_at, events_of, events_of_lines, header_at, kill_at, last_replica_at, make_at, once, pull_at, take_at, with_line, with_lines, work_at}
-use Rattle.run_journal.specs.Grammar.{fixed_at, has_edge, has_replica, index_at, link_at, node_at, replica_at, target_at, times_at}
+use Rattle.plan_reader.specs.Nodes.{has_edge, has_replica}
+use Rattle.run_journal.specs.Grammar.{fixed_at, index_at, link_at, node_at, replica_at, target_at, times_at}
 use Rattle.run_journal.specs.Limits.{max_events, max_events_bytes, max_index}
 use Rattle.run_journal.specs.Text.{AreSayable, IsNamed, event_words, events_text, link_name, lined_from, node_name}
 use Rattle.run_journal.specs.declared.lined.Lined.{Lined}

@@ -11,7 +11,7 @@ use Rattle.plan_reader.specs.Nodes.{carries_any, carries_items, has_node, has_pa
 use Rattle.plan_reader.specs.PlanView.{IsPlan, IsStage, PlanView, partitions}
 use Rattle.plan_reader.specs.declared.stage.Stage.{Stage}
 use Rattle.plan_reader.proofs.LineFacts.{both_true}
-use Rattle.run_journal.specs.Grammar.{has_replica}
+use Rattle.plan_reader.specs.Nodes.{has_replica}
 use Rattle.run_journal.specs.Limits.{max_index}
 use Rattle.run_journal.specs.Text.{IsNamed}
 use Rattle.run_journal.proofs.NamesBack.{IsShortName}

@@ -4,7 +4,7 @@ use Rattle.std.specs.Str.{bytes_eq}
 use Rattle.tuple_edge.specs.declared.node.LinkId.{LinkId}
 use Rattle.tuple_edge.specs.declared.node.NodeId.{NodeId}
 use Rattle.plan_reader.specs.Lines.{Word}
-use Rattle.plan_reader.specs.Nodes.{carries_items, has_link, has_node, is_replica}
+use Rattle.plan_reader.specs.Nodes.{has_edge, has_link, has_node, has_replica}
 use Rattle.plan_reader.specs.Numbers.{number_of}
 use Rattle.plan_reader.specs.PlanView.{PlanView}
 use Rattle.plan_reader.specs.Reading.{◌>>=◌}
@@ -39,14 +39,6 @@ fixed_at text words = do
 abbrev pub there : {A : Type 0} → (A → Bool) → Option A → Result A Fault
 there has None = Err fault.Grammar
 there has (Some x) = if has x then Ok x else Err fault.NoSuchNode
-
--- whether a plan has this node, and it is a replica
-abbrev pub has_replica : PlanView → NodeId → Bool
-has_replica plan n = is_replica n && has_node plan n
-
--- whether an edge of a plan leads from one node to another
-abbrev pub has_edge : PlanView → NodeId → NodeId → Bool
-has_edge plan from to = has_node plan from && has_node plan to && carries_items plan from to
 
 unfoldable pub node_at : PlanView → List Word → Read NodeId
 node_at plan words = do

@@ -3,7 +3,7 @@ ghost use Rattle.std.specs.Prelude.{◌≡◌, ◌≤◌, IfOk, true};
 ghost use Rattle.tuple_edge.specs.declared.event.Event.TheVariants as event;
 ghost use Rattle.plan_reader.specs.Reading.{Takes};
 ghost use Rattle.run_journal.specs.Events.{ask_back_at, ask_stop_at, event_at, kill_at, last_replica_at, make_at, once, pull_at, take_at, work_at};
-ghost use Rattle.run_journal.specs.Grammar.{has_replica};
+ghost use Rattle.plan_reader.specs.Nodes.{has_replica};
 ghost use Rattle.run_journal.specs.Limits.{max_repeats};
 ghost use Rattle.run_journal.specs.Text.{IsNamed};
 

@@ -2,7 +2,8 @@
 ghost use Rattle.std.specs.Prelude.{◌≡◌, ◌≤◌, IfOk, true};
 ghost use Rattle.plan_reader.specs.Nodes.{has_link, has_node};
 ghost use Rattle.plan_reader.specs.Reading.{Takes, TakesBy};
-ghost use Rattle.run_journal.specs.Grammar.{end_at, fixed_at, has_edge, has_replica, in_range, index_at, link_at, node_at, replica_at, target_at, times_at, word_at};
+ghost use Rattle.plan_reader.specs.Nodes.{has_edge, has_replica};
+ghost use Rattle.run_journal.specs.Grammar.{end_at, fixed_at, in_range, index_at, link_at, node_at, replica_at, target_at, times_at, word_at};
 ghost use Rattle.run_journal.specs.Limits.{max_index, max_repeats};
 
 use crate::error::Fault;

@@ -1,0 +1,11 @@
+pub mod ByKeyAnswers
+pub mod StatesAfter
+pub mod Picking
+pub mod WorkSteps
+pub mod Gathering
+pub mod Together
+pub mod Opening
+pub mod Feeding
+pub mod Moving
+pub mod KeyCounts
+pub mod KeysBelow

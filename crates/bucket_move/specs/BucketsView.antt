@@ -1,0 +1,104 @@
+-- What contracts see of buckets, and what they are after calls.
+use Rattle.std.specs.Prelude.{ℕ, ◌≡◌, ◌<◌, ◌^◌, ◌%◌, ◌==◌, Bool, true, false, List, [], ◌∷◌, ◌++◌, length, map, slice_index, slice_index_or, slice_set}
+use Rattle.std.specs.List.{All, filter, range_with_len}
+use Rattle.tuple_edge.specs.declared.row.Row.{Row}
+use Rattle.stream_ops.specs.Answers.{answers}
+use Rattle.stream_ops.specs.Entries.{entries}
+use Rattle.stream_ops.specs.Kept.{keys_after}
+use Rattle.stream_ops.specs.State.{StateView, rebuilt, unseen}
+use Rattle.stream_ops.specs.declared.spec.OpSpec.{OpSpec}
+use Rattle.plan_reader.specs.PlanView.{IsStage}
+use Rattle.plan_reader.specs.declared.stage.Stage.{Stage}
+use Rattle.bucket_move.specs.ByKey.{is_keyed}
+use Rattle.bucket_move.specs.Limits.{buckets}
+use Rattle.bucket_move.specs.Rows.{bucket_of, items_of, rows_in}
+
+pub record BucketsView : Type 0 where
+  -- the one stage of the plan
+  pub stage : Stage
+  -- the partition of each bucket
+  pub table : List ℕ
+  -- what each partition keeps of each bucket
+  pub kept : List (List StateView)
+  -- the answers to the rows fed
+  pub emitted : List Row
+  -- how many rows were fed
+  pub count : ℕ
+  -- whether memory ran out in a feed
+  pub failed : Bool
+
+-- ---- calls
+
+-- a call of `feed`, or of `move_bucket`
+pub data Call : Type 0 where
+  Feeds : (rows : List Row) → Call
+  Moves : (bucket to : ℕ) → Call
+
+-- the rows that calls feed, in order
+abbrev pub fed : List Call → List Row
+fed [] = []
+fed (Feeds rows ∷ calls) = rows ++ fed calls
+fed (Moves bucket to ∷ calls) = fed calls
+
+-- the table at the opening: each bucket begins at its number modulo the number of partitions
+abbrev pub opening_table : ℕ → List ℕ
+opening_table parts = map (λ bucket. bucket % parts) (range_with_len 0 buckets)
+
+-- a table after calls: a move puts a bucket elsewhere
+unfoldable pub table_after : List ℕ → List Call → List ℕ
+table_after table [] = table
+table_after table (Feeds rows ∷ calls) = table_after table calls
+table_after table (Moves bucket to ∷ calls) = table_after (slice_set table bucket to) calls
+
+-- ---- what stands where
+
+-- the partition of a bucket
+abbrev pub part_of : List ℕ → ℕ → ℕ
+part_of table bucket = slice_index table bucket
+
+-- an operator that was given these rows
+abbrev pub state_after : OpSpec → List Row → StateView
+state_after spec rows = rebuilt spec (entries spec (items_of rows))
+
+-- what a partition keeps of a bucket
+abbrev pub state_in : OpSpec → List StateView → ℕ → StateView
+state_in spec states bucket = slice_index_or states bucket (unseen spec)
+
+abbrev pub state_at : OpSpec → List (List StateView) → ℕ → ℕ → StateView
+state_at spec kept part bucket = state_in spec (slice_index_or kept part []) bucket
+
+-- of each bucket the partition where a table has it keeps what the bucket's rows make of an operator
+abbrev pub AllStand : Stage → List ℕ → List (List StateView) → List Row → Type 0
+AllStand stage table kept rows =
+    (bucket : ℕ) → bucket < buckets → state_at stage.op kept (part_of table bucket) bucket ≡ state_after stage.op (rows_in stage.by bucket rows)
+
+-- What the buckets of a plan's stage are after calls, whatever was moved when: the rows were answered one after another as one operator answers them, each bucket
+-- stands where the table has it, and its partition keeps what the rows of the bucket make of an operator.
+pub record IsAfter (stage : Stage) (calls : List Call) (b : BucketsView) : Type 0 where
+  pub of_plan : b.stage ≡ stage
+  pub whole : b.failed ≡ false
+  pub table : b.table ≡ table_after (opening_table b.stage.parts) calls
+  pub emitted : b.emitted ≡ answers b.stage.op [] (items_of (fed calls))
+  pub states : AllStand b.stage b.table b.kept (fed calls)
+  pub count : b.count ≡ length (fed calls)
+
+-- ---- keys
+
+-- the rows whose bucket a table has at a partition
+abbrev pub rows_at : Stage → List ℕ → ℕ → List Row → List Row
+rows_at stage table part rows = filter (λ r. part_of table (bucket_of stage.by r) == part) rows
+
+-- how many keys the rows of a partition's buckets have; a `keep` has none
+abbrev pub keys_at : Stage → List ℕ → ℕ → List Row → ℕ
+keys_at stage table part rows = length (keys_after stage.op (items_of (rows_at stage table part rows)))
+
+-- ---- what is always true
+
+pub record IsRight (b : BucketsView) : Type 0 where
+  pub stage : IsStage b.stage
+  pub keyed : is_keyed b.stage.by b.stage.op ≡ true
+  pub table : length b.table ≡ buckets
+  pub within : All (λ part. part < b.stage.parts) b.table
+  pub parts : length b.kept ≡ b.stage.parts
+  pub slots : All (λ states. length states ≡ buckets) b.kept
+  pub count : b.count < 2 ^ 64

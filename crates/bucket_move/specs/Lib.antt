@@ -1,0 +1,9 @@
+pub mod BucketsView
+pub mod ByKey
+pub mod Grammar
+pub mod Limits
+pub mod Messages
+pub mod Moves
+pub mod Rows
+pub mod Shifts
+pub mod Working

@@ -1,0 +1,4 @@
+pub mod Forms
+pub mod Syntax
+pub mod Views
+pub mod Words
