@@ -1,0 +1,58 @@
+-- The promises hold of every core.
+use Rattle.std.proofs.Common.{◌≡◌, ◌∙◌, ℕ, true, false, Bool, Some, List, unwrap_or, sym, ap, subst, arith}
+use Rattle.tuple_edge.specs.Input.{Input}
+use Rattle.tuple_edge.specs.declared.node.NodeId.TheVariants as node
+use Rattle.tuple_edge.specs.declared.node.Which.{Which}
+use Rattle.plan_reader.specs.PlanView.{IsPlan, PlanView}
+use Rattle.pair_machine.specs.CountLaws.{IsMerging}
+use Rattle.pair_machine.specs.Counts.{entries_after, flow_of}
+use Rattle.pair_machine.specs.Links.{HasNode}
+use Rattle.pair_machine.specs.Machine.{replica_in}
+use Rattle.pair_machine.specs.Numbers.{Gathering, Gone, Partition, Replica as ReplicaNumbers, Running as RunningNumbers}
+use Rattle.pair_machine.proofs.CountLaws.{in_their_order}
+use Rattle.pair_machine.proofs.MachineLaws.{sound_owes}
+use Rattle.replica_node.specs.Phases.{running_in}
+use Rattle.replica_node.specs.declared.phase.Running.{Running}
+use Rattle.replica_node.specs.ReplicaView.{ReplicaView}
+use Rattle.replica_node.specs.StandsFor.{PhaseStands}
+use Rattle.replica_node.specs.declared.phase.Phase.{Phase}
+use Rattle.replica_node.specs.declared.phase.Phase.TheVariants as phase
+use Rattle.flux_core.specs.Acts.{merges_at}
+use Rattle.flux_core.specs.CoreView.{Content, CoreView, ReplicaIs, inputs_of, station}
+use Rattle.flux_core.specs.Promises.{HasMergedInOrder, HoldsWhatIsOwed, MergesInOrder}
+use Rattle.flux_core.specs.Stands.{ContentStands, IsCore, IsKnown}
+use Rattle.flux_core.proofs.Done.{some_state}
+
+module _ (plan : PlanView) (rows : List Input) (is : IsPlan plan) where
+  merged_running : (p : Partition) → IsMerging (flow_of plan rows) p → (f : Phase) (x : ReplicaNumbers) (r : Running) → PhaseStands plan rows p f x → running_in f ≡ Some r → HasMergedInOrder plan rows p r
+  unfolding flow_of
+  merged_running p m (phase.Running now) (RunningNumbers x) r h e =
+      let same : now ≡ r = ap (λ o. unwrap_or o r) e in
+      subst (HasMergedInOrder plan rows p) same (record {
+        entries = h.entries ∙ ap (entries_after plan rows p) (sym h.consumer.count);
+        edges = λ q l. in_their_order plan rows is p q now.consumer.merge.count m l;
+      })
+  merged_running p m (phase.Running now) (Gathering g) r h e = absurd h
+  merged_running p m (phase.Running now) (Gone i) r h e = absurd h
+  merged_running p m (phase.Gathering g) x r h e = let z : ⊥ = cc e in absurd z
+  merged_running p m (phase.Gone i) x r h e = let z : ⊥ = cc e in absurd z
+
+  merged_there : (stage part : ℕ) (which : Which) → HasNode (flow_of plan rows) (node.Replica stage part which) → (c : Content) (x : _) → ContentStands plan rows (node.Replica stage part which) c x
+      → (v : ReplicaView) (r : Running) → c ≡ ReplicaIs v → running_in v.phase ≡ Some r → HasMergedInOrder plan rows (record { stage = stage; part = part }) r
+  merged_there stage part which has c x h v r e running =
+      let here : ContentStands plan rows (node.Replica stage part which) (ReplicaIs v) x = subst (λ k. ContentStands plan rows (node.Replica stage part which) k x) e h in
+      let named = ap (merges_at plan rows) here.0 in
+      let first = has.0.0 in let last = has.0.1 in
+      merged_running (record { stage = stage; part = part }) (record { first = first; last = omega (arith, last) }) v.phase (replica_in x) r (subst (λ p. PhaseStands plan rows p v.phase (replica_in x)) named here.1.phase_stands) running
+
+pub merges_in_order : (core : CoreView) → IsCore core → MergesInOrder core
+merges_in_order core is stage part which has v r e running =
+    let s = some_state core is in
+    merged_there core.plan (inputs_of core) is.plan stage part which has (station core (node.Replica stage part which)).content (s.0.nodes (node.Replica stage part which)) (s.1 (node.Replica stage part which) has).content v r e running
+
+owes : (core : CoreView) (whole : Bool) → IsPlan core.plan → IsKnown whole core → HoldsWhatIsOwed core
+owes core true plan h = (h.state, h.stands, sound_owes core.plan (inputs_of core) plan h.state h.sound)
+owes core false plan h = (h.state, h.stands, h.drainable.owed)
+
+pub holds_what_is_owed : (core : CoreView) → IsCore core → HoldsWhatIsOwed core
+holds_what_is_owed core is = owes core core.whole is.plan is.known

@@ -1,0 +1,14 @@
+use Rattle.std.proofs.Common.{◌≡◌, ◌++◌}
+use Rattle.std.specs.Vec.Iter.{into_iter_items}
+use Rattle.partition_runner.specs.Runs.{parts_in}
+use Rattle.partition_runner.specs.Sorted.{AreSorted}
+use Rattle.partition_runner.proofs.sorting.sort_all.Given as goal
+
+abbrev pub invariant-loop-part : goal.invariant-loop-part
+invariant-loop-part l =
+    goal.iterator-loop-part.can_next l.part-iterator ×
+    goal.iterator-loop-part.is_finite l.part-iterator ×
+    record {
+      left : l.yielded ++ into_iter_items l.part-iterator ≡ l.fn.parts.items;
+      done : AreSorted (parts_in l.yielded) l.sorted;
+    }

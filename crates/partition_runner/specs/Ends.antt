@@ -1,0 +1,42 @@
+-- What contracts see of a node's ends of links.
+use Rattle.std.specs.Prelude.{◌≤◌, ℕ, List, [], ◌∷◌, map, if◌then◌else◌, Bool, false, ◌||◌}
+use Rattle.flux_link.specs.Identity.{Identity}
+use Rattle.flux_link.specs.declared.arrival.Arrival.{Arrival}
+use Rattle.pair_machine.specs.Lists.{Each}
+use Rattle.pair_machine.specs.Numbers.{is_node}
+use Rattle.tuple_edge.specs.declared.node.NodeId.{NodeId}
+use Rattle.tuple_edge.specs.declared.packet.Packet.{Packet}
+
+-- a link on which a node receives: the sender, which link it is, and the arrivals that it gave
+pub record InLink : Type 0 where
+  pub from : NodeId
+  pub identity : Identity
+  pub given : List Arrival
+
+-- a link on which a node sends: the receiver, which link it is, and the packets emitted on it, whether sent or still waiting for room
+pub record OutLink : Type 0 where
+  pub to : NodeId
+  pub identity : Identity
+  pub emitted : List Packet
+
+-- the end of a link on which a node sends: the link, and how many further packets may wait there without memory
+pub record OutEndView : Type 0 where
+  pub link : OutLink
+  pub spare : ℕ
+
+abbrev pub links_of : List OutEndView → List OutLink
+links_of outs = map (λ e. e.link) outs
+
+-- at each end there is room for so many packets
+abbrev pub HaveRoom : ℕ → List OutEndView → Type 0
+HaveRoom n outs = Each (λ e. n ≤ e.spare) outs
+
+-- the packets emitted on the link to a node
+abbrev pub emitted_to : List OutLink → NodeId → List Packet
+emitted_to [] n = []
+emitted_to (l ∷ ls) n = if is_node l.to n then l.emitted else emitted_to ls n
+
+-- a link leads to a node
+abbrev pub leads_to : List OutLink → NodeId → Bool
+leads_to [] n = false
+leads_to (l ∷ ls) n = is_node l.to n || leads_to ls n

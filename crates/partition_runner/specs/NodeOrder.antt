@@ -1,0 +1,51 @@
+-- The nodes of a plan in their order: ingress, then the pairs by stage and partition, in each replica A, replica B and the controller, and
+-- last egress.
+use Rattle.std.specs.Prelude.{ℕ, ◌+◌, zero, suc, List, [], ◌∷◌, ◌++◌}
+use Rattle.tuple_edge.specs.declared.node.NodeId.{NodeId}
+use Rattle.tuple_edge.specs.declared.node.NodeId.TheVariants as node
+use Rattle.tuple_edge.specs.declared.node.Which.TheVariants.{A, B}
+use Rattle.plan_reader.specs.PlanView.{PlanView}
+use Rattle.plan_reader.specs.declared.stage.Stage.{Stage}
+
+abbrev pub pair_nodes : ℕ → ℕ → List NodeId
+pair_nodes stage part = node.Replica stage part A ∷ node.Replica stage part B ∷ node.Control stage part ∷ []
+
+-- the nodes of a stage's first partitions
+abbrev pub stage_nodes : ℕ → ℕ → List NodeId
+stage_nodes stage zero = []
+stage_nodes stage (suc part) = stage_nodes stage part ++ pair_nodes stage part
+
+-- the nodes of stages, of which the first has this number
+abbrev pub stages_nodes : ℕ → List Stage → List NodeId
+stages_nodes number [] = []
+stages_nodes number (s ∷ stages) = stage_nodes number s.parts ++ stages_nodes (number + 1) stages
+
+-- all but egress
+abbrev pub nodes_before_egress : PlanView → List NodeId
+nodes_before_egress plan = node.Ingress ∷ stages_nodes 1 plan.stages
+
+abbrev pub nodes_of : PlanView → List NodeId
+nodes_of plan = nodes_before_egress plan ++ node.Egress ∷ []
+
+-- ---- of one kind
+
+abbrev pub replicas_among : List NodeId → List NodeId
+replicas_among [] = []
+replicas_among (node.Ingress ∷ ns) = replicas_among ns
+replicas_among (node.Replica stage part which ∷ ns) = node.Replica stage part which ∷ replicas_among ns
+replicas_among (node.Control stage part ∷ ns) = replicas_among ns
+replicas_among (node.Egress ∷ ns) = replicas_among ns
+
+abbrev pub controls_among : List NodeId → List NodeId
+controls_among [] = []
+controls_among (node.Ingress ∷ ns) = controls_among ns
+controls_among (node.Replica stage part which ∷ ns) = controls_among ns
+controls_among (node.Control stage part ∷ ns) = node.Control stage part ∷ controls_among ns
+controls_among (node.Egress ∷ ns) = controls_among ns
+
+-- the plan's replicas, and its controllers, in the order of nodes
+abbrev pub replicas_of : PlanView → List NodeId
+replicas_of plan = replicas_among (nodes_of plan)
+
+abbrev pub controls_of : PlanView → List NodeId
+controls_of plan = controls_among (nodes_of plan)

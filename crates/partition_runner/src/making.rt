@@ -1,0 +1,119 @@
+// The nodes of a run are made, with their links.
+ghost use Rattle.pair_machine.specs.Lists.{Each};
+ghost use Rattle.partition_runner.specs.Drafts.{all_unlinked, unlinked};
+ghost use Rattle.partition_runner.specs.NodeView.{name_of};
+ghost use Rattle.partition_runner.specs.Ready.{AreNodesOf, HaveTheirLinks};
+ghost use Rattle.partition_runner.specs.States.{id_of};
+ghost use Rattle.plan_reader.specs.Nodes.{has_node};
+ghost use Rattle.std.specs.Prelude.{◌≡◌, [], true, IfOk, IfSome, IsTrue, is_some, map};
+ghost use Rattle.trade_text.specs.TradesView.{inputs_in};
+
+use crate::connecting::connect_all;
+use crate::draft::Draft;
+use crate::links::Links;
+use crate::names::RunNames;
+use crate::node::Node;
+use crate::opening::opening_state;
+use crate::order::nodes_before_egress;
+use crate::state::NodeState;
+use crate::tap::Tap;
+use plan_reader::Plan;
+use std::alloc::Global;
+use trade_text::Trades;
+use tuple_edge::{NodeId, OutOfMemory};
+
+// A node of the plan as it opens, with no link yet.
+fn draft_of<N: RunNames, M: Links, T: Tap>(
+    alloc: Global,
+    plan: &Plan,
+    trades: &Trades,
+    id: NodeId,
+    tap: Option<T>,
+) -> Result<Draft<N, M, T>, OutOfMemory>
+    requires plan { plan.now ≡ N.plan }
+    requires trades { inputs_in trades.now ≡ N.inputs }
+    requires there { IsTrue (has_node plan.now id) }
+    requires tap { IfSome tap (λ t. T.given t ≡ []) }
+    ensures { IfOk result (λ d. d ≡ record { id = id; ins = []; outs = []; tapped = is_some tap }) }
+{
+    let state = opening_state(alloc, plan, trades, id)?;
+    Ok(Draft::new(alloc, state, tap))
+}
+
+// The nodes of these names as they open, none with a link or a tap.
+fn untapped<N: RunNames, M: Links, T: Tap>(
+    alloc: Global,
+    plan: &Plan,
+    trades: &Trades,
+    ids: &[NodeId],
+) -> Result<Vec<Draft<N, M, T>>, OutOfMemory>
+    requires plan { plan.now ≡ N.plan }
+    requires trades { inputs_in trades.now ≡ N.inputs }
+    requires there { Each (λ n. has_node plan.now n ≡ true) ids.now }
+    ensures { IfOk result (λ drafts. drafts.items ≡ unlinked ids.now) }
+{
+    let mut drafts = Vec::with_capacity(alloc, ids.len())?;
+    for place in 0..ids.len() {
+        let id = ids[place];
+        drafts.push(draft_of(alloc, plan, trades, id, None)?)?;
+    }
+    Ok(drafts)
+}
+
+// All nodes of the plan as they open, in their order, with no link yet; egress has the tap.
+fn drafts_of<N: RunNames, M: Links, T: Tap>(
+    alloc: Global,
+    plan: &Plan,
+    trades: &Trades,
+    tap: T,
+) -> Result<Vec<Draft<N, M, T>>, OutOfMemory>
+    requires plan { plan.now ≡ N.plan }
+    requires trades { inputs_in trades.now ≡ N.inputs }
+    requires tap { T.given tap ≡ [] }
+    ensures { IfOk result (λ drafts. drafts.items ≡ all_unlinked plan.now) }
+{
+    let ids = nodes_before_egress(alloc, plan)?;
+    let mut drafts = untapped(alloc, plan, trades, &ids)?;
+    drafts.push(draft_of(alloc, plan, trades, NodeId::Egress, Some(tap))?)?;
+    Ok(drafts)
+}
+
+// The nodes, which have their links now.
+fn finished<N: RunNames, M: Links, T: Tap>(
+    alloc: Global,
+    plan: &Plan,
+    trades: &Trades,
+    drafts: Vec<Draft<N, M, T>>,
+) -> Result<Vec<Node<N, NodeState, M, T>>, OutOfMemory>
+    requires plan { plan.now ≡ N.plan }
+    requires trades { inputs_in trades.now ≡ N.inputs }
+    requires links { HaveTheirLinks plan.now drafts.items }
+    ensures { IfOk result (λ nodes. map (name_of id_of) nodes.items ≡ drafts.items) }
+{
+    let _stages = plan.stages();
+    let _rows = trades.rows();
+    let mut nodes = Vec::with_capacity(alloc, drafts.len())?;
+    for draft in drafts {
+        nodes.push(draft.finish(alloc))?;
+    }
+    Ok(nodes)
+}
+
+/// All nodes of the plan as they open, in their order, with their links; egress has the tap.
+pub(crate) fn make_nodes<N: RunNames, M: Links, T: Tap>(
+    alloc: Global,
+    plan: &Plan,
+    trades: &Trades,
+    tap: T,
+    links: &mut M,
+) -> Result<Vec<Node<N, NodeState, M, T>>, OutOfMemory>
+    requires plan { plan.now ≡ N.plan }
+    requires trades { inputs_in trades.now ≡ N.inputs }
+    requires tap { T.given tap ≡ [] }
+    ensures { IfOk result (λ nodes. AreNodesOf plan.now (map (name_of id_of) nodes.items)) }
+{
+    let mut drafts = drafts_of(alloc, plan, trades, tap)?;
+    connect_all(alloc, plan, &mut drafts, links)?;
+    let nodes = finished(alloc, plan, trades, drafts)?;
+    Ok(nodes)
+}

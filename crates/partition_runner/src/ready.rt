@@ -1,0 +1,126 @@
+// A run that is ready: its nodes on the board, and room for what it leaves.
+ghost use Rattle.partition_runner.specs.NodeOrder.{nodes_of};
+ghost use Rattle.partition_runner.specs.Runs.{IsRun, TapOfSome, parts_in};
+ghost use Rattle.partition_runner.specs.States.{StandsFor, id_of, rows_of};
+ghost use Rattle.std.specs.Prelude.{◌≡◌, ◌<◌, [], Some};
+ghost use Rattle.trade_text.specs.TradesView.{inputs_in};
+
+use crate::gate::Gate;
+use crate::links::Links;
+use crate::making::make_nodes;
+use crate::names::RunNames;
+use crate::node::Node;
+use crate::part::Part;
+use crate::running::run_linked;
+use crate::state::NodeState;
+use crate::tap::Tap;
+use crate::worker::Shared;
+use claim_board::{Board, BoardSeat};
+use failure_script::Script;
+use plan_reader::Plan;
+use std::alloc::Global;
+use std::marker::Model;
+use std::sync::atomic::AtomicBool;
+use std::sync::atomic::Ordering::SeqCst;
+use std::thread::Threads;
+use trade_text::Trades;
+use tuple_edge::OutOfMemory;
+
+/// All nodes of a plan on the board, as they open, with their links, a tap beside egress, and room for
+/// what is left of them.
+#[derive(Drop)]
+pub(crate) struct Ready<N: RunNames, M: Links, T: Tap> {
+    board: Board<Node<N, NodeState, M, T>>,
+    seats: Vec<BoardSeat<Node<N, NodeState, M, T>>>,
+    places: usize,
+    parts: Vec<Part<NodeState>>,
+}
+
+impl<N: RunNames, M: Links, T: Tap> Model for Ready<N, M, T> {
+    ghost use Rattle.claim_board.specs.Board.{AllHoldNone, AreAll, opening_of};
+    ghost use Rattle.partition_runner.specs.NodeView.{NodeName, name_of};
+    ghost use Rattle.partition_runner.specs.Ready.{AreNodesOf};
+    ghost use Rattle.partition_runner.specs.States.{id_of};
+    ghost use Rattle.std.specs.Prelude.{◌≡◌, ◌<◌, ◌≤◌, List, length, map, vec_capacity, vec_len};
+
+    ghost Value = { List NodeName };
+
+    ghost view = { λ r. map (name_of id_of) (opening_of r.board) };
+
+    ghost invariant = { λ r. ((0 < r.places) × (length (opening_of r.board) ≡ r.places)) × (AreAll r.board r.seats.items × AllHoldNone r.seats.items)
+        × AreNodesOf N.plan (map (name_of id_of) (opening_of r.board)) × ((vec_len r.parts ≡ 0) × (r.places ≤ vec_capacity r.parts)) };
+}
+
+/// Makes the nodes, their links and the board for so many workers.
+pub(crate) fn make_ready<N: RunNames, M: Links, T: Tap + Send>(
+    alloc: Global,
+    plan: &Plan,
+    trades: &Trades,
+    threads: u32,
+    links: &mut M,
+    tap: T,
+) -> Result<Ready<N, M, T>, OutOfMemory>
+    requires plan { plan.now ≡ N.plan }
+    requires trades { inputs_in trades.now ≡ N.inputs }
+    requires threads { 0 < threads }
+    requires tap { T.given tap ≡ [] }
+{
+    let nodes = make_nodes(alloc, plan, trades, tap, links)?;
+    let places = nodes.len();
+    let parts = Vec::with_capacity(alloc, places)?;
+    let Ok((board, seats)) = Board::new(alloc, nodes, threads) else {
+        return Err(OutOfMemory);
+    };
+    Ok(Ready {
+        board,
+        seats,
+        places,
+        parts,
+    })
+}
+
+/// What a run that has ended leaves: its nodes with their histories, in the order of nodes, the tap, and
+/// whether a worker found no memory.
+#[derive(Drop)]
+pub(crate) struct Ended<T: Tap> {
+    pub(crate) parts: Vec<Part<NodeState>>,
+    pub(crate) tap: T,
+    pub(crate) failed: bool,
+}
+
+/// Runs what is ready, each seat in a thread. All nodes of the plan come back in their order, each with
+/// its history; all events in the order of their clocks are legal and within the script, and each node
+/// stands for its numbers in the state that they reach.
+pub(crate) fn run_ready<N: RunNames, M: Links, T: Tap + Send, R: Threads + Sync, G: Gate>(
+    rt: &R,
+    plan: &Plan,
+    script: &Script,
+    turns: u64,
+    gate: &G,
+    links: &mut M,
+    ready: Ready<N, M, T>,
+) -> Ended<T>
+    requires plan { plan.now ≡ N.plan }
+    requires script { script.now ≡ N.script }
+    ensures run { IsRun id_of StandsFor N.plan N.inputs N.script (nodes_of N.plan) (parts_in result.parts.items) }
+    ensures tap { TapOfSome T.given rows_of (Some result.tap) (parts_in result.parts.items) }
+{
+    let _stages = plan.stages();
+    let Ready {
+        board,
+        seats,
+        places,
+        parts,
+    } = ready;
+    let shared = Shared {
+        plan,
+        script,
+        gate,
+        turns,
+        failed: AtomicBool::new(false),
+    };
+    let (parts, tap) = run_linked(rt, board, seats, parts, places, &shared, links);
+    let Some(tap) = tap else { unreachable!() };
+    let failed = shared.failed.load(SeqCst);
+    Ended { parts, tap, failed }
+}

@@ -1,0 +1,167 @@
+// Runs: over rings, over any links, and with a tap beside egress.
+ghost use mathlib.Core.List.{IsPrefix};
+ghost use Rattle.pair_machine.specs.Output.{output};
+ghost use Rattle.partition_runner.specs.Ran.{IsLegalRun};
+ghost use Rattle.std.specs.Prelude.{◌≡◌, ◌≤◌, [], IfOk, MatchResult};
+ghost use Rattle.trade_text.specs.TradesView.{inputs_in};
+
+use crate::gate::Gate;
+use crate::links::Links;
+use crate::names::RunNames;
+use crate::ran::Ran;
+use crate::ready::{Ended, Ready, make_ready, run_ready};
+use crate::rings::Rings;
+use crate::sorting::ran_of;
+use crate::tap::{NoTap, Tap};
+use failure_script::Script;
+use plan_reader::Plan;
+use std::alloc::Global;
+use std::marker::Brand;
+use std::thread::Threads;
+use trade_text::Trades;
+use tuple_edge::OutOfMemory;
+
+/// A run that is ready, over rings, with a tap beside egress.
+#[derive(Drop)]
+pub struct Tapped<N: RunNames, T: Tap> {
+    ready: Ready<N, Rings, T>,
+}
+
+/// Makes the nodes of a plan as they open, the rings between them and the board for so many workers, with a
+/// tap beside egress. The names are those of the plan, its trades and the script.
+pub fn ready_tapped<N: RunNames, T: Tap + Send>(
+    alloc: Global,
+    plan: &Plan,
+    trades: &Trades,
+    script: &Script,
+    threads: u32,
+    tap: T,
+) -> Result<Tapped<N, T>, OutOfMemory>
+    requires plan { plan.now ≡ N.plan }
+    requires trades { inputs_in trades.now ≡ N.inputs }
+    requires script { script.now ≡ N.script }
+    requires some { 1 ≤ threads }
+    requires few { threads ≤ 16 }
+    requires tap { T.given tap ≡ [] }
+{
+    let _orders = script.orders();
+    let ready = make_ready(alloc, plan, trades, threads, &mut Rings, tap)?;
+    Ok(Tapped { ready })
+}
+
+// What a run comes to that is ready, over any links.
+fn run_named<N: RunNames, M: Links, T: Tap + Send, R: Threads + Sync, G: Gate>(
+    rt: &R,
+    alloc: Global,
+    plan: &Plan,
+    script: &Script,
+    turns: u64,
+    gate: &G,
+    links: &mut M,
+    ready: Ready<N, M, T>,
+) -> (Result<Ran, OutOfMemory>, T)
+    requires plan { plan.now ≡ N.plan }
+    requires script { script.now ≡ N.script }
+    ensures run { IfOk result.0 (IsLegalRun N.plan N.inputs N.script) }
+    ensures tap { MatchResult result.0 (λ ran. IsPrefix (T.given result.1) ran.egress.emitted) (λ _. IsPrefix (T.given result.1) (output N.plan N.inputs)) }
+{
+    let Ended { parts, tap, failed } = run_ready(rt, plan, script, turns, gate, links, ready);
+    if failed {
+        return (Err(OutOfMemory), tap);
+    }
+    let ran = ran_of::<N>(alloc, parts);
+    (ran, tap)
+}
+
+/// Runs what is ready: each worker takes the nodes in turn, until each has done its turns, or egress is done,
+/// or one finds no memory.
+///
+/// There is one history for each node of the plan, in the order of nodes, with rising clocks. All events in
+/// the order of their clocks are legal and within the script, and each node stands for its numbers in the
+/// state that they reach. The tap gave on the first of egress's rows; without memory, of the output.
+pub fn run_tapped<R: Threads + Sync, G: Gate, N: RunNames, T: Tap + Send>(
+    rt: &R,
+    alloc: Global,
+    plan: &Plan,
+    trades: &Trades,
+    script: &Script,
+    turns: u64,
+    gate: &G,
+    ready: Tapped<N, T>,
+) -> (Result<Ran, OutOfMemory>, T)
+    requires plan { plan.now ≡ N.plan }
+    requires trades { inputs_in trades.now ≡ N.inputs }
+    requires script { script.now ≡ N.script }
+    ensures run { IfOk result.0 (IsLegalRun plan.now (inputs_in trades.now) script.now) }
+    ensures tap { MatchResult result.0 (λ ran. IsPrefix (T.given result.1) ran.egress.emitted) (λ _. IsPrefix (T.given result.1) (output plan.now (inputs_in trades.now))) }
+{
+    let _rows = trades.rows();
+    let Tapped { ready } = ready;
+    run_named(rt, alloc, plan, script, turns, gate, &mut Rings, ready)
+}
+
+// The same over any links, with no tap, of names that are the plan's.
+fn run_with<N: RunNames, R: Threads + Sync, M: Links, G: Gate>(
+    rt: &R,
+    alloc: Global,
+    plan: &Plan,
+    trades: &Trades,
+    script: &Script,
+    threads: u32,
+    turns: u64,
+    links: &mut M,
+    gate: &G,
+) -> Result<Ran, OutOfMemory>
+    requires plan { plan.now ≡ N.plan }
+    requires trades { inputs_in trades.now ≡ N.inputs }
+    requires script { script.now ≡ N.script }
+    requires some { 1 ≤ threads }
+    ensures { IfOk result (IsLegalRun plan.now (inputs_in trades.now) script.now) }
+{
+    let ready: Ready<N, M, NoTap> = make_ready(alloc, plan, trades, threads, links, NoTap)?;
+    let (ran, _tap) = run_named(rt, alloc, plan, script, turns, gate, links, ready);
+    ran
+}
+
+/// Runs a plan over its trades by so many workers, each for so many turns, over any links.
+///
+/// There is one history for each node of the plan, in the order of nodes, with rising clocks. All events in
+/// the order of their clocks are legal and within the script, and each node stands for its numbers in the
+/// state that they reach. After want of memory the links stand after the calls that were made of them.
+pub fn run_over<R: Threads + Sync, M: Links, G: Gate>(
+    rt: &R,
+    alloc: Global,
+    plan: &Plan,
+    trades: &Trades,
+    script: &Script,
+    threads: u32,
+    turns: u64,
+    links: &mut M,
+    gate: &G,
+) -> Result<Ran, OutOfMemory>
+    requires some { 1 ≤ threads }
+    requires few { threads ≤ 16 }
+    ensures { IfOk result (IsLegalRun plan.now (inputs_in trades.now) script.now) }
+{
+    run_with::<Brand, R, M, G>(rt, alloc, plan, trades, script, threads, turns, links, gate)
+}
+
+/// The same over rings.
+pub fn run_nodes<R: Threads + Sync, G: Gate>(
+    rt: &R,
+    alloc: Global,
+    plan: &Plan,
+    trades: &Trades,
+    script: &Script,
+    threads: u32,
+    turns: u64,
+    gate: &G,
+) -> Result<Ran, OutOfMemory>
+    requires some { 1 ≤ threads }
+    requires few { threads ≤ 16 }
+    ensures { IfOk result (IsLegalRun plan.now (inputs_in trades.now) script.now) }
+{
+    run_over(
+        rt, alloc, plan, trades, script, threads, turns, &mut Rings, gate,
+    )
+}

@@ -1,0 +1,111 @@
+// What a run leaves of its nodes is sorted, kind by kind.
+ghost use Rattle.pair_machine.specs.Lists.{Among};
+ghost use Rattle.partition_runner.specs.NodeOrder.{nodes_of};
+ghost use Rattle.partition_runner.specs.Ran.{IsLegalRun};
+ghost use Rattle.partition_runner.specs.Runs.{IsRun, parts_in};
+ghost use Rattle.partition_runner.specs.Sorted.{AreSorted};
+ghost use Rattle.partition_runner.specs.States.{StandsFor, id_of};
+ghost use Rattle.partition_runner.specs.declared.state.NodeState.{NodeState};
+ghost use Rattle.partition_runner.specs.declared.state.NodeState.TheVariants as state;
+ghost use Rattle.std.specs.Prelude.{◌++◌, ◌∷◌, [], IfOk, List};
+ghost use Rattle.tuple_edge.specs.declared.event.Stamped.{Stamped};
+
+use crate::acts::Acts;
+use crate::names::RunNames;
+use crate::part::Part;
+use crate::ran::Ran;
+use crate::state::NodeState;
+use ingress_egress::{Egress, Ingress};
+use pair_control::PairControl;
+use replica_node::Replica;
+use std::alloc::Global;
+use tuple_edge::{History, OutOfMemory};
+
+// What is left of some nodes, kind by kind.
+#[derive(Drop)]
+pub(crate) struct Sorted {
+    pub(crate) ingress: Option<Ingress>,
+    pub(crate) replicas: Vec<Replica>,
+    pub(crate) controls: Vec<PairControl>,
+    pub(crate) egress: Option<Egress>,
+    pub(crate) histories: Vec<History>,
+}
+
+// One part more.
+fn with_part(sorted: Sorted, part: Part<NodeState>) -> Result<Sorted, OutOfMemory>
+    ensures { (parts : List (NodeState × List Stamped)) → AreSorted parts sorted
+        → IfOk result (AreSorted (parts ++ (part.state, part.history.items) ∷ [])) }
+{
+    let mut sorted = sorted;
+    let Part { state, history } = part;
+    let node = state.id();
+    sorted.histories.push(History {
+        node,
+        entries: history,
+    })?;
+    match state {
+        NodeState::Ingress(node) => {
+            sorted.ingress = Some(node);
+            Ok(sorted)
+        }
+        NodeState::Replica(node) => {
+            sorted.replicas.push(node)?;
+            Ok(sorted)
+        }
+        NodeState::Control(node) => {
+            sorted.controls.push(node)?;
+            Ok(sorted)
+        }
+        NodeState::Egress(node) => {
+            sorted.egress = Some(node);
+            Ok(sorted)
+        }
+    }
+}
+
+// All parts, kind by kind.
+fn sort_all(alloc: Global, parts: Vec<Part<NodeState>>) -> Result<Sorted, OutOfMemory>
+    ensures { IfOk result (AreSorted (parts_in parts.items)) }
+{
+    let mut sorted = Sorted {
+        ingress: None,
+        replicas: Vec::new(alloc),
+        controls: Vec::new(alloc),
+        egress: None,
+        histories: Vec::new(alloc),
+    };
+    for part in parts {
+        sorted = with_part(sorted, part)?;
+    }
+    Ok(sorted)
+}
+
+/// What a run has left of the nodes of a plan, kind by kind.
+pub(crate) fn ran_of<N: RunNames>(
+    alloc: Global,
+    parts: Vec<Part<NodeState>>,
+) -> Result<Ran, OutOfMemory>
+    requires { IsRun id_of StandsFor N.plan N.inputs N.script (nodes_of N.plan) (parts_in parts.items) }
+    ensures run { IfOk result (IsLegalRun N.plan N.inputs N.script) }
+    ensures egress { IfOk result (λ ran. (h : List Stamped) × Among (state.Egress ran.egress, h) (parts_in parts.items)) }
+{
+    let sorted = sort_all(alloc, parts)?;
+    let Sorted {
+        ingress,
+        replicas,
+        controls,
+        egress,
+        histories,
+    } = sorted;
+    let Some(ingress) = ingress else {
+        unreachable!()
+    };
+    let Some(egress) = egress else { unreachable!() };
+    Ok(Ran {
+        ingress,
+        replicas,
+        controls,
+        egress,
+        histories,
+    })
+}
