@@ -1,4 +1,4 @@
-use Rattle.std.proofs.Common.{◌≡◌, ◌∙◌, ◌<◌, length, slice_index_or, drop, ◌+◌, ap, arith}
+use Rattle.std.proofs.Common.{◌∙◌, ◌<◌, length, drop, ◌+◌, ap, arith}
 use Rattle.flux_core.specs.CoreView.{CoreView, inputs_of}
 use Rattle.flux_core.proofs.Following.{along_at, along_next, along_none, stopped}
 use Rattle.flux_core.proofs.Placed.{emitted_front}
