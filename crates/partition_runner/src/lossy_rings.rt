@@ -1,4 +1,6 @@
 // Links for tests, which drop, repeat and reorder.
+ghost use Rattle.std.specs.Prelude.{◌≡◌};
+
 use crate::links::Links;
 use flux_link::{Choice, LossyIn, RingIn, RingOut, ring};
 use std::alloc::Global;
@@ -12,7 +14,9 @@ pub struct LossyRings {
 
 impl LossyRings {
     /// Rings whose inlets treat the n-th packet by the n-th choice.
-    pub fn new(_alloc: Global, choices: Vec<Choice>) -> LossyRings {
+    pub fn new(_alloc: Global, choices: Vec<Choice>) -> LossyRings
+        ensures { result.choices.items ≡ choices.items }
+    {
         LossyRings { choices }
     }
 }
