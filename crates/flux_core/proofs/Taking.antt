@@ -59,7 +59,7 @@ nth-none R xs ys (suc k) h e = pairwise-none R xs ys k h e
 
 -- ---- the log of a node
 
-sent_is : (plan : PlanView) (whole : Bool) (i : IngressView) (rs : List ReplicaView) (cs : List ControllerView) (e : EgressView) (li : Log) (lr lc : List Log) (le : Log) (n : NodeId)
+pub sent_is : (plan : PlanView) (whole : Bool) (i : IngressView) (rs : List ReplicaView) (cs : List ControllerView) (e : EgressView) (li : Log) (lr lc : List Log) (le : Log) (n : NodeId)
     → log_in plan li lr lc le n ≡ (station (core_of plan whole i rs cs e li lr lc le) n).sent
 sent_is plan whole i rs cs e li lr lc le node.Ingress = refl
 sent_is plan whole i rs cs e li lr lc le (node.Replica s p w) = refl

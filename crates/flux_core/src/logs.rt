@@ -11,7 +11,7 @@ use crate::error::ApplyError;
 use crate::places::{pair_place, replica_place};
 use crate::sent::Sent;
 use plan_reader::Plan;
-use tuple_edge::{LinkId, NodeId};
+use tuple_edge::{LinkId, NodeId, Outbox};
 
 /// What each node ever sent, those of a kind in the plan's order.
 #[derive(Drop)]
@@ -81,5 +81,21 @@ pub(crate) fn taken_from(
             taken_at(&mut logs.controls, place, link, index)
         }
         NodeId::Egress => taken(&mut logs.egress, link, index),
+    }
+}
+
+// The log of a node of the plan.
+pub(crate) fn log_of<'a>(logs: &'a Logs, plan: &Plan, node: NodeId) -> &'a Outbox
+    requires there { IsTrue (has_node plan.now node) }
+    requires places { HasPlaces plan.now logs.now.replicas.items logs.now.controls.items node }
+    ensures { result.now.packets ≡ log_in plan.now logs.now.ingress logs.now.replicas.items logs.now.controls.items logs.now.egress node }
+{
+    match node {
+        NodeId::Ingress => &logs.ingress.log,
+        NodeId::Replica { stage, part, which } => {
+            &logs.replicas[replica_place(plan, stage, part, which)].log
+        }
+        NodeId::Control { stage, part } => &logs.controls[pair_place(plan, stage, part)].log,
+        NodeId::Egress => &logs.egress.log,
     }
 }

@@ -3,18 +3,18 @@ ghost use Rattle.flux_core.specs.CoreView.{ControllerIs, ReplicaIs, ingress_cont
 ghost use Rattle.flux_core.specs.Stands.{IsCore};
 ghost use Rattle.ingress_egress.specs.EgressView.{IsFrontOf};
 ghost use Rattle.pair_machine.specs.Output.{output};
-ghost use Rattle.plan_reader.specs.Nodes.{has_pair};
+ghost use Rattle.plan_reader.specs.Nodes.{has_node, has_pair};
 ghost use Rattle.std.specs.Prelude.{◌≡◌, ◌≤◌, IsTrue, length};
 ghost use Rattle.tuple_edge.specs.declared.node.NodeId.TheVariants as node;
 
-use crate::logs::Logs;
+use crate::logs::{Logs, log_of};
 use crate::places::{pair_place, replica_place};
 use ingress_egress::{Egress, Ingress};
 use pair_control::PairControl;
 use plan_reader::Plan;
 use replica_node::Replica;
 use std::marker::Model;
-use tuple_edge::{Row, Which};
+use tuple_edge::{NodeId, Outbox, Row, Which};
 
 /// All nodes of a plan, and every packet that any of them ever sent.
 ///
@@ -52,8 +52,8 @@ impl Core {
         &self.plan
     }
 
-    // What is always true of a core.
-    pub(crate) fn known(&self)
+    /// What is always true of a core: it stands for a state of the machine.
+    pub fn known(&self)
         ensures { IsCore self.now }
     {
         let _plan = &self.plan;
@@ -88,6 +88,14 @@ impl Core {
         ensures { result.now ≡ self.now.egress }
     {
         &self.egress
+    }
+
+    /// What a node of the plan ever sent: each packet with its receiver, in order. Nothing is ever removed.
+    pub fn sent_by(&self, node: NodeId) -> &Outbox
+        requires { IsTrue (has_node self.now.plan node) }
+        ensures { result.now.packets ≡ (station self.now node).sent }
+    {
+        log_of(&self.sent, &self.plan, node)
     }
 
     /// The rows that egress has emitted: a front of the plan's output for the inputs, whatever happened.

@@ -12,12 +12,13 @@ ghost use Rattle.plan_reader.specs.Nodes.{has_node};
 ghost use Rattle.plan_reader.specs.PlanView.{IsPlan, PlanView};
 ghost use Rattle.replica_node.specs.Admitted.{IsAdmitted, MayPullIn, MayWorkIn};
 ghost use Rattle.replica_node.specs.Course.{AreTimely, IsDone, IsTaken, IsWorked};
-ghost use Rattle.replica_node.specs.IsReplica.{IsReplica, IsRole};
+ghost use Rattle.replica_node.specs.IsReplica.{IsMoving, IsReplica, IsRole};
 ghost use Rattle.replica_node.specs.Phases.{count_in, inc_in, item_pulled, mode_in, newcomer_in, opening, running_in, served_in};
 ghost use Rattle.replica_node.specs.ReplicaView.{node_of, partition_of, partner_of, with_phase};
 ghost use Rattle.replica_node.specs.Rules.{IsTakenBy, IsWorkOf, back_asked, contents_in, down_sent, dying, stop_asked};
 ghost use Rattle.replica_node.specs.StandsFor.{IsOfPlan, StandsFor};
 ghost use Rattle.replica_node.specs.declared.phase.Mode.TheVariants as mode;
+ghost use Rattle.replica_node.specs.declared.phase.Running.{Running as RunningPart};
 ghost use Rattle.std.specs.Option.{option_and_then, option_map};
 ghost use Rattle.std.specs.Prelude.{◌≡◌, ◌≢◌, ◌<◌, ◌≤◌, ◌+◌, ◌++◌, ◌↔◌, IfOk, IsTrue, List, None, OnErr, OnOk, Some, length};
 ghost use Rattle.stream_ops.specs.Times.{IsTimely};
@@ -344,7 +345,9 @@ impl Replica {
 
     /// The move to its partner; None exactly where none is under way.
     pub fn mover(&self) -> Option<&Mover>
-        ensures { option_map (λ m. m.now) result ≡ option_and_then (λ r. r.mover) (running_in self.now.phase) }
+        ensures value { option_map (λ m. m.now) result ≡ option_and_then (λ r. r.mover) (running_in self.now.phase) }
+        // It gives the entries that the operator had when it began, and has not given all.
+        ensures moving { (r : RunningPart) → running_in self.now.phase ≡ Some r → IsMoving r.mover r.state.old }
     {
         match self.phase.running() {
             None => None,
