@@ -1,0 +1,9 @@
+pub mod Below
+pub mod CoreLines
+pub mod Counting
+pub mod EdgeLines
+pub mod Held
+pub mod Moves
+pub mod NodeLines
+pub mod There
+pub mod Worked

@@ -1,0 +1,4 @@
+pub mod Counted
+pub mod Shown
+pub mod StateText
+pub mod WorkedTexts

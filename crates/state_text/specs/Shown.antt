@@ -1,0 +1,79 @@
+-- What is written of a node as contracts see it: of the numbers that it stands for, this is the text.
+use Rattle.std.specs.Prelude.{ℕ, ◌≡◌, ◌==◌, List, [], ◌∷◌, ◌++◌, Option, None, Some, codes, if◌then◌else◌, length, map}
+use Rattle.tuple_edge.specs.declared.node.Which.{Which}
+use Rattle.tuple_edge.specs.declared.node.Which.TheVariants.{A, B}
+use Rattle.flux_consumer.specs.ConsumerView.{ConsumerView, told_of}
+use Rattle.flux_producer.specs.ProducerView.{ProducerView, buffer_at, cursor_at}
+use Rattle.merge_order.specs.MergeView.{mark_of}
+use Rattle.plan_reader.specs.Lines.{Word}
+use Rattle.pair_machine.specs.Numbers.{Consumer, Producer}
+use Rattle.node_edges.specs.OutEdges.{copy_of}
+use Rattle.state_mover.specs.MoverView.{MoverView, total_of}
+use Rattle.catch_up.specs.NewcomerView.{NewcomerView, held_of}
+use Rattle.ingress_egress.specs.EgressView.{EgressView}
+use Rattle.ingress_egress.specs.IngressView.{IngressView, producer_at}
+use Rattle.replica_node.specs.ReplicaView.{ReplicaView}
+use Rattle.replica_node.specs.declared.phase.Phase.{Phase}
+use Rattle.replica_node.specs.declared.phase.Phase.TheVariants as phase
+use Rattle.replica_node.specs.declared.phase.Running.{Running}
+use Rattle.state_text.specs.StateText.{gathering_line, gone_line, held_line, in_edge_line, lines_below, makes_line, move_line, out_edge_line, out_line, running_line, source_name}
+
+-- ---- edges
+
+abbrev pub consumer_numbers : ConsumerView → Consumer
+consumer_numbers c = record { marks = mark_of c.merge; told = told_of c; count = c.merge.count }
+
+abbrev pub producer_numbers : ProducerView → Producer
+producer_numbers p = record { lows = λ t. (buffer_at p t).low; cursors = λ t w. cursor_at p t (copy_of w); term = p.term; leads = p.leads }
+
+abbrev pub made_in : ProducerView → ℕ → ℕ
+made_in p t = (buffer_at p t).produced
+
+-- the replicas at the other end of an edge, by their number
+abbrev pub ends_of : ℕ → List Which
+ends_of copies = if copies == 1 then A ∷ [] else A ∷ B ∷ []
+
+abbrev pub in_edges_shown : Word → ConsumerView → List ℕ
+in_edges_shown name c = lines_below (length c.merge.marks) (in_edge_line name (consumer_numbers c))
+
+abbrev pub out_edges_shown : Word → ProducerView → List ℕ
+out_edges_shown name p = lines_below (length p.edges) (out_edge_line name (ends_of p.copies) (made_in p) (producer_numbers p))
+
+-- ---- nodes
+
+abbrev pub ingress_shown : IngressView → List ℕ
+ingress_shown i = makes_line i.makes ++ lines_below (length i.producers) (λ q. out_edges_shown (source_name (length i.producers) q) (producer_at i q))
+
+abbrev pub egress_shown : EgressView → List ℕ
+egress_shown e = out_line e.consumer.merge.count e.done ++ in_edges_shown (codes "out") e.consumer
+
+abbrev pub held_numbers : NewcomerView → ℕ → List ℕ
+held_numbers g q = map (λ h. h.0) (held_of g q)
+
+abbrev pub gathering_shown : Word → NewcomerView → List ℕ
+gathering_shown name g = gathering_line name g.inc (length g.taken) ++ lines_below (length g.held) (held_line name (held_numbers g))
+
+-- a newcomer has so many in-edges
+abbrev pub HasHeld : ℕ → Phase → Type 0
+HasHeld edges (phase.Running r) = Unit {0}
+HasHeld edges (phase.Gathering g) = edges ≡ length g.held
+HasHeld edges (phase.Gone inc) = Unit {0}
+
+abbrev pub move_shown : Word → Option MoverView → List ℕ
+move_shown name None = []
+move_shown name (Some m) = move_line name m.target m.sent (total_of m)
+
+abbrev pub running_shown : Word → Running → List ℕ
+running_shown name r =
+    running_line name r.inc r.producer.term r.producer.leads r.served r.consumer.merge.count
+    ++ in_edges_shown name r.consumer
+    ++ out_edges_shown name r.producer
+    ++ move_shown name r.mover
+
+abbrev pub phase_shown : Word → Phase → List ℕ
+phase_shown name (phase.Running r) = running_shown name r
+phase_shown name (phase.Gathering g) = gathering_shown name g
+phase_shown name (phase.Gone inc) = gone_line name inc
+
+abbrev pub replica_shown : Word → ReplicaView → List ℕ
+replica_shown name v = phase_shown name v.phase
