@@ -1,0 +1,10 @@
+pub mod Along
+pub mod Blocks
+pub mod Events
+pub mod Found
+pub mod Fronts
+pub mod Over
+pub mod Pairs
+pub mod Trying
+pub mod Turns
+pub mod Whole
