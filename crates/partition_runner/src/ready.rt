@@ -1,6 +1,7 @@
 // A run that is ready: its nodes on the board, and room for what it leaves.
 ghost use Rattle.partition_runner.specs.NodeOrder.{nodes_of};
 ghost use Rattle.partition_runner.specs.Runs.{IsRun, TapOfSome, parts_in};
+ghost use Rattle.partition_runner.specs.Sorted.{AreSorted};
 ghost use Rattle.partition_runner.specs.States.{StandsFor, id_of, rows_of};
 ghost use Rattle.std.specs.Prelude.{◌≡◌, ◌<◌, [], Some};
 ghost use Rattle.trade_text.specs.TradesView.{inputs_in};
@@ -12,6 +13,7 @@ use crate::names::RunNames;
 use crate::node::Node;
 use crate::part::Part;
 use crate::running::run_linked;
+use crate::sorting::Sorted;
 use crate::state::NodeState;
 use crate::tap::Tap;
 use crate::worker::Shared;
@@ -34,21 +36,23 @@ pub(crate) struct Ready<N: RunNames, M: Links, T: Tap> {
     seats: Vec<BoardSeat<Node<N, NodeState, M, T>>>,
     places: usize,
     parts: Vec<Part<NodeState>>,
+    room: Sorted,
 }
 
 impl<N: RunNames, M: Links, T: Tap> Model for Ready<N, M, T> {
     ghost use Rattle.claim_board.specs.Board.{AllHoldNone, AreAll, opening_of};
     ghost use Rattle.partition_runner.specs.NodeView.{NodeName, name_of};
     ghost use Rattle.partition_runner.specs.Ready.{AreNodesOf};
+    ghost use Rattle.partition_runner.specs.Sorted.{AreSorted};
     ghost use Rattle.partition_runner.specs.States.{id_of};
-    ghost use Rattle.std.specs.Prelude.{◌≡◌, ◌<◌, ◌≤◌, List, length, map, vec_capacity, vec_len};
+    ghost use Rattle.std.specs.Prelude.{◌≡◌, ◌<◌, ◌≤◌, [], List, length, map, vec_capacity, vec_len};
 
     ghost Value = { List NodeName };
 
     ghost view = { λ r. map (name_of id_of) (opening_of r.board) };
 
     ghost invariant = { λ r. ((0 < r.places) × (length (opening_of r.board) ≡ r.places)) × (AreAll r.board r.seats.items × AllHoldNone r.seats.items)
-        × AreNodesOf N.plan (map (name_of id_of) (opening_of r.board)) × ((vec_len r.parts ≡ 0) × (r.places ≤ vec_capacity r.parts)) };
+        × AreNodesOf N.plan (map (name_of id_of) (opening_of r.board)) × ((vec_len r.parts ≡ 0) × (r.places ≤ vec_capacity r.parts)) × AreSorted [] r.room };
 }
 
 /// Makes the nodes, their links and the board for so many workers.
@@ -68,6 +72,7 @@ pub(crate) fn make_ready<N: RunNames, M: Links, T: Tap + Send>(
     let nodes = make_nodes(alloc, plan, trades, tap, links)?;
     let places = nodes.len();
     let parts = Vec::with_capacity(alloc, places)?;
+    let room = Sorted::with_room(alloc, places)?;
     let Ok((board, seats)) = Board::new(alloc, nodes, threads) else {
         return Err(OutOfMemory);
     };
@@ -76,14 +81,16 @@ pub(crate) fn make_ready<N: RunNames, M: Links, T: Tap + Send>(
         seats,
         places,
         parts,
+        room,
     })
 }
 
-/// What a run that has ended leaves: its nodes with their histories, in the order of nodes, the tap, and
-/// whether a worker found no memory.
+/// What a run that has ended leaves: its nodes with their histories, in the order of nodes, room for them kind
+/// by kind, the tap, and whether a worker found no memory.
 #[derive(Drop)]
 pub(crate) struct Ended<T: Tap> {
     pub(crate) parts: Vec<Part<NodeState>>,
+    pub(crate) room: Sorted,
     pub(crate) tap: T,
     pub(crate) failed: bool,
 }
@@ -104,6 +111,7 @@ pub(crate) fn run_ready<N: RunNames, M: Links, T: Tap + Send, R: Threads + Sync,
     requires script { script.now ≡ N.script }
     ensures run { IsRun id_of StandsFor N.plan N.inputs N.script (nodes_of N.plan) (parts_in result.parts.items) }
     ensures tap { TapOfSome T.given rows_of (Some result.tap) (parts_in result.parts.items) }
+    ensures room { AreSorted [] result.room }
 {
     let _stages = plan.stages();
     let Ready {
@@ -111,6 +119,7 @@ pub(crate) fn run_ready<N: RunNames, M: Links, T: Tap + Send, R: Threads + Sync,
         seats,
         places,
         parts,
+        room,
     } = ready;
     let shared = Shared {
         plan,
@@ -122,5 +131,10 @@ pub(crate) fn run_ready<N: RunNames, M: Links, T: Tap + Send, R: Threads + Sync,
     let (parts, tap) = run_linked(rt, board, seats, parts, places, &shared, links);
     let Some(tap) = tap else { unreachable!() };
     let failed = shared.failed.load(SeqCst);
-    Ended { parts, tap, failed }
+    Ended {
+        parts,
+        room,
+        tap,
+        failed,
+    }
 }

@@ -52,7 +52,6 @@ pub fn ready_tapped<N: RunNames, T: Tap + Send>(
 // What a run comes to that is ready, over any links.
 fn run_named<N: RunNames, M: Links, T: Tap + Send, R: Threads + Sync, G: Gate>(
     rt: &R,
-    alloc: Global,
     plan: &Plan,
     script: &Script,
     turns: u64,
@@ -65,11 +64,16 @@ fn run_named<N: RunNames, M: Links, T: Tap + Send, R: Threads + Sync, G: Gate>(
     ensures run { IfOk result.0 (IsLegalRun N.plan N.inputs N.script) }
     ensures tap { MatchResult result.0 (λ ran. IsPrefix (T.given result.1) ran.egress.emitted) (λ _. IsPrefix (T.given result.1) (output N.plan N.inputs)) }
 {
-    let Ended { parts, tap, failed } = run_ready(rt, plan, script, turns, gate, links, ready);
+    let Ended {
+        parts,
+        room,
+        tap,
+        failed,
+    } = run_ready(rt, plan, script, turns, gate, links, ready);
     if failed {
         return (Err(OutOfMemory), tap);
     }
-    let ran = ran_of::<N>(alloc, parts);
+    let ran = ran_of::<N>(room, parts);
     (ran, tap)
 }
 
@@ -81,7 +85,7 @@ fn run_named<N: RunNames, M: Links, T: Tap + Send, R: Threads + Sync, G: Gate>(
 /// state that they reach. The tap gave on the first of egress's rows; without memory, of the output.
 pub fn run_tapped<R: Threads + Sync, G: Gate, N: RunNames, T: Tap + Send>(
     rt: &R,
-    alloc: Global,
+    _alloc: Global,
     plan: &Plan,
     trades: &Trades,
     script: &Script,
@@ -97,7 +101,7 @@ pub fn run_tapped<R: Threads + Sync, G: Gate, N: RunNames, T: Tap + Send>(
 {
     let _rows = trades.rows();
     let Tapped { ready } = ready;
-    run_named(rt, alloc, plan, script, turns, gate, &mut Rings, ready)
+    run_named(rt, plan, script, turns, gate, &mut Rings, ready)
 }
 
 // The same over any links, with no tap, of names that are the plan's.
@@ -119,7 +123,7 @@ fn run_with<N: RunNames, R: Threads + Sync, M: Links, G: Gate>(
     ensures { IfOk result (IsLegalRun plan.now (inputs_in trades.now) script.now) }
 {
     let ready: Ready<N, M, NoTap> = make_ready(alloc, plan, trades, threads, links, NoTap)?;
-    let (ran, _tap) = run_named(rt, alloc, plan, script, turns, gate, links, ready);
+    let (ran, _tap) = run_named(rt, plan, script, turns, gate, links, ready);
     ran
 }
 

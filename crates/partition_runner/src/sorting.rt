@@ -31,6 +31,26 @@ pub(crate) struct Sorted {
     pub(crate) histories: Vec<History>,
 }
 
+impl Sorted {
+    /// Nothing yet, with room for what is left of the nodes of a plan: of ingress, of egress, and of the three of
+    /// each pair.
+    pub(crate) fn with_room(alloc: Global, nodes: usize) -> Result<Sorted, OutOfMemory>
+        ensures { IfOk result (AreSorted []) }
+    {
+        let pairs = nodes / 3;
+        let replicas = Vec::with_capacity(alloc, pairs * 2)?;
+        let controls = Vec::with_capacity(alloc, pairs)?;
+        let histories = Vec::with_capacity(alloc, nodes)?;
+        Ok(Sorted {
+            ingress: None,
+            replicas,
+            controls,
+            egress: None,
+            histories,
+        })
+    }
+}
+
 // One part more.
 fn with_part(sorted: Sorted, part: Part<NodeState>) -> Result<Sorted, OutOfMemory>
     ensures { (parts : List (NodeState × List Stamped)) → AreSorted parts sorted
@@ -64,32 +84,28 @@ fn with_part(sorted: Sorted, part: Part<NodeState>) -> Result<Sorted, OutOfMemor
 }
 
 // All parts, kind by kind.
-fn sort_all(alloc: Global, parts: Vec<Part<NodeState>>) -> Result<Sorted, OutOfMemory>
+fn sort_all(room: Sorted, parts: Vec<Part<NodeState>>) -> Result<Sorted, OutOfMemory>
+    requires { AreSorted [] room }
     ensures { IfOk result (AreSorted (parts_in parts.items)) }
 {
-    let mut sorted = Sorted {
-        ingress: None,
-        replicas: Vec::new(alloc),
-        controls: Vec::new(alloc),
-        egress: None,
-        histories: Vec::new(alloc),
-    };
+    let mut sorted = room;
     for part in parts {
         sorted = with_part(sorted, part)?;
     }
     Ok(sorted)
 }
 
-/// What a run has left of the nodes of a plan, kind by kind.
+/// What a run has left of the nodes of a plan, kind by kind, in the room that was made for it.
 pub(crate) fn ran_of<N: RunNames>(
-    alloc: Global,
+    room: Sorted,
     parts: Vec<Part<NodeState>>,
 ) -> Result<Ran, OutOfMemory>
-    requires { IsRun id_of StandsFor N.plan N.inputs N.script (nodes_of N.plan) (parts_in parts.items) }
+    requires room { AreSorted [] room }
+    requires run { IsRun id_of StandsFor N.plan N.inputs N.script (nodes_of N.plan) (parts_in parts.items) }
     ensures run { IfOk result (IsLegalRun N.plan N.inputs N.script) }
     ensures egress { IfOk result (λ ran. (h : List Stamped) × Among (state.Egress ran.egress, h) (parts_in parts.items)) }
 {
-    let sorted = sort_all(alloc, parts)?;
+    let sorted = sort_all(room, parts)?;
     let Sorted {
         ingress,
         replicas,

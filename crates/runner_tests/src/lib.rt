@@ -1,0 +1,17 @@
+//! Tests of runs by public calls: that the events of a run on one thread and on more drive the core to the nodes that the
+//! run gave; failures; links that lose packets; a tap; a worker that is held up. The crate has no code of its own: it
+//! stands above partition_runner and flux_core so that each of them is proved once, and not a second time with its tests.
+#![tactic(auto)]
+
+#[cfg(test)]
+mod failures;
+#[cfg(test)]
+mod fixture;
+#[cfg(test)]
+mod gates;
+#[cfg(test)]
+mod nodes;
+#[cfg(test)]
+mod runs;
+#[cfg(test)]
+mod taps;
