@@ -1,0 +1,125 @@
+-- The merged events and the drain of what the threads left are how a run ends.
+use Rattle.std.proofs.Common.{◌≡◌, ◌∙◌, ◌≤◌, List, [], refl, sym, ap, subst}
+use Rattle.tuple_edge.specs.Input.{Input}
+use Rattle.tuple_edge.specs.declared.event.Drained.{Drained}
+use Rattle.tuple_edge.specs.declared.event.Drained.TheVariants as drained
+use Rattle.tuple_edge.specs.declared.event.Event.{Event}
+use Rattle.tuple_edge.specs.declared.node.LinkId.{LinkId}
+use Rattle.tuple_edge.specs.declared.node.NodeId.{NodeId}
+use Rattle.tuple_edge.specs.declared.node.NodeId.TheVariants as node
+use Rattle.plan_reader.specs.PlanView.{IsPlan, PlanView}
+use Rattle.pair_machine.specs.CountLaws.{output_first}
+use Rattle.pair_machine.specs.Counts.{flow_of}
+use Rattle.pair_machine.specs.Drain.{IsFirstLost, drain, pairs_up_to, partition}
+use Rattle.pair_machine.specs.Legal.{IsLegal}
+use Rattle.pair_machine.specs.Machine.{State, egress_in}
+use Rattle.pair_machine.specs.Messages.{Message}
+use Rattle.pair_machine.specs.Numbers.{Node, Partition}
+use Rattle.pair_machine.specs.Output.{output}
+use Rattle.pair_machine.specs.Scripts.{AreWithin}
+use Rattle.pair_machine.specs.Sound.{IsServed}
+use Rattle.pair_machine.specs.declared.order.Order.{Order}
+use Rattle.pair_machine.proofs.CountLaws.{in_order}
+use Rattle.pair_machine.proofs.DrainWhole.{drains_free}
+use Rattle.pair_machine.proofs.Journal.{journals_go_on, with_sent}
+use Rattle.pair_machine.proofs.Legal.{at_the_end}
+use Rattle.pair_machine.proofs.MachineLaws.{plan_owed, plan_safe}
+use Rattle.ingress_egress.specs.EgressView.{IsFrontOf}
+use Rattle.replica_node.specs.Course.{AreTimely}
+use Rattle.flux_core.specs.CoreView.{CoreView, inputs_of}
+use Rattle.flux_core.specs.Opening.{bare_core}
+use Rattle.flux_core.specs.Stands.{IsGiven}
+use Rattle.partition_runner.specs.Ran.{IsLegalRun}
+use Rattle.partition_runner.specs.declared.ran.Ran.{Ran}
+use Rattle.core_drain.specs.Drained.{IsDrained, IsLost, IsWhole}
+use Rattle.drained_run.specs.Ended.{EndedView, EndsSo, IsEnded, IsLostAt, IsRun, rows_at}
+use Rattle.drained_run.specs.Ended as ended
+use Rattle.drained_run.proofs.Joined.{bare, drainable, events_of, given_here, left, reached, reaches, stands}
+
+-- legal events within a script lead to the state that they reach
+leads : (plan : PlanView) (inputs : List Input) (script : List Order) → IsPlan plan → (events : List Event) (s : State) → IsLegal (flow_of plan inputs) events s → AreWithin (flow_of plan inputs) script events
+    → IsRun plan inputs script events s
+leads plan inputs script limits events s legal within = record { legal = legal; within = within; owed = plan_owed plan inputs limits events s legal }
+
+-- which pair is the first lost one is a matter of the nodes alone
+same_lost : (nodes : NodeId → Node) (one another : LinkId → List Message) (pairs : List Partition) (p : Partition) → IsFirstLost (with_sent nodes one) pairs p → IsFirstLost (with_sent nodes another) pairs p
+same_lost nodes one another pairs p h = record { before = h.before; after = h.after; whole = h.whole; served = h.served; lost = h.lost }
+
+module _ (plan : PlanView) (script : List Order) (ran : Ran) (limits : IsPlan plan) (run : IsLegalRun plan ran.ingress.inputs script ran) (core : CoreView) (after : List Event)
+    (same_plan : core.plan ≡ plan) (same_inputs : inputs_of core ≡ ran.ingress.inputs) where
+  abbrev inputs : List Input
+  inputs = ran.ingress.inputs
+
+  abbrev start : CoreView
+  start = bare plan script ran limits run
+
+  whole : IsWhole start core (events_of ran) after → ended.IsWhole plan inputs script after core.egress.emitted
+  whole w =
+      let f = flow_of plan inputs in
+      let r = reached plan script ran limits run in
+      let u = left plan script ran limits run in
+      let d = w.drained u (stands plan script ran limits run) (drainable plan script ran limits run) in
+      let free = drains_free f u in
+      let on = journals_go_on f script r.reached d.went.reached u (events_of ran) (drain f u) r.legal r.within free.no_message free.no_order refl d.went.legal in
+      let count = ap (λ (nodes : NodeId → Node). (egress_in (nodes node.Egress)).count) on.nodes in
+      let here = (d.went.stands node.Egress (tt, tt)).content.1.emitted in
+      let at : output_first core.plan (inputs_of core) (egress_in (d.went.reached.nodes node.Egress)).count ≡ rows_at plan inputs on.state =
+      (λ j. output_first (same_plan j) (same_inputs j) (sym count j)) in
+      record {
+        reached = on.state;
+        run = leads plan inputs script limits after on.state (subst (λ es. IsLegal f es on.state) (sym d.went.appended) on.legal) (subst (AreWithin f script) (sym d.went.appended) on.within);
+        done = count ∙ d.done;
+        rows_are = here ∙ at;
+        output = w.rows;
+      }
+
+  lost : (p : Partition) → IsLost start core (events_of ran) after p → IsLostAt plan inputs script after core.egress.emitted p
+  lost p l =
+      let f = flow_of plan inputs in
+      let r = reached plan script ran limits run in
+      let u = left plan script ran limits run in
+      let at = l.lost u (stands plan script ran limits run) in
+      let emitted : core.egress.emitted ≡ rows_at plan inputs r.reached = ap (λ (c : CoreView). c.egress.emitted) l.unchanged ∙ r.stand.egress.emitted in
+      let first : IsFirstLost r.reached (pairs_up_to f f.stages) p = same_lost r.reached.nodes (λ l. []) r.reached.sent (pairs_up_to f f.stages) p at.first in
+      let count = (egress_in (r.reached.nodes node.Egress)).count in
+      record {
+        reached = r.reached;
+        run = leads plan inputs script limits after r.reached (subst (λ es. IsLegal f es r.reached) (sym l.no_event) r.legal) (subst (AreWithin f script) (sym l.no_event) r.within);
+        unfinished = at.undone;
+        first = first;
+        rows_are = emitted;
+        front = subst (λ rows. IsFrontOf rows (output plan inputs)) (sym emitted) (sym ((in_order plan inputs).front count));
+        unsafe = λ safe. first.lost (at_the_end f (λ t. (q : Partition) → 1 ≤ q.stage → IsServed t q) (events_of ran) r.reached (plan_safe plan inputs limits script safe (events_of ran) r.reached r.legal r.within) r.legal.leads p at.there.first);
+      }
+
+  pub ends : (d : Drained) → IsDrained start core (events_of ran) after d → EndsSo plan inputs script after core.egress.emitted d
+  ends drained.Whole h = whole h
+  ends (drained.Lost stage part) h = lost (partition stage part) h
+
+-- ---- of the run's own inputs
+
+-- ingress has the inputs of the run
+own_inputs : (plan : PlanView) (inputs : List Input) (script : List Order) (ran : Ran) → IsLegalRun plan inputs script ran → ran.ingress.inputs ≡ inputs
+own_inputs plan inputs script ran run = (reaches plan inputs script ran run).stand.ingress.inputs
+
+own_run : (plan : PlanView) (inputs : List Input) (script : List Order) (ran : Ran) → IsLegalRun plan inputs script ran → IsLegalRun plan ran.ingress.inputs script ran
+own_run plan inputs script ran run = subst (λ (I : List Input). IsLegalRun plan I script ran) (sym (own_inputs plan inputs script ran run)) run
+
+module _ (plan : PlanView) (inputs : List Input) (script : List Order) (ran : Ran) (limits : IsPlan plan) (run : IsLegalRun plan inputs script ran) where
+  abbrev bare_nodes : CoreView
+  bare_nodes = bare_core plan ran.ingress ran.replicas.items ran.controls.items ran.egress
+
+  pub given : IsGiven bare_nodes
+  given = given_here plan script ran limits (own_run plan inputs script ran run)
+
+  pub timely : AreTimely inputs → AreTimely ran.ingress.inputs
+  timely times = subst AreTimely (sym (own_inputs plan inputs script ran run)) times
+
+  pub run_ends : (old core : CoreView) (before after : List Event) (d : Drained) → old ≡ bare_nodes → before ≡ events_of ran → core.plan ≡ old.plan → inputs_of core ≡ inputs_of old
+      → IsDrained old core before after d → EndsSo plan inputs script after core.egress.emitted d
+  run_ends old core before after d is joined same_plan same_inputs h =
+      let plan_is : core.plan ≡ plan = same_plan ∙ ap (λ (c : CoreView). c.plan) is in
+      let inputs_are : inputs_of core ≡ ran.ingress.inputs = same_inputs ∙ ap (λ (c : CoreView). inputs_of c) is in
+      let drained_so : IsDrained bare_nodes core (events_of ran) after d = subst (λ c. IsDrained c core (events_of ran) after d) is (subst (λ es. IsDrained old core es after d) joined h) in
+      subst (λ (I : List Input). EndsSo plan I script after core.egress.emitted d) (own_inputs plan inputs script ran run)
+      (ends plan script ran limits (own_run plan inputs script ran run) core after plan_is inputs_are d drained_so)

@@ -1,0 +1,16 @@
+-- What the threads left stands for a state from which the drain may begin, and the drain's end is the run's.
+use Rattle.trade_text.specs.TradesView.{inputs_in}
+use Rattle.flux_core.proofs.Opened.{times_within}
+use Rattle.drained_run.proofs.Ending.{given, run_ends, timely}
+use Rattle.drained_run.proofs.run.run_and_drain.Goals as goal
+
+pub of-requires-clause-given : goal.of-requires-clause-given
+of-requires-clause-given g c = given c.args.plan.now (inputs_in c.args.trades.now) c.args.script.now c.in_ok-ingress.field-0 c.stages-stages.ensures.limits c.in_ok-ingress.ensures
+
+pub of-requires-clause-timely : goal.of-requires-clause-timely
+of-requires-clause-timely g c = timely c.args.plan.now (inputs_in c.args.trades.now) c.args.script.now c.in_ok-ingress.field-0 c.stages-stages.ensures.limits c.in_ok-ingress.ensures (times_within c.args.trades.now c.rows-rows.ensures.limits)
+
+pub returns : goal.returns
+returns g c = run_ends c.args.plan.now (inputs_in c.args.trades.now) c.args.script.now c.in_ok-ingress.field-0 c.stages-stages.ensures.limits c.in_ok-ingress.ensures
+    c.in_ok-core.core c.drain.new.core c.in_ok-events.events.items c.drain.new.events.items c.in_ok-drained.drained
+    c.in_ok-core.ensures c.in_ok-events.ensures c.drain.ensures.plan c.drain.ensures.inputs c.in_ok-drained.ensures.drained

@@ -1,0 +1,65 @@
+// A run: the nodes on threads, their histories in one list, and the drain on the caller.
+ghost use Rattle.drained_run.specs.Ended.{IsEnded};
+ghost use Rattle.pair_machine.specs.Joint.{logged_events};
+ghost use Rattle.run_journal.specs.Logs.{AreMergeable, log_of_histories};
+ghost use Rattle.std.specs.Prelude.{◌≡◌, ◌≤◌, IfOk};
+ghost use Rattle.trade_text.specs.TradesView.{inputs_in};
+
+use crate::ended::Ended;
+use core_drain::drain;
+use failure_script::Script;
+use flux_core::Core;
+use partition_runner::{Gate, Ran, run_nodes};
+use plan_reader::Plan;
+use run_journal::merge;
+use std::alloc::Global;
+use std::thread::Threads;
+use trade_text::Trades;
+use tuple_edge::{Event, History, OutOfMemory};
+
+// The events of histories in one list; the histories are let go before anything else is done.
+fn merged(alloc: Global, histories: Vec<History>) -> Result<Vec<Event>, OutOfMemory>
+    requires { AreMergeable histories.items }
+    ensures { IfOk result (λ events. events.items ≡ logged_events (log_of_histories histories.items)) }
+{
+    merge(alloc, &histories)
+}
+
+/// Runs a plan over its trades under a failure script: its nodes by so many workers, each for so many turns or
+/// until egress is done, and then the drain on the caller.
+///
+/// The rows are all of the plan's output, each once and in order; or the first lost pair is named, and they are a
+/// front of it. Under a safe script no pair is ever lost. Either way the events are one legal list within the script
+/// that leads to these rows, and in every state along it the buffers hold what takeover owes.
+pub fn run_and_drain<R: Threads + Sync, G: Gate>(
+    rt: &R,
+    alloc: Global,
+    plan: &Plan,
+    trades: &Trades,
+    script: &Script,
+    threads: u32,
+    turns: u64,
+    gate: &G,
+) -> Result<Ended, OutOfMemory>
+    requires some { 1 ≤ threads }
+    requires few { threads ≤ 16 }
+    ensures { IfOk result (IsEnded plan.now (inputs_in trades.now) script.now) }
+{
+    let _stages = plan.stages();
+    let _rows = trades.rows();
+    let Ran {
+        ingress,
+        replicas,
+        controls,
+        egress,
+        histories,
+    } = run_nodes(rt, alloc, plan, trades, script, threads, turns, gate)?;
+    let mut events = merged(alloc, histories)?;
+    let mut core = Core::of(alloc, plan, ingress, replicas, controls, egress)?;
+    let drained = drain(&mut core, &mut events)?;
+    Ok(Ended {
+        core,
+        events,
+        drained,
+    })
+}
