@@ -1,10 +1,10 @@
--- An operator that is by key answers a row from the rows of its bucket as it does from all rows.
-use Rattle.std.proofs.Common.{◌≡◌, Bool, true, false, cond, List, [], ◌∷◌, ◌++◌, refl, sym, ap, ◌∙◌, pos}
+-- An operator that is by key answers a row from the rows that go to its partition, or from those of its bucket, as it does from all rows.
+use Rattle.std.proofs.Common.{ℕ, ◌≡◌, Bool, true, false, cond, List, [], ◌∷◌, ◌++◌, refl, sym, ap, ◌∙◌, pos}
 use Rattle.std.specs.Prelude.{unsigned_abs, ◌==◌}
 use Rattle.std.specs.Int.{int_rem_euclid}
 use Rattle.std.specs.List.{filter}
 use Rattle.std.proofs.lemmas.Bool.{eq-eqb, false≢true}
-use Rattle.tuple_edge.specs.Row.{column_of}
+use Rattle.tuple_edge.specs.Row.{column_of, route_of}
 use Rattle.tuple_edge.specs.declared.row.Column.{Column}
 use Rattle.tuple_edge.specs.declared.row.Column.TheVariants as column
 use Rattle.tuple_edge.specs.declared.row.Key.{Key}
@@ -40,9 +40,12 @@ same_column by.Both column.Time x r holds same = absurd (false≢true holds)
 same_column by.Both column.Qty x r holds same = absurd (false≢true holds)
 same_column by.Both column.Value x r holds same = absurd (false≢true holds)
 
--- and so they are of one bucket
+-- and so they go to one partition, or to one bucket, whatever their number
+same_part : (key : By) (c : Column) (parts : ℕ) (x r : Row) → holds_column key c ≡ true → is_key (key_of key x) (key_of key r) ≡ true → route_of x c parts ≡ route_of r c parts
+same_part key c parts x r holds same = ap (λ z. unsigned_abs (int_rem_euclid z (pos parts))) (same_column key c x r holds (same_key (key_of key x) (key_of key r) same))
+
 pub same_bucket : (key : By) (c : Column) (x r : Row) → holds_column key c ≡ true → is_key (key_of key x) (key_of key r) ≡ true → bucket_of c x ≡ bucket_of c r
-same_bucket key c x r holds same = ap (λ z. unsigned_abs (int_rem_euclid z (pos buckets))) (same_column key c x r holds (same_key (key_of key x) (key_of key r) same))
+same_bucket key c x r holds same = same_part key c buckets x r holds same
 
 -- a test that implies another passes the same rows of those that pass the other
 filter_within : (p q : Row → Bool) (rows : List Row) → ((x : Row) → p x ≡ true → q x ≡ true) → filter p (filter q rows) ≡ filter p rows
@@ -59,22 +62,29 @@ pub rows_of-items_of : (rows : List Row) → rows_of (items_of rows) ≡ rows
 rows_of-items_of [] = refl
 rows_of-items_of (r ∷ rows) = ap (λ rest. r ∷ rest) (rows_of-items_of rows)
 
--- the rows of a row's key are those of its bucket
-pub rows_with-bucket : (key : By) (c : Column) (rows : List Row) (r : Row) → holds_column key c ≡ true
-    → rows_with key (items_of (rows_in c (bucket_of c r) rows)) (key_of key r) ≡ rows_with key (items_of rows) (key_of key r)
-rows_with-bucket key c rows r holds =
+-- the rows of a row's key are those among the rows that go to its part
+pub rows_with-part : (key : By) (c : Column) (parts : ℕ) (rows : List Row) (r : Row) → holds_column key c ≡ true
+    → rows_with key (items_of (filter (λ x. route_of x c parts == route_of r c parts) rows)) (key_of key r) ≡ rows_with key (items_of rows) (key_of key r)
+rows_with-part key c parts rows r holds =
     let test : Row → Bool = λ x. is_key (key_of key x) (key_of key r) in
-    ap (filter test) (rows_of-items_of (rows_in c (bucket_of c r) rows))
-    ∙ filter_within test (λ x. bucket_of c x == bucket_of c r) rows (λ x same. eq-eqb (bucket_of c x) (bucket_of c r) (same_bucket key c x r holds same))
+    let here : Row → Bool = λ x. route_of x c parts == route_of r c parts in
+    ap (filter test) (rows_of-items_of (filter here rows))
+    ∙ filter_within test here rows (λ x same. eq-eqb (route_of x c parts) (route_of r c parts) (same_part key c parts x r holds same))
     ∙ ap (filter test) (sym (rows_of-items_of rows))
 
+-- An operator that is by key answers a row from those rows as from all.
+pub row_answer-part : (c : Column) (parts : ℕ) (spec : OpSpec) (rows : List Row) (r : Row) → is_keyed c spec ≡ true
+    → row_answer spec (items_of (filter (λ x. route_of x c parts == route_of r c parts) rows)) r ≡ row_answer spec (items_of rows) r
+row_answer-part c parts (op.Keep of compare limit) rows r keyed = refl
+row_answer-part c parts (op.Total key) rows r keyed =
+    ap (λ (of_key : List Row). sums_row r.time (key_of key r) (sums_of (of_key ++ r ∷ [])) ∷ []) (rows_with-part key c parts rows r keyed)
+row_answer-part c parts (op.Last key n) rows r keyed = rw (rows_with-part key c parts rows r keyed) refl
+row_answer-part c parts (op.Window key width) rows r keyed = absurd (false≢true keyed)
+row_answer-part c parts (op.Crossing key limit) rows r keyed =
+    ap (λ (of_key : List Row). crossing_answer limit (key_of key r) of_key r) (rows_with-part key c parts rows r keyed)
+row_answer-part c parts (op.Join key width n of compare limit) rows r keyed = absurd (false≢true keyed)
+
+-- the same of the rows of its bucket
 pub row_answer-bucket : (c : Column) (spec : OpSpec) (rows : List Row) (r : Row) → is_keyed c spec ≡ true
     → row_answer spec (items_of (rows_in c (bucket_of c r) rows)) r ≡ row_answer spec (items_of rows) r
-row_answer-bucket c (op.Keep of compare limit) rows r keyed = refl
-row_answer-bucket c (op.Total key) rows r keyed =
-    ap (λ (of_key : List Row). sums_row r.time (key_of key r) (sums_of (of_key ++ r ∷ [])) ∷ []) (rows_with-bucket key c rows r keyed)
-row_answer-bucket c (op.Last key n) rows r keyed = rw (rows_with-bucket key c rows r keyed) refl
-row_answer-bucket c (op.Window key width) rows r keyed = absurd (false≢true keyed)
-row_answer-bucket c (op.Crossing key limit) rows r keyed =
-    ap (λ (of_key : List Row). crossing_answer limit (key_of key r) of_key r) (rows_with-bucket key c rows r keyed)
-row_answer-bucket c (op.Join key width n of compare limit) rows r keyed = absurd (false≢true keyed)
+row_answer-bucket c spec rows r keyed = row_answer-part c buckets spec rows r keyed

@@ -1,4 +1,5 @@
 pub mod ByKeyAnswers
+pub mod Orders
 pub mod StatesAfter
 pub mod Picking
 pub mod WorkSteps

@@ -5,6 +5,7 @@ ghost use Rattle.stream_ops.specs.Answers.{answers};
 ghost use Rattle.stream_ops.specs.Spec.{IsSpec};
 ghost use Rattle.stream_ops.specs.State.{unseen};
 ghost use Rattle.stream_ops.specs.Times.{IsTime};
+ghost use Rattle.plan_reader.specs.PlanView.{IsPlan};
 ghost use Rattle.plan_reader.specs.declared.stage.Stage.{Stage};
 ghost use Rattle.bucket_move.specs.BucketsView.{Call, Feeds, IsAfter, Moves, fed, keys_at, opening_table, part_of, table_after};
 ghost use Rattle.bucket_move.specs.ByKey.{is_by_key, is_keyed};
@@ -78,6 +79,7 @@ impl Buckets {
     /// number of partitions.
     pub fn new(alloc: Global, plan: &Plan) -> Result<Buckets, OutOfMemory>
         requires { IsTrue (is_by_key plan.now) }
+        ensures limits { IsPlan plan.now }
         ensures stage { IfOk result (λ b. plan.now.stages ≡ b.stage ∷ []) }
         ensures opening { IfOk result (λ b. IsAfter b.stage [] b) }
     {

@@ -19,6 +19,7 @@ pub data Request : Type 0 where
   Replay : (plan trades events : Text) (cash : Option Text) → Request
   Make : (start count : ℕ) → Request
   Trial : (plan : Text) (start count : ℕ) (options : Options) → Request
+  Move : (plan trades moves : Text) → Request
 
 -- ---- numbers
 
@@ -153,6 +154,10 @@ unfoldable pub trial_form : Parts → Option Request
 trial_form parts =
     option_and_then (λ words. option_and_then (λ made. option_map (λ options. Trial words.0 made.0 made.1 options) (options_of parts)) (made_of words.1 words.2)) (three_of parts)
 
+-- `move PLAN TRADES MOVES`
+unfoldable pub move_form : Parts → Option Request
+move_form parts = if has_no_option parts then option_map (λ names. Move names.0 names.1 names.2) (three_of parts) else None
+
 -- what a command of this name asks for with these parts
 unfoldable pub request : Text → Parts → Option Request
 request command parts =
@@ -161,6 +166,7 @@ request command parts =
     else if bytes_eq command (codes "replay") then replay_form parts
     else if bytes_eq command (codes "make") then make_form parts
     else if bytes_eq command (codes "trial") then trial_form parts
+    else if bytes_eq command (codes "move") then move_form parts
     else None
 
 -- What words ask for, if they have a form: the first word is the command.

@@ -34,6 +34,12 @@ pub enum Command<'a> {
         count: u32,
         options: RunOptions<'a>,
     },
+    /// Writes the output of a plan for trades, worked in buckets that move between partitions.
+    Move {
+        plan: &'a str,
+        trades: &'a str,
+        moves: &'a str,
+    },
 }
 
 /// The options of `run` and `trial`, with their defaults where they are not given.

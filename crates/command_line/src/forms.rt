@@ -1,6 +1,6 @@
 // The form of each command.
 ghost use Rattle.std.specs.Prelude.{◌≡◌, ◌≤◌, IfSome, option_map};
-ghost use Rattle.command_line.specs.Forms.{eval_form, has_cash_alone, has_no_option, made_of, make_form, max_count, max_start, options_of, replay_form, request, run_form, three_of, trial_form, two_of};
+ghost use Rattle.command_line.specs.Forms.{eval_form, has_cash_alone, has_no_option, made_of, make_form, max_count, max_start, move_form, options_of, replay_form, request, run_form, three_of, trial_form, two_of};
 ghost use Rattle.command_line.specs.Views.{AreInRange, IsInRange, options_in, parts_of, request_of};
 
 use crate::numbers::{number_or, number_within};
@@ -162,6 +162,22 @@ fn trial_of<'a>(parts: &Parts<'a>) -> Option<Command<'a>>
     })
 }
 
+#[tactic(auto, unfolding(crate::specs::Forms::move_form))]
+fn move_of<'a>(parts: &Parts<'a>) -> Option<Command<'a>>
+    ensures form { option_map request_of result ≡ move_form (parts_of parts.now) }
+    ensures within { IfSome result IsInRange }
+{
+    if !has_no_option(parts) {
+        return None;
+    }
+    let (plan, trades, moves) = three_of(parts)?;
+    Some(Command::Move {
+        plan,
+        trades,
+        moves,
+    })
+}
+
 /// What a command of this name asks for with these parts.
 #[tactic(auto, unfolding(crate::specs::Forms::request))]
 pub(crate) fn request<'a>(command: &str, parts: &Parts<'a>) -> Option<Command<'a>>
@@ -174,6 +190,7 @@ pub(crate) fn request<'a>(command: &str, parts: &Parts<'a>) -> Option<Command<'a
         "replay" => replay_of(parts),
         "make" => make_of(parts),
         "trial" => trial_of(parts),
+        "move" => move_of(parts),
         _ => None,
     }
 }

@@ -65,6 +65,11 @@ fn text_of(alloc: Global, command: Command<'_>) -> Result<String, Fail> {
             let options = options_text(alloc, options)?;
             format!(in alloc; "trial {plan} {start} {count} {options}")?
         }
+        Command::Move {
+            plan,
+            trades,
+            moves,
+        } => format!(in alloc; "move {plan} {trades} {moves}")?,
     };
     Ok(text)
 }

@@ -2,7 +2,7 @@
 use crate::fixture::{Line, first_other};
 use std::test::Fail;
 
-const FILES: [Line; 20] = [
+const FILES: [Line; 24] = [
     ("eval p.txt t.csv", "eval p.txt t.csv -"),
     ("eval eval make", "eval eval make -"),
     ("eval p.txt t-.csv", "eval p.txt t-.csv -"),
@@ -23,6 +23,10 @@ const FILES: [Line; 20] = [
     ("replay p.txt t.csv", "none"),
     ("replay p.txt t.csv e.txt", "replay p.txt t.csv e.txt -"),
     ("replay p.txt t.csv e.txt more", "none"),
+    ("move p.txt t.csv", "none"),
+    ("move p.txt t.csv m.txt", "move p.txt t.csv m.txt"),
+    ("move p.txt t.csv m.txt more", "none"),
+    ("move p.txt t.csv -", "none"),
 ];
 
 const NUMBERS: [Line; 26] = [

@@ -106,7 +106,7 @@ const VALUES: [Line; 22] = [
     ("make -- 1 1", "none"),
 ];
 
-const OTHERS: [Line; 24] = [
+const OTHERS: [Line; 26] = [
     ("run p.txt t.csv --turns 1 --turns 2", "none"),
     ("run p.txt t.csv --turns=1 --turns=1", "none"),
     ("run --threads 2 p.txt t.csv --threads=2", "none"),
@@ -119,6 +119,8 @@ const OTHERS: [Line; 24] = [
     ("eval p.txt t.csv --journal=j.txt", "none"),
     ("replay p.txt t.csv e.txt --threads 2", "none"),
     ("replay p.txt t.csv e.txt --journal j.txt", "none"),
+    ("move p.txt t.csv m.txt --cash c.csv", "none"),
+    ("move p.txt t.csv m.txt --threads=2", "none"),
     ("make 1 1 --cash c.csv", "none"),
     ("make --threads=2 1 1", "none"),
     ("run p.txt t.csv --Threads 2", "none"),
