@@ -3,8 +3,8 @@ ghost use Rattle.std.specs.Prelude.{◌<◌};
 ghost use Rattle.trade_maker.specs.Limits.{states};
 
 use crate::fixture::{Story, TWO, replica};
+use evaluation::evaluate;
 use flux_core::Core;
-use flux_top::evaluate;
 use plan_reader::{Plan, read_plan};
 use std::alloc::Global;
 use std::process::Abort;

@@ -1,0 +1,4 @@
+pub mod Courses
+pub mod Feeding
+pub mod MergedInputs
+pub mod Refusals

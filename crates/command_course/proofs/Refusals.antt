@@ -1,0 +1,102 @@
+-- Why inputs are refused.
+use Rattle.std.proofs.Common.{ℕ, ◌≡◌, ◌<◌, ◌∙◌, true, List, length, refl, sym, ap, Err, Result, arith}
+use Rattle.std.specs.Prelude.{◌≢◌, nat_lt}
+use Rattle.std.proofs.lemmas.Bool.Decides.{nat_tests}
+use Rattle.plan_reader.specs.Plan.{plan_of}
+use Rattle.plan_reader.specs.PlanView.{PlanView}
+use Rattle.plan_reader.specs.Messages.{plan_fault}
+use Rattle.plan_reader.specs.Reading.{Fails}
+use Rattle.plan_reader.specs.declared.error.PlanError.{PlanError}
+use Rattle.plan_reader.specs.declared.error.PlanError.TheVariants as plan_error
+use Rattle.trade_text.specs.Cash.{cash_of}
+use Rattle.trade_text.specs.Files.{file_of}
+use Rattle.trade_text.specs.Kinds.{Kind, cash_kind, trades_kind}
+use Rattle.trade_text.specs.Limits.{max_input_bytes}
+use Rattle.trade_text.specs.Messages.{fault_of}
+use Rattle.trade_text.specs.Refusals.{IsRefusalOf}
+use Rattle.trade_text.specs.Results.{Read}
+use Rattle.trade_text.specs.Trades.{trades_of}
+use Rattle.trade_text.specs.declared.error.CashField.{CashField}
+use Rattle.trade_text.specs.declared.error.Field.{Field}
+use Rattle.trade_text.specs.declared.error.ReadError.{ReadError}
+use Rattle.trade_text.specs.declared.error.ReadError.TheVariants as read_error
+use Rattle.command_course.specs.Course.{Reading}
+use Rattle.command_course.specs.Lines.{line_of}
+use Rattle.command_course.specs.Inputs.{cash_from, plan_from, plan_or_line, rows_or_line, trades_from}
+use Rattle.command_course.specs.Steps.{IsRefusedBy, StopsOn}
+use Rattle.command_course.specs.declared.stop.Stop.{Stop}
+use Rattle.command_course.specs.declared.stop.Stop.TheVariants as stop
+
+-- a reading that fails by this fault is refused by its line
+pub refused : {A : Type 0} (reading : Reading A) (line : List ℕ) (why : Stop) (P : Type 0) → (P → reading ≡ Err line) → IsRefusedBy why line P → StopsOn reading why
+refused reading line stop.Usage P fails by = by
+refused reading line (stop.Refused said) P fails by = fails by.1 ∙ ap Err (sym by.0)
+refused reading line (stop.CannotRead said) P fails by = by
+refused reading line stop.CannotWrite P fails by = by
+refused reading line (stop.PairLost stage part said) P fails by = by
+refused reading line stop.OutOfMemory P fails by = tt
+
+-- ---- plans
+
+plan_fails : (e : PlanError) (read : Result PlanView PlanError) → Fails e read → e ≢ plan_error.OutOfMemory → read ≡ Err e
+plan_fails plan_error.OutOfMemory read fails known = absurd (known refl)
+plan_fails _ read fails known = fails
+
+pub plan_refused : (name bytes : List ℕ) (e : PlanError) (why : Stop) → Fails e (plan_of bytes) → IsRefusedBy why (line_of name (plan_fault e)) (e ≢ plan_error.OutOfMemory)
+    → StopsOn (plan_from name bytes) why
+plan_refused name bytes e why fails by =
+    refused (plan_from name bytes) (line_of name (plan_fault e)) why (e ≢ plan_error.OutOfMemory) (λ known. ap (plan_or_line name) (plan_fails e (plan_of bytes) fails known)) by
+
+plan_too_long : (bytes : List ℕ) → 65536 < length bytes → plan_of bytes ≡ Err (plan_error.TooLong (length bytes))
+unfolding plan_of
+plan_too_long bytes long = let e : nat_lt 65536 (length bytes) ≡ true = grind (arith, nat_tests) in rw e refl
+
+pub long_plan : (name bytes : List ℕ) (seen : ℕ) (why : Stop) → 65536 < length bytes
+    → IsRefusedBy why (line_of name (plan_fault (plan_error.TooLong seen))) (plan_error.TooLong seen ≢ plan_error.OutOfMemory) → StopsOn (plan_from name bytes) why
+long_plan name bytes seen why long by =
+    refused (plan_from name bytes) (line_of name (plan_fault (plan_error.TooLong seen))) why (plan_error.TooLong seen ≢ plan_error.OutOfMemory)
+    (λ known. ap (plan_or_line name) (plan_too_long bytes long)) by
+
+-- ---- files of rows
+
+rows_fail : {F A : Type 0} (e : ReadError F) (read : Read F A) → IsRefusalOf e read → e ≢ read_error.OutOfMemory → read ≡ Err e
+rows_fail read_error.OutOfMemory read fails known = absurd (known refl)
+rows_fail _ read fails known = fails
+
+rows_refused : {F A : Type 0} (kind : Kind F) (name : List ℕ) (read : Read F A) (e : ReadError F) (why : Stop) → IsRefusalOf e read
+    → IsRefusedBy why (line_of name (fault_of kind e)) (e ≢ read_error.OutOfMemory) → StopsOn (rows_or_line kind name read) why
+rows_refused kind name read e why fails by =
+    refused (rows_or_line kind name read) (line_of name (fault_of kind e)) why (e ≢ read_error.OutOfMemory) (λ known. ap (rows_or_line kind name) (rows_fail e read fails known)) by
+
+pub trades_refused : (name bytes : List ℕ) (e : ReadError Field) (why : Stop) → IsRefusalOf e (trades_of bytes)
+    → IsRefusedBy why (line_of name (fault_of trades_kind e)) (e ≢ read_error.OutOfMemory) → StopsOn (trades_from name bytes) why
+trades_refused name bytes e why fails by = rows_refused trades_kind name (trades_of bytes) e why fails by
+
+pub cash_refused : (room : ℕ) (name bytes : List ℕ) (e : ReadError CashField) (why : Stop) → IsRefusalOf e (cash_of bytes room)
+    → IsRefusedBy why (line_of name (fault_of cash_kind e)) (e ≢ read_error.OutOfMemory) → StopsOn (cash_from room name bytes) why
+cash_refused room name bytes e why fails by = rows_refused cash_kind name (cash_of bytes room) e why fails by
+
+file_too_long : {F : Type 0} (bytes : List ℕ) → max_input_bytes < length bytes → file_of {F = F} bytes ≡ Err (read_error.TooLong (length bytes))
+unfolding file_of
+file_too_long bytes long = let e : nat_lt max_input_bytes (length bytes) ≡ true = grind (arith, nat_tests) in rw e refl
+
+trades_too_long : (bytes : List ℕ) → max_input_bytes < length bytes → trades_of bytes ≡ Err (read_error.TooLong (length bytes))
+unfolding trades_of
+trades_too_long bytes long = rw (file_too_long {F = Field} bytes long) refl
+
+cash_too_long : (bytes : List ℕ) (room : ℕ) → max_input_bytes < length bytes → cash_of bytes room ≡ Err (read_error.TooLong (length bytes))
+unfolding cash_of
+cash_too_long bytes room long = rw (file_too_long {F = CashField} bytes long) refl
+
+rows_long : {F A : Type 0} (kind : Kind F) (name : List ℕ) (read : Read F A) (bytes seen : ℕ) (why : Stop) (P : Type 0) → read ≡ Err (read_error.TooLong bytes)
+    → IsRefusedBy why (line_of name (fault_of kind (read_error.TooLong seen))) P → StopsOn (rows_or_line kind name read) why
+rows_long kind name read bytes seen why P fails by =
+    refused (rows_or_line kind name read) (line_of name (fault_of kind (read_error.TooLong seen))) why P (λ known. ap (rows_or_line kind name) fails) by
+
+pub long_trades : (name bytes : List ℕ) (seen : ℕ) (why : Stop) (P : Type 0) → max_input_bytes < length bytes
+    → IsRefusedBy why (line_of name (fault_of trades_kind (read_error.TooLong seen))) P → StopsOn (trades_from name bytes) why
+long_trades name bytes seen why P long by = rows_long trades_kind name (trades_of bytes) (length bytes) seen why P (trades_too_long bytes long) by
+
+pub long_cash : (room : ℕ) (name bytes : List ℕ) (seen : ℕ) (why : Stop) (P : Type 0) → max_input_bytes < length bytes
+    → IsRefusedBy why (line_of name (fault_of cash_kind (read_error.TooLong seen))) P → StopsOn (cash_from room name bytes) why
+long_cash room name bytes seen why P long by = rows_long cash_kind name (cash_of bytes room) (length bytes) seen why P (cash_too_long bytes room long) by

@@ -1,0 +1,14 @@
+-- The lines that are said of a file.
+use Rattle.std.specs.Prelude.{ℕ, List, ◌++◌, codes}
+
+-- what is said of a file
+abbrev pub line_of : List ℕ → List ℕ → List ℕ
+line_of name fault = codes "flux: " ++ name ++ codes ": " ++ fault ++ codes "\n"
+
+-- what is said of a file that can't be read
+abbrev pub cannot_read_line : List ℕ → List ℕ
+cannot_read_line name = line_of name (codes "cannot read")
+
+-- what is said of cash movements for a plan that has no such source
+abbrev pub not_in_plan_line : List ℕ → List ℕ
+not_in_plan_line name = line_of name (codes "not in the plan")

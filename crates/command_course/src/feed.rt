@@ -1,0 +1,222 @@
+// What a plan is fed with: the inputs with which all commands over a plan begin.
+ghost use Rattle.std.specs.Prelude.{◌≡◌, ◌↔◌, ◌≤◌, ◌+◌, ◌-◌, [], ℕ, IfErr, IfOk, List, OnOk, Option, Some, false, length, option_map, true};
+ghost use Rattle.command_course.specs.Feeds.{IsFed, fed, feed_of, for_plan, with_feed, with_movements, with_plan, with_trades};
+ghost use Rattle.command_course.specs.Lines.{not_in_plan_line};
+ghost use Rattle.command_course.specs.Steps.{GivesBy, HasReadCause, IsRefusedBy, IsWant, StopsBy};
+ghost use Rattle.flux_outside.specs.Outside.{Call, Names, StopsAtWant};
+ghost use Rattle.trade_text.specs.Inputs.{inputs_of};
+ghost use Rattle.trade_text.specs.Limits.{max_inputs};
+ghost use Rattle.trade_text.specs.TradesView.{inputs_in};
+
+use crate::input_files::{CashFile, PlanFile, TradesFile};
+use crate::inputs::{input_at, line_about};
+use crate::stop::Stop;
+use flux_outside::Files;
+use plan_reader::Plan;
+use std::alloc::Global;
+use trade_text::{Cash, MAX_INPUTS, Trades};
+use tuple_edge::OutOfMemory;
+
+/// A plan and what it is fed with: trades and, for a plan of version 2, the cash movements that were merged with them.
+#[derive(Drop)]
+pub struct Feed {
+    pub plan: Plan,
+    pub trades: Trades,
+}
+
+/// Reads the plan, the trades and, where a file of them is named, the cash movements.
+#[tactic(auto, using(crate::proofs::Courses::wants_on))]
+pub fn feed_at<F: Files>(
+    alloc: Global,
+    files: &mut F,
+    plan: &str,
+    trades: &str,
+    cash: Option<&str>,
+) -> Result<Feed, Stop>
+    ensures gives { IfOk result (λ feed. GivesBy (F.contents files.old) (F.calls files.old) (F.calls files.new) (with_feed plan.now trades.now (option_map (λ name. name.now) cash.entry)) (feed_of feed)) }
+    ensures fed { IfOk result IsFed }
+    ensures stops { IfErr result (λ stop. StopsBy (F.contents files.old) (F.calls files.old) (F.calls files.new) (with_feed plan.now trades.now (option_map (λ name. name.now) cash.entry)) stop) }
+    ensures cause { IfErr result (λ stop. HasReadCause (F.read_faults files.old) (F.read_faults files.new) stop) }
+    ensures still { OnOk result (F.read_faults files.new ≡ F.read_faults files.old) }
+    ensures wants { StopsAtWant (F.wants files.old) (F.wants files.new) (IsWant result) }
+    ensures contents { F.contents files.new ≡ F.contents files.old }
+    ensures saves { F.save_faults files.new ≡ F.save_faults files.old }
+{
+    match plan_at(alloc, files, plan, cash) {
+        Ok(plan) => feed_for(alloc, files, plan, trades, cash),
+        Err(stop) => Err(stop),
+    }
+}
+
+// The trades and the movements, once the plan was accepted.
+#[tactic(auto, using(crate::proofs::Courses::wants_on))]
+fn feed_for<F: Files>(
+    alloc: Global,
+    files: &mut F,
+    plan: Plan,
+    trades: &str,
+    cash: Option<&str>,
+) -> Result<Feed, Stop>
+    ensures gives { IfOk result (λ feed. GivesBy (F.contents files.old) (F.calls files.old) (F.calls files.new) (with_trades trades.now (option_map (λ name. name.now) cash.entry) plan) (feed_of feed)) }
+    ensures fed { IfOk result IsFed }
+    ensures stops { IfErr result (λ stop. StopsBy (F.contents files.old) (F.calls files.old) (F.calls files.new) (with_trades trades.now (option_map (λ name. name.now) cash.entry) plan) stop) }
+    ensures cause { IfErr result (λ stop. HasReadCause (F.read_faults files.old) (F.read_faults files.new) stop) }
+    ensures still { OnOk result (F.read_faults files.new ≡ F.read_faults files.old) }
+    ensures wants { StopsAtWant (F.wants files.old) (F.wants files.new) (IsWant result) }
+    ensures contents { F.contents files.new ≡ F.contents files.old }
+    ensures saves { F.save_faults files.new ≡ F.save_faults files.old }
+{
+    match input_at(alloc, files, trades, &TradesFile) {
+        Ok(trades) => movements_at(alloc, files, plan, trades, cash),
+        Err(stop) => Err(stop),
+    }
+}
+
+/// Reads a plan, which may be given cash movements only where it is of version 2.
+#[tactic(auto, using(crate::proofs::Courses::wants_on))]
+pub fn plan_at<F: Files>(
+    alloc: Global,
+    files: &mut F,
+    plan: &str,
+    cash: Option<&str>,
+) -> Result<Plan, Stop>
+    ensures gives { IfOk result (λ it. GivesBy (F.contents files.old) (F.calls files.old) (F.calls files.new) (with_plan plan.now (option_map (λ name. name.now) cash.entry)) it) }
+    ensures stops { IfErr result (λ stop. StopsBy (F.contents files.old) (F.calls files.old) (F.calls files.new) (with_plan plan.now (option_map (λ name. name.now) cash.entry)) stop) }
+    ensures cause { IfErr result (λ stop. HasReadCause (F.read_faults files.old) (F.read_faults files.new) stop) }
+    ensures still { OnOk result (F.read_faults files.new ≡ F.read_faults files.old) }
+    ensures wants { StopsAtWant (F.wants files.old) (F.wants files.new) (IsWant result) }
+    ensures contents { F.contents files.new ≡ F.contents files.old }
+    ensures saves { F.save_faults files.new ≡ F.save_faults files.old }
+{
+    match input_at(alloc, files, plan, &PlanFile) {
+        Ok(plan) => with_source(alloc, plan, cash),
+        Err(stop) => Err(stop),
+    }
+}
+
+// A plan, where it has the source of the movements that are given.
+fn with_source(alloc: Global, plan: Plan, cash: Option<&str>) -> Result<Plan, Stop>
+    ensures gives { IfOk result (λ it. (told : Option Names) (calls : Option (List Call)) → GivesBy told calls calls (for_plan (option_map (λ name. name.now) cash.entry) plan) it) }
+    ensures stops { IfErr result (λ stop. (told : Option Names) (calls : Option (List Call)) → StopsBy told calls calls (for_plan (option_map (λ name. name.now) cash.entry) plan) stop) }
+    ensures cause { IfErr result (λ stop. (faults : ℕ) → HasReadCause faults faults stop) }
+{
+    match cash {
+        None => Ok(plan),
+        Some(name) => {
+            if plan.version() == 1 {
+                return Err(not_in_plan(alloc, name));
+            }
+            Ok(plan)
+        }
+    }
+}
+
+// Why cash movements are refused for a plan that has no such source.
+fn not_in_plan(alloc: Global, name: &str) -> Stop
+    ensures { IsRefusedBy result (not_in_plan_line name.now) (Unit {0}) }
+{
+    match line_about(alloc, name, "not in the plan") {
+        Ok(line) => Stop::Refused { line },
+        Err(_) => Stop::OutOfMemory,
+    }
+}
+
+/// Reads the cash movements where a file of them is named, once plan and trades are there.
+#[tactic(auto, using(crate::proofs::Courses::wants_on))]
+pub fn movements_at<F: Files>(
+    alloc: Global,
+    files: &mut F,
+    plan: Plan,
+    trades: Trades,
+    cash: Option<&str>,
+) -> Result<Feed, Stop>
+    requires { trades.merged ≡ false }
+    ensures gives { IfOk result (λ feed. GivesBy (F.contents files.old) (F.calls files.old) (F.calls files.new) (with_movements (option_map (λ name. name.now) cash.entry) plan trades) (feed_of feed)) }
+    ensures fed { IfOk result IsFed }
+    ensures stops { IfErr result (λ stop. StopsBy (F.contents files.old) (F.calls files.old) (F.calls files.new) (with_movements (option_map (λ name. name.now) cash.entry) plan trades) stop) }
+    ensures cause { IfErr result (λ stop. HasReadCause (F.read_faults files.old) (F.read_faults files.new) stop) }
+    ensures still { OnOk result (F.read_faults files.new ≡ F.read_faults files.old) }
+    ensures wants { StopsAtWant (F.wants files.old) (F.wants files.new) (IsWant result) }
+    ensures contents { F.contents files.new ≡ F.contents files.old }
+    ensures saves { F.save_faults files.new ≡ F.save_faults files.old }
+{
+    match cash {
+        None => without_movements(alloc, plan, trades),
+        Some(name) => movements_of(alloc, files, plan, trades, name),
+    }
+}
+
+// The movements of a file.
+#[tactic(auto, using(crate::proofs::Courses::wants_on))]
+fn movements_of<F: Files>(
+    alloc: Global,
+    files: &mut F,
+    plan: Plan,
+    trades: Trades,
+    name: &str,
+) -> Result<Feed, Stop>
+    requires { trades.merged ≡ false }
+    ensures gives { IfOk result (λ feed. GivesBy (F.contents files.old) (F.calls files.old) (F.calls files.new) (with_movements (Some name.now) plan trades) (feed_of feed)) }
+    ensures fed { IfOk result IsFed }
+    ensures stops { IfErr result (λ stop. StopsBy (F.contents files.old) (F.calls files.old) (F.calls files.new) (with_movements (Some name.now) plan trades) stop) }
+    ensures cause { IfErr result (λ stop. HasReadCause (F.read_faults files.old) (F.read_faults files.new) stop) }
+    ensures still { OnOk result (F.read_faults files.new ≡ F.read_faults files.old) }
+    ensures wants { StopsAtWant (F.wants files.old) (F.wants files.new) (IsWant result) }
+    ensures contents { F.contents files.new ≡ F.contents files.old }
+    ensures saves { F.save_faults files.new ≡ F.save_faults files.old }
+{
+    let room = room_beside(&trades);
+    match input_at(alloc, files, name, &CashFile { room }) {
+        Ok(movements) => merged(plan, trades, &movements),
+        Err(stop) => Err(stop),
+    }
+}
+
+// For how many movements trades leave room.
+fn room_beside(trades: &Trades) -> u32
+    ensures room { result ≡ max_inputs - length trades.now.rows }
+    ensures few { length trades.now.rows ≤ max_inputs }
+{
+    (MAX_INPUTS - trades.rows().len()) as u32
+}
+
+// No movements.
+fn without_movements(alloc: Global, plan: Plan, trades: Trades) -> Result<Feed, Stop>
+    requires { trades.merged ≡ false }
+    ensures feed { IfOk result (λ feed. feed_of feed ≡ fed plan trades []) }
+    ensures fed { IfOk result IsFed }
+    ensures want { IfErr result (λ stop. stop ≡ Stop.OutOfMemory) }
+{
+    let none = Cash::empty(alloc);
+    merged(plan, trades, &none)
+}
+
+// A plan with the trades and the movements that it takes, where want of memory is why the command stops.
+fn merged(plan: Plan, trades: Trades, movements: &Cash) -> Result<Feed, Stop>
+    requires unmerged { trades.merged ≡ false }
+    requires few { length trades.rows + length movements.now ≤ max_inputs }
+    ensures feed { IfOk result (λ feed. feed_of feed ≡ fed plan trades movements.now) }
+    ensures fed { IfOk result IsFed }
+    ensures want { IfErr result (λ stop. stop ≡ Stop.OutOfMemory) }
+{
+    let trades = taken(&plan, trades, movements)?;
+    Ok(Feed { plan, trades })
+}
+
+// The trades with the movements that a plan takes: one of version 1 takes none.
+#[tactic(auto, using(crate::proofs::MergedInputs::unmerged_inputs))]
+fn taken(plan: &Plan, mut trades: Trades, movements: &Cash) -> Result<Trades, OutOfMemory>
+    requires unmerged { trades.merged ≡ false }
+    requires few { length trades.rows + length movements.now ≤ max_inputs }
+    ensures inputs { IfOk result (λ all. inputs_in all ≡ inputs_of plan.now.version trades.rows movements.now) }
+    ensures symbols { IfOk result (λ all. all.symbols ≡ trades.symbols) }
+    ensures merged { IfOk result (λ all. (all.merged ≡ true) ↔ (plan.now.version ≡ 2)) }
+{
+    let merged = trades.merged();
+    prove!(!merged);
+    if plan.version() == 1 {
+        return Ok(trades);
+    }
+    trades.merge_cash(movements)?;
+    Ok(trades)
+}

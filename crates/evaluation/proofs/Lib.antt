@@ -1,0 +1,2 @@
+pub mod StageRows
+pub mod Taking

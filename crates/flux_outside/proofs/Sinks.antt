@@ -1,0 +1,75 @@
+-- What several puts take together, and what they are given.
+use Rattle.std.proofs.Common.{ℕ, ◌≡◌, List, [], ◌∷◌, ◌++◌, drop, Some, None, Option, refl, sym, ap, ◌∙◌, append_assoc, append-nil}
+use Rattle.flux_outside.specs.Outside.{AreRests, IsOffered, OffersRests, Takes, TakesPart}
+
+-- ---- bytes taken
+
+pub takes_more : (old mid new : Option (List ℕ)) (front bytes : List ℕ) → Takes old mid front → Takes mid new bytes → Takes old new (front ++ bytes)
+takes_more None mid new front bytes first second = tt
+takes_more (Some old) mid new front bytes first second = rw first at second ∙ ap Some (append_assoc old front bytes)
+
+pub takes_part_more : (old mid new : Option (List ℕ)) (front left bytes : List ℕ) → Takes old mid front → bytes ≡ front ++ left → TakesPart mid new left → TakesPart old new bytes
+takes_part_more old mid new front left bytes first whole part = record {
+  front = front ++ part.front;
+  left = part.left;
+  some_left = part.some_left;
+  whole = whole ∙ ap (λ rest. front ++ rest) part.whole ∙ sym (append_assoc front part.front part.left);
+  taken = takes_more old mid new front part.front first part.taken;
+}
+
+-- ---- pieces offered
+
+-- these pieces of a text are rests of it, and after the last one this is left
+abbrev AreRestsTo : List ℕ → List (List ℕ) → List ℕ → Type 0
+AreRestsTo text [] rest = text ≡ rest
+AreRestsTo text (piece ∷ pieces) rest = (piece ≡ text) × ((n : ℕ) × AreRestsTo (drop n text) pieces rest)
+
+pub record AddsRestsTo (old new : List (List ℕ)) (text rest : List ℕ) : Type 0 where
+  pub pieces : List (List ℕ)
+  pub added : new ≡ old ++ pieces
+  pub rests : AreRestsTo text pieces rest
+
+-- the pieces that were offered are rests of a text of which this is left, where pieces are told
+abbrev pub OffersTo : Option (List (List ℕ)) → Option (List (List ℕ)) → List ℕ → List ℕ → Type 0
+OffersTo None new text rest = Unit {0}
+OffersTo (Some old) None text rest = ⊥
+OffersTo (Some old) (Some new) text rest = AddsRestsTo old new text rest
+
+are_rests : (text : List ℕ) (pieces : List (List ℕ)) (rest : List ℕ) → AreRestsTo text pieces rest → AreRests text pieces
+are_rests text [] rest left = tt
+are_rests text (piece ∷ pieces) rest left = (left.0, (left.1.0, are_rests (drop left.1.0 text) pieces rest left.1.1))
+
+rests-push : (text : List ℕ) (pieces : List (List ℕ)) (rest : List ℕ) (n : ℕ) → AreRestsTo text pieces rest → AreRestsTo text (pieces ++ rest ∷ []) (drop n rest)
+rests-push text [] rest n left = (sym left, (n, ap (drop n) left))
+rests-push text (piece ∷ pieces) rest n left = (left.0, (left.1.0, rests-push (drop left.1.0 text) pieces rest n left.1.1))
+
+none_not_some : {A : Type 0} {x : A} → None ≡ Some x → ⊥
+none_not_some e = cc
+
+same_value : {A : Type 0} {x y : A} → Some x ≡ Some y → x ≡ y
+same_value e = cc
+
+pub offers_nothing : (old : Option (List (List ℕ))) (text : List ℕ) → OffersTo old old text text
+offers_nothing None text = tt
+offers_nothing (Some old) text = record { pieces = []; added = sym (append-nil old); rests = refl }
+
+-- one more piece, which is what was left, and of which some bytes are taken
+pub offers_more : (old mid new : Option (List (List ℕ))) (text rest : List ℕ) (n : ℕ) → OffersTo old mid text rest → IsOffered mid new rest → OffersTo old new text (drop n rest)
+offers_more None mid new text rest n offered more = tt
+offers_more (Some old) None new text rest n offered more = absurd offered
+offers_more (Some old) (Some mid) None text rest n offered more = absurd (none_not_some more)
+offers_more (Some old) (Some mid) (Some new) text rest n offered more = record {
+  pieces = offered.pieces ++ rest ∷ [];
+  added = same_value more ∙ ap (λ pieces. pieces ++ rest ∷ []) offered.added ∙ append_assoc old offered.pieces (rest ∷ []);
+  rests = rests-push text offered.pieces rest n offered.rests;
+}
+
+-- all pieces were rests
+pub offers_rests : (old new : Option (List (List ℕ))) (text rest : List ℕ) → OffersTo old new text rest → OffersRests old new text
+offers_rests None new text rest offered = tt
+offers_rests (Some old) None text rest offered = absurd offered
+offers_rests (Some old) (Some new) text rest offered = record { pieces = offered.pieces; added = offered.added; rests = are_rests text offered.pieces rest offered.rests }
+
+-- so they are with a last piece
+pub offers_last : (old mid new : Option (List (List ℕ))) (text rest : List ℕ) → OffersTo old mid text rest → IsOffered mid new rest → OffersRests old new text
+offers_last old mid new text rest offered more = offers_rests old new text (drop 0 rest) (offers_more old mid new text rest 0 offered more)

@@ -1,0 +1,20 @@
+//! What the program is handed in of the outside: files by name, and sinks of bytes.
+//!
+//! `Files` and `Sink` say what each call does and what of it is told; `write_all` puts a whole text. `MemFiles` and
+//! `MemSink` hold what they are given in memory, and fail exactly where their lists say so. The adapters over std
+//! (`StdFiles`, `StdSink`) are the trusted edge of the program. It stands on tuple_edge for its want of memory.
+#![tactic(auto)]
+
+mod mem_files;
+mod mem_sink;
+mod outside;
+mod std_files;
+mod std_sink;
+mod write;
+
+pub use mem_files::MemFiles;
+pub use mem_sink::MemSink;
+pub use outside::{Failed, FileStop, Files, Got, Sink};
+pub use std_files::StdFiles;
+pub use std_sink::StdSink;
+pub use write::write_all;
