@@ -1,0 +1,5 @@
+pub mod Courses
+pub mod OneOperator
+pub mod Refusals
+pub mod Telling
+pub mod Working

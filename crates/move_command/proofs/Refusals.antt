@@ -1,0 +1,44 @@
+-- Why moves are refused.
+use Rattle.std.proofs.Common.{ℕ, ◌≡◌, ◌<◌, ◌∙◌, true, List, length, refl, sym, ap, Err, Result, arith}
+use Rattle.std.specs.Prelude.{◌≢◌, nat_lt}
+use Rattle.std.proofs.lemmas.Bool.Decides.{nat_tests}
+use Rattle.plan_reader.specs.PlanView.{PlanView}
+use Rattle.bucket_move.specs.Messages.{moves_fault}
+use Rattle.bucket_move.specs.Moves.{Fails, moves_of}
+use Rattle.bucket_move.specs.declared.error.MovesError.{MovesError}
+use Rattle.bucket_move.specs.declared.error.MovesError.TheVariants as error
+use Rattle.bucket_move.specs.declared.moves.Shift.{Shift}
+use Rattle.command_course.specs.Course.{Reading}
+use Rattle.command_course.specs.Lines.{line_of}
+use Rattle.command_course.specs.Steps.{IsRefusedBy, StopsOn}
+use Rattle.command_course.specs.declared.stop.Stop.{Stop}
+use Rattle.command_course.specs.declared.stop.Stop.TheVariants as stop
+use Rattle.move_command.specs.Inputs.{moves_from, moves_or_line}
+
+-- a reading that fails by this fault is refused by its line
+refused : {A : Type 0} (reading : Reading A) (line : List ℕ) (why : Stop) (P : Type 0) → (P → reading ≡ Err line) → IsRefusedBy why line P → StopsOn reading why
+refused reading line stop.Usage P fails by = by
+refused reading line (stop.Refused said) P fails by = fails by.1 ∙ ap Err (sym by.0)
+refused reading line (stop.CannotRead said) P fails by = by
+refused reading line stop.CannotWrite P fails by = by
+refused reading line (stop.PairLost stage part said) P fails by = by
+refused reading line stop.OutOfMemory P fails by = tt
+
+moves_fail : (e : MovesError) (read : Result (List Shift) MovesError) → Fails e read → e ≢ error.OutOfMemory → read ≡ Err e
+moves_fail error.OutOfMemory read fails known = absurd (known refl)
+moves_fail _ read fails known = fails
+
+pub moves_refused : (plan : PlanView) (name bytes : List ℕ) (e : MovesError) (why : Stop) → Fails e (moves_of plan bytes) → IsRefusedBy why (line_of name (moves_fault e)) (e ≢ error.OutOfMemory)
+    → StopsOn (moves_from plan name bytes) why
+moves_refused plan name bytes e why fails by =
+    refused (moves_from plan name bytes) (line_of name (moves_fault e)) why (e ≢ error.OutOfMemory) (λ known. ap (moves_or_line name) (moves_fail e (moves_of plan bytes) fails known)) by
+
+moves_too_long : (plan : PlanView) (bytes : List ℕ) → 65536 < length bytes → moves_of plan bytes ≡ Err (error.TooLong (length bytes))
+unfolding moves_of
+moves_too_long plan bytes long = let e : nat_lt 65536 (length bytes) ≡ true = grind (arith, nat_tests) in rw e refl
+
+pub long_moves : (plan : PlanView) (name bytes : List ℕ) (seen : ℕ) (why : Stop) → 65536 < length bytes
+    → IsRefusedBy why (line_of name (moves_fault (error.TooLong seen))) (error.TooLong seen ≢ error.OutOfMemory) → StopsOn (moves_from plan name bytes) why
+long_moves plan name bytes seen why long by =
+    refused (moves_from plan name bytes) (line_of name (moves_fault (error.TooLong seen))) why (error.TooLong seen ≢ error.OutOfMemory)
+    (λ known. ap (moves_or_line name) (moves_too_long plan bytes long)) by

@@ -1,0 +1,3 @@
+pub mod RunEnds
+pub mod ScriptFaults
+pub mod Ways

@@ -1,0 +1,21 @@
+use Rattle.std.proofs.Common.{true}
+use Rattle.command_course.specs.Feeds.{feed_of, with_movements}
+use Rattle.command_line.specs.Views.{options_in, text_in}
+use Rattle.run_command.specs.Courses.{runs}
+use Rattle.run_command.proofs.Ways.{err_run_on, ok_run_on}
+use Rattle.run_command.proofs.trial.moved_outcome.Goals as goal
+
+pub returns-in-Ok-clause-comes : goal.returns-in-Ok-clause-comes
+returns-in-Ok-clause-comes g c =
+    ok_run_on (g.F.Files.contents c.args.files.now) (g.F.Files.contents c.movements_at.new.files) (g.F.Files.calls c.args.files.now) (g.F.Files.calls c.movements_at.new.files) (g.F.Files.calls c.fed_outcome.new.files)
+    (with_movements (text_in c.args.options.cash) c.args.plan c.args.trades) (runs (options_in c.args.options) true) (feed_of c.in-Ok.feed) c.fed_outcome.result
+    c.movements_at.ensures.contents c.in-Ok.ensures.gives c.fed_outcome.ensures.comes
+
+pub returns-in-Ok-clause-stops : goal.returns-in-Ok-clause-stops
+returns-in-Ok-clause-stops g c =
+    err_run_on (g.F.Files.contents c.args.files.now) (g.F.Files.contents c.movements_at.new.files) (g.F.Files.calls c.args.files.now) (g.F.Files.calls c.movements_at.new.files) (g.F.Files.calls c.fed_outcome.new.files)
+    (with_movements (text_in c.args.options.cash) c.args.plan c.args.trades) (runs (options_in c.args.options) true) (feed_of c.in-Ok.feed) c.fed_outcome.result
+    c.movements_at.ensures.contents c.in-Ok.ensures.gives c.fed_outcome.ensures.stops
+
+pub returns-in-Err-clause-stops : goal.returns-in-Err-clause-stops
+returns-in-Err-clause-stops g c = c.in-Err.ensures.stops (runs (options_in c.args.options) true)

@@ -1,0 +1,93 @@
+// The command `run`.
+ghost use Rattle.std.specs.Prelude.{◌≡◌, IfErr, IfOk, OnOk};
+ghost use Rattle.command_course.specs.Feeds.{IsFed, feed_of};
+ghost use Rattle.command_course.specs.Steps.{HasReadCause, IsWant, StopsOf};
+ghost use Rattle.command_line.specs.Views.{AreInRange, options_in};
+ghost use Rattle.flux_outside.specs.Outside.{StopsAtWant};
+ghost use Rattle.run_command.specs.Courses.{run_course, run_of, runs};
+ghost use Rattle.run_command.specs.Endings.{CameToRun, HasEnded, ending_of};
+
+use crate::ending::run_end;
+use crate::outcome::Outcome;
+use crate::script_file::script_at;
+use command_course::{Feed, Stop, feed_at};
+use command_line::RunOptions;
+use drained_run::Gate;
+use failure_script::Script;
+use flux_outside::Files;
+use std::alloc::Global;
+use std::thread::Threads;
+
+/// What `run` comes to: a plan is run by pairs on threads for its inputs, under the failure script.
+#[tactic(auto, using(crate::proofs::Ways::wants_on))]
+pub fn run_outcome<'a, R: Threads + Sync, F: Files, G: Gate>(
+    rt: &R,
+    alloc: Global,
+    files: &mut F,
+    plan: &str,
+    trades: &str,
+    options: RunOptions<'a>,
+    gate: &G,
+) -> Result<Outcome<'a>, Stop>
+    requires { AreInRange options }
+    ensures comes { IfOk result (λ outcome. CameToRun (F.contents files.old) (F.calls files.old) (F.calls files.new) (run_course plan.now trades.now (options_in options.entry)) outcome) }
+    ensures stops { IfErr result (λ stop. StopsOf (F.contents files.old) (F.calls files.old) (F.calls files.new) (run_course plan.now trades.now (options_in options.entry)) stop) }
+    ensures cause { IfErr result (λ stop. HasReadCause (F.read_faults files.old) (F.read_faults files.new) stop) }
+    ensures still { OnOk result (F.read_faults files.new ≡ F.read_faults files.old) }
+    ensures wants { StopsAtWant (F.wants files.old) (F.wants files.new) (IsWant result) }
+    ensures contents { F.contents files.new ≡ F.contents files.old }
+    ensures saves { F.save_faults files.new ≡ F.save_faults files.old }
+{
+    match feed_at(alloc, files, plan, trades, options.cash) {
+        Ok(feed) => fed_outcome(rt, alloc, files, &feed, options, false, gate),
+        Err(stop) => Err(stop),
+    }
+}
+
+/// What a run comes to, once all inputs but the script were read.
+#[tactic(auto, using(crate::proofs::Ways::wants_on))]
+pub(crate) fn fed_outcome<'a, R: Threads + Sync, F: Files, G: Gate>(
+    rt: &R,
+    alloc: Global,
+    files: &mut F,
+    feed: &Feed,
+    options: RunOptions<'a>,
+    is_summary: bool,
+    gate: &G,
+) -> Result<Outcome<'a>, Stop>
+    requires range { AreInRange options }
+    requires fed { IsFed feed.now }
+    ensures comes { IfOk result (λ outcome. CameToRun (F.contents files.old) (F.calls files.old) (F.calls files.new) (runs (options_in options.entry) is_summary (feed_of feed.now)) outcome) }
+    ensures stops { IfErr result (λ stop. StopsOf (F.contents files.old) (F.calls files.old) (F.calls files.new) (runs (options_in options.entry) is_summary (feed_of feed.now)) stop) }
+    ensures cause { IfErr result (λ stop. HasReadCause (F.read_faults files.old) (F.read_faults files.new) stop) }
+    ensures still { OnOk result (F.read_faults files.new ≡ F.read_faults files.old) }
+    ensures wants { StopsAtWant (F.wants files.old) (F.wants files.new) (IsWant result) }
+    ensures contents { F.contents files.new ≡ F.contents files.old }
+    ensures saves { F.save_faults files.new ≡ F.save_faults files.old }
+{
+    match script_at(alloc, files, &feed.plan, options.script) {
+        Ok(script) => ended(rt, alloc, feed, &script, options, is_summary, gate),
+        Err(stop) => Err(stop),
+    }
+}
+
+// The end of a run, where want of memory is why the command stops.
+fn ended<'a, R: Threads + Sync, G: Gate>(
+    rt: &R,
+    alloc: Global,
+    feed: &Feed,
+    script: &Script,
+    options: RunOptions<'a>,
+    is_summary: bool,
+    gate: &G,
+) -> Result<Outcome<'a>, Stop>
+    requires range { AreInRange options }
+    requires fed { IsFed feed.now }
+    ensures ended { IfOk result (λ outcome. HasEnded (run_of (options_in options.entry) is_summary (feed_of feed.now) script.now) outcome.drained (ending_of outcome)) }
+    ensures want { IfErr result (λ stop. stop ≡ Stop.OutOfMemory) }
+{
+    match run_end(rt, alloc, feed, script, options, is_summary, gate) {
+        Ok(outcome) => Ok(outcome),
+        Err(_) => Err(Stop::OutOfMemory),
+    }
+}

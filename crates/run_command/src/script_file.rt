@@ -1,0 +1,80 @@
+// The file of a failure script.
+ghost use Rattle.std.specs.Prelude.{◌≡◌, ◌≢◌, IfErr, IfOk, OnOk, option_map};
+ghost use Rattle.failure_script.specs.Messages.{script_fault};
+ghost use Rattle.command_course.specs.Lines.{line_of};
+ghost use Rattle.command_course.specs.Steps.{GivesBy, HasReadCause, IsRefusedBy, IsWant, StopsBy};
+ghost use Rattle.flux_outside.specs.Outside.{StopsAtWant};
+ghost use Rattle.run_command.specs.Scripts.{script_from, with_script};
+
+use command_course::{Input, Stop, input_at};
+use failure_script::{MAX_SCRIPT_BYTES, Script, ScriptError, read_script};
+use flux_outside::Files;
+use plan_reader::Plan;
+use std::alloc::Global;
+
+// A file with the failure script for a plan.
+#[derive(Drop)]
+struct ScriptFile<'a> {
+    plan: &'a Plan,
+}
+
+impl<'a> Input for ScriptFile<'a> {
+    type Value = Script;
+
+    ghost most = { λ _. 65536 };
+
+    ghost reading = { λ file. script_from file.plan.now };
+
+    ghost keeps = { λ _ _. Unit {0} };
+
+    fn most(&self) -> u64 {
+        MAX_SCRIPT_BYTES
+    }
+
+    #[tactic(auto, using(crate::proofs::ScriptFaults::script_refused))]
+    fn value(&self, alloc: Global, name: &str, bytes: &[u8]) -> Result<Script, Stop> {
+        match read_script(alloc, bytes, self.plan) {
+            Ok(script) => Ok(script),
+            Err(error) => Err(refused_script(alloc, name, error)),
+        }
+    }
+
+    #[tactic(auto, using(crate::proofs::ScriptFaults::long_script))]
+    fn too_long(&self, alloc: Global, name: &str, seen: u64) -> Stop {
+        refused_script(alloc, name, ScriptError::TooLong { bytes: seen })
+    }
+}
+
+// The line by which a script is refused.
+fn refused_script(alloc: Global, name: &str, error: ScriptError) -> Stop
+    ensures { IsRefusedBy result (line_of name.now (script_fault error)) (error ≢ ScriptError.OutOfMemory) }
+{
+    if error == ScriptError::OutOfMemory {
+        return Stop::OutOfMemory;
+    }
+    match format!(in alloc; "flux: {name}: {error}\n") {
+        Ok(line) => Stop::Refused { line },
+        Err(_) => Stop::OutOfMemory,
+    }
+}
+
+/// Reads the failure script for a plan, where a file of it is named; else there are no orders.
+pub(crate) fn script_at<F: Files>(
+    alloc: Global,
+    files: &mut F,
+    plan: &Plan,
+    script: Option<&str>,
+) -> Result<Script, Stop>
+    ensures gives { IfOk result (λ orders. GivesBy (F.contents files.old) (F.calls files.old) (F.calls files.new) (with_script (option_map (λ name. name.now) script.entry) plan.now) orders) }
+    ensures stops { IfErr result (λ stop. StopsBy (F.contents files.old) (F.calls files.old) (F.calls files.new) (with_script (option_map (λ name. name.now) script.entry) plan.now) stop) }
+    ensures cause { IfErr result (λ stop. HasReadCause (F.read_faults files.old) (F.read_faults files.new) stop) }
+    ensures still { OnOk result (F.read_faults files.new ≡ F.read_faults files.old) }
+    ensures wants { StopsAtWant (F.wants files.old) (F.wants files.new) (IsWant result) }
+    ensures contents { F.contents files.new ≡ F.contents files.old }
+    ensures saves { F.save_faults files.new ≡ F.save_faults files.old }
+{
+    match script {
+        None => Ok(Script::empty(alloc)),
+        Some(name) => input_at(alloc, files, name, &ScriptFile { plan }),
+    }
+}
