@@ -2,7 +2,9 @@
 //! the status that `flux` answers.
 #![tactic(auto)]
 
-use flux_top::{StdFiles, StdSink, flux};
+use drained_run::FreeGate;
+use flux_outside::{StdFiles, StdSink};
+use flux_top::flux;
 use std::alloc::{AllocError, Global};
 use std::env;
 use std::io::{self, ErrorKind};
@@ -20,7 +22,9 @@ fn main(rt: HostRuntime) -> ExitCode {
     let mut files = StdFiles::new(&rt, alloc);
     let mut out = StdSink::new(rt.stdout());
     let mut err = StdSink::new(rt.stderr());
-    ExitCode::from(flux(alloc, &words, &mut files, &mut out, &mut err))
+    ExitCode::from(flux(
+        &rt, alloc, &words, &mut files, &mut out, &mut err, &FreeGate,
+    ))
 }
 
 // The words after the program's name. Words that are no text have no form, so they count as none.

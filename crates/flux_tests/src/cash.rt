@@ -85,7 +85,7 @@ const CASES: [Case; 9] = [
 fn movements_come_between_the_trades(rt: HostRuntime) -> Result<(), Fail> {
     let alloc = rt.alloc();
     for (plan, trades, cash, rows) in CASES {
-        let seen = call_with_cash(alloc, EVAL, plan, trades, cash.as_bytes())?;
+        let seen = call_with_cash(&rt, rt.alloc(), EVAL, plan, trades, cash.as_bytes())?;
         let want = format!(in alloc; "time,account,symbol,qty,value\n{rows}")?;
         assert_eq!(rt; seen.status, 0, "{plan}{cash}");
         assert_eq!(rt; seen.out.taken(), want.as_bytes(), "{plan}{cash}");
@@ -129,7 +129,7 @@ fn the_option_stands_anywhere_and_once(rt: HostRuntime) -> Result<(), Fail> {
         ("eval p.txt t.csv -- --cash c.csv", None),
     ];
     for (line, rows) in lines {
-        let seen = call_with_cash(alloc, line, TOTAL, TRADES, CASH.as_bytes())?;
+        let seen = call_with_cash(&rt, rt.alloc(), line, TOTAL, TRADES, CASH.as_bytes())?;
         match rows {
             Some(rows) => {
                 let want = format!(in alloc; "time,account,symbol,qty,value\n{rows}")?;
@@ -188,7 +188,7 @@ fn refuses_the_first_faulty_input(rt: HostRuntime) -> Result<(), Fail> {
         ),
     ];
     for (plan, trades, cash, status, said) in cases {
-        let seen = call_with_cash(alloc, EVAL, plan, trades, cash.as_bytes())?;
+        let seen = call_with_cash(&rt, rt.alloc(), EVAL, plan, trades, cash.as_bytes())?;
         assert_eq!(rt; seen.status, status, "{said}");
         assert_eq!(rt; seen.out.taken(), b"".as_slice(), "{said}");
         assert_eq!(rt; seen.err.taken(), said.as_bytes(), "{said}");
@@ -223,7 +223,7 @@ fn refuses_the_first_faulty_input(rt: HostRuntime) -> Result<(), Fail> {
     for (record, fault) in records {
         let cash = format!(in alloc; "{header}{record}\n")?;
         let said = format!(in alloc; "flux: c.csv: {fault}\n")?;
-        let seen = call_with_cash(alloc, EVAL, TOTAL, TRADES, cash.as_bytes())?;
+        let seen = call_with_cash(&rt, rt.alloc(), EVAL, TOTAL, TRADES, cash.as_bytes())?;
         assert_eq!(rt; seen.status, 3, "{record}");
         assert_eq!(rt; seen.out.taken(), b"".as_slice(), "{record}");
         assert_eq!(rt; seen.err.taken(), said.as_bytes(), "{record}");
@@ -234,7 +234,6 @@ fn refuses_the_first_faulty_input(rt: HostRuntime) -> Result<(), Fail> {
 // A file that isn't there: its name is said, in the order of the inputs.
 #[test]
 fn names_the_file_that_is_not_there(rt: HostRuntime) -> Result<(), Fail> {
-    let alloc = rt.alloc();
     let cases = [
         (
             "eval p.txt t.csv --cash no.csv",
@@ -253,12 +252,13 @@ fn names_the_file_that_is_not_there(rt: HostRuntime) -> Result<(), Fail> {
         ),
     ];
     for (line, plan, said) in cases {
-        let seen = call_with_cash(alloc, line, plan, TRADES, CASH.as_bytes())?;
+        let seen = call_with_cash(&rt, rt.alloc(), line, plan, TRADES, CASH.as_bytes())?;
         assert_eq!(rt; seen.status, 4, "{line}");
         assert_eq!(rt; seen.err.taken(), said.as_bytes(), "{line}");
     }
     let seen = call_with_cash(
-        alloc,
+        &rt,
+        rt.alloc(),
         "eval p.txt no.csv --cash gone.csv",
         TOTAL_OF_TRADES,
         TRADES,

@@ -1,6 +1,6 @@
 // What `flux` answers to wrong words, faulty inputs and an outside that fails.
 use crate::fixture::{call, call_into};
-use flux_top::MemSink;
+use flux_outside::MemSink;
 use std::test::Fail;
 
 const EVAL: &str = "eval p.txt t.csv";
@@ -14,7 +14,6 @@ const USAGE: &str =
 
 #[test]
 fn gives_each_fault_its_status_and_line(rt: HostRuntime) -> Result<(), Fail> {
-    let alloc = rt.alloc();
     let row_of_five = "time,account,symbol,side,qty,price\n34200,7,A,B,1\n";
     let two_marks = "\u{feff}\u{feff}time,account,symbol,side,qty,price\n";
     let cases = [
@@ -74,7 +73,7 @@ fn gives_each_fault_its_status_and_line(rt: HostRuntime) -> Result<(), Fail> {
         (EVAL, "flux 1\n", "", 3, "flux: p.txt: no stage\n"),
     ];
     for (line, plan, trades, status, said) in cases {
-        let seen = call(alloc, line, plan, trades.as_bytes(), &[])?;
+        let seen = call(&rt, rt.alloc(), line, plan, trades.as_bytes(), &[])?;
         assert_eq!(rt; seen.status, status, "{line} {plan}");
         assert_eq!(rt; seen.out.taken(), b"".as_slice(), "{line} {plan}");
         assert_eq!(rt; seen.err.taken(), said.as_bytes(), "{line} {plan}");
@@ -84,12 +83,11 @@ fn gives_each_fault_its_status_and_line(rt: HostRuntime) -> Result<(), Fail> {
 
 #[test]
 fn tells_files_that_fail(rt: HostRuntime) -> Result<(), Fail> {
-    let alloc = rt.alloc();
     for (fails, said) in [
         ([1], "flux: p.txt: cannot read\n"),
         ([2], "flux: t.csv: cannot read\n"),
     ] {
-        let seen = call(alloc, EVAL, TOTAL, HEADER.as_bytes(), &fails)?;
+        let seen = call(&rt, rt.alloc(), EVAL, TOTAL, HEADER.as_bytes(), &fails)?;
         assert_eq!(rt; seen.status, 4);
         assert_eq!(rt; seen.out.taken(), b"".as_slice());
         assert_eq!(rt; seen.err.taken(), said.as_bytes());
@@ -116,7 +114,7 @@ fn stops_where_a_sink_stops(rt: HostRuntime) -> Result<(), Fail> {
         fails.push(fail)?;
         let out = MemSink::new(alloc, fails, most, 1_000)?;
         let err = MemSink::new(alloc, Vec::new(alloc), usize::MAX, 1_000)?;
-        let seen = call_into(alloc, EVAL, TOTAL, trades, &[], out, err)?;
+        let seen = call_into(&rt, rt.alloc(), EVAL, TOTAL, trades, &[], out, err)?;
         assert_eq!(rt; seen.status, status, "{most}");
         assert_eq!(rt; seen.out.taken(), taken, "{most}");
         assert_eq!(rt; seen.err.taken(), said, "{most}");
@@ -127,7 +125,7 @@ fn stops_where_a_sink_stops(rt: HostRuntime) -> Result<(), Fail> {
     fails.push(1)?;
     let out = MemSink::new(alloc, Vec::new(alloc), usize::MAX, 1_000)?;
     let err = MemSink::new(alloc, fails, usize::MAX, 1_000)?;
-    let seen = call_into(alloc, EVAL, TOTAL, b"", &[], out, err)?;
+    let seen = call_into(&rt, rt.alloc(), EVAL, TOTAL, b"", &[], out, err)?;
     assert_eq!(rt; seen.status, 3);
     assert_eq!(rt; seen.err.taken(), b"".as_slice());
     Ok(())

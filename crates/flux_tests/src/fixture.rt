@@ -1,7 +1,10 @@
 // A call of `flux` over files in memory.
-use flux_top::{MemFiles, MemSink, flux};
+use drained_run::FreeGate;
+use flux_outside::{MemFiles, MemSink};
+use flux_top::flux;
 use std::alloc::Global;
 use std::test::Fail;
+use std::thread::Threads;
 
 /// What a call came to: the status, what was written and what was said.
 #[derive(Drop)]
@@ -12,7 +15,8 @@ pub(crate) struct Seen {
 }
 
 /// Calls `flux` with the words of a line over the files `p.txt`, `t.csv` and `c.csv`.
-pub(crate) fn call_with_cash(
+pub(crate) fn call_with_cash<R: Threads + Sync>(
+    rt: &R,
     alloc: Global,
     line: &str,
     plan: &str,
@@ -25,7 +29,8 @@ pub(crate) fn call_with_cash(
     files.put_file("c.csv", cash)?;
     let mut out = MemSink::new(alloc, Vec::new(alloc), usize::MAX, 10_000)?;
     let mut err = MemSink::new(alloc, Vec::new(alloc), usize::MAX, 1_000)?;
-    let status = flux(alloc, &words(alloc, line)?, &mut files, &mut out, &mut err);
+    let words = words(alloc, line)?;
+    let status = flux(rt, alloc, &words, &mut files, &mut out, &mut err, &FreeGate);
     Ok(Seen { status, out, err })
 }
 
@@ -41,7 +46,8 @@ fn words(alloc: Global, line: &str) -> Result<Vec<String>, Fail> {
 
 /// Calls `flux` with the words of a line over the files `p.txt` and `t.csv`. The calls of files whose
 /// numbers are in `fails` fail.
-pub(crate) fn call(
+pub(crate) fn call<R: Threads + Sync>(
+    rt: &R,
     alloc: Global,
     line: &str,
     plan: &str,
@@ -50,11 +56,12 @@ pub(crate) fn call(
 ) -> Result<Seen, Fail> {
     let out = MemSink::new(alloc, Vec::new(alloc), usize::MAX, 10_000)?;
     let err = MemSink::new(alloc, Vec::new(alloc), usize::MAX, 1_000)?;
-    call_into(alloc, line, plan, trades, fails, out, err)
+    call_into(rt, alloc, line, plan, trades, fails, out, err)
 }
 
 /// The same into sinks that are handed in.
-pub(crate) fn call_into(
+pub(crate) fn call_into<R: Threads + Sync>(
+    rt: &R,
     alloc: Global,
     line: &str,
     plan: &str,
@@ -66,6 +73,7 @@ pub(crate) fn call_into(
     let mut files = MemFiles::new(alloc, fails.to_vec(alloc)?);
     files.put_file("p.txt", plan.as_bytes())?;
     files.put_file("t.csv", trades)?;
-    let status = flux(alloc, &words(alloc, line)?, &mut files, &mut out, &mut err);
+    let words = words(alloc, line)?;
+    let status = flux(rt, alloc, &words, &mut files, &mut out, &mut err, &FreeGate);
     Ok(Seen { status, out, err })
 }

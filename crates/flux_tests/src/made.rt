@@ -1,6 +1,6 @@
 // What `flux make` writes: texts of a program of another language.
 use crate::fixture::{call, call_into};
-use flux_top::MemSink;
+use flux_outside::MemSink;
 use std::test::Fail;
 
 const HEADER: &str = "time,account,symbol,side,qty,price\n";
@@ -23,7 +23,7 @@ fn make_writes_the_defined_trades(rt: HostRuntime) -> Result<(), Fail> {
     let alloc = rt.alloc();
     for (line, trades) in LINES {
         // Every call of files fails, so none is asked for.
-        let seen = call(alloc, line, "", b"", &[1, 2])?;
+        let seen = call(&rt, rt.alloc(), line, "", b"", &[1, 2])?;
         let want = format!(in alloc; "{HEADER}{trades}")?;
         assert_eq!(rt; seen.status, 0, "{line}");
         assert_eq!(rt; seen.out.taken(), want.as_bytes(), "{line}");
@@ -35,10 +35,16 @@ fn make_writes_the_defined_trades(rt: HostRuntime) -> Result<(), Fail> {
 // What was made is read by `eval`.
 #[test]
 fn made_trades_are_read(rt: HostRuntime) -> Result<(), Fail> {
-    let alloc = rt.alloc();
-    let made = call(alloc, "make 1 1", "", b"", &[])?;
+    let made = call(&rt, rt.alloc(), "make 1 1", "", b"", &[])?;
     let plan = "flux 1\nstage 1 parts 1 by account total account\n";
-    let seen = call(alloc, "eval p.txt t.csv", plan, made.out.taken(), &[])?;
+    let seen = call(
+        &rt,
+        rt.alloc(),
+        "eval p.txt t.csv",
+        plan,
+        made.out.taken(),
+        &[],
+    )?;
     assert_eq!(rt; seen.status, 0);
     assert_eq!(rt;
         seen.out.taken(),
@@ -52,7 +58,7 @@ fn make_stops_where_its_sink_stops(rt: HostRuntime) -> Result<(), Fail> {
     let alloc = rt.alloc();
     let out = MemSink::new(alloc, Vec::new(alloc), 30, 40)?;
     let err = MemSink::new(alloc, Vec::new(alloc), usize::MAX, 1_000)?;
-    let seen = call_into(alloc, "make 1 1", "", b"", &[], out, err)?;
+    let seen = call_into(&rt, rt.alloc(), "make 1 1", "", b"", &[], out, err)?;
     assert_eq!(rt; seen.status, 5);
     assert_eq!(rt;
         seen.out.taken(),

@@ -1,6 +1,6 @@
 // Want of memory: what `flux` answers where an allocation fails.
 use crate::fixture::{call, call_into};
-use flux_top::MemSink;
+use flux_outside::MemSink;
 use std::test::Fail;
 
 const EVAL: &str = "eval p.txt t.csv";
@@ -18,8 +18,8 @@ fn ends_as_usual_or_for_want_of_memory(rt: HostRuntime) -> Result<(), Fail> {
         b"time,account,symbol,qty,value\n34200,7,-,1,100\n34200,8,-,-2,-300\n34260,7,-,2,200\nrows,3\n";
     let out = MemSink::new(alloc, Vec::new(alloc), 7, 1_000)?;
     let err = MemSink::new(alloc, Vec::new(alloc), usize::MAX, 1_000)?;
-    let seen = call_into(alloc, EVAL, plan, trades, &[], out, err)?;
-    let refused = call(alloc, EVAL, "flux 1\n", trades, &[])?;
+    let seen = call_into(&rt, rt.alloc(), EVAL, plan, trades, &[], out, err)?;
+    let refused = call(&rt, rt.alloc(), EVAL, "flux 1\n", trades, &[])?;
     let memory = b"flux: out of memory\n".as_slice();
     if seen.status == 8 {
         assert!(rt; text.starts_with(seen.out.taken()));

@@ -99,7 +99,14 @@ fn writes_the_rows_of_the_plan(rt: HostRuntime) -> Result<(), Fail> {
     let alloc = rt.alloc();
     for (plan, trades, rows) in CASES {
         let trades = format!(in alloc; "time,account,symbol,side,qty,price\n{trades}")?;
-        let seen = call(alloc, "eval p.txt t.csv", plan, trades.as_bytes(), &[])?;
+        let seen = call(
+            &rt,
+            rt.alloc(),
+            "eval p.txt t.csv",
+            plan,
+            trades.as_bytes(),
+            &[],
+        )?;
         let want = format!(in alloc; "time,account,symbol,qty,value\n{rows}")?;
         assert_eq!(rt; seen.status, 0, "{plan}");
         assert_eq!(rt; seen.out.taken(), want.as_bytes(), "{plan}");
@@ -111,12 +118,11 @@ fn writes_the_rows_of_the_plan(rt: HostRuntime) -> Result<(), Fail> {
 // A broker's file, with a mark at its front, CRLF, quotes and columns of its own, over three stages.
 #[test]
 fn takes_a_brokers_file(rt: HostRuntime) -> Result<(), Fail> {
-    let alloc = rt.alloc();
     let plan =
         "flux 1\nstage 1 parts 2 by symbol keep qty != 0\nstage 2 parts 2 by account window both 60\nstage 3 parts 1 by account total account\n";
     let trades =
         b"\xef\xbb\xbfAccount,Symbol,Side,Quantity,Price,Time,Venue\r\n7,\"AAPL\",BUY,100,101.5,09:30:00,XNAS\r\n7,AAPL,sell,40,102,09:30:20,XNAS\r\n8,MSFT,B,10,99,09:31:05,XNAS\r\n7,AAPL,B,50,101.25,09:31:10,XNYS\r\n";
-    let seen = call(alloc, "eval p.txt t.csv", plan, trades, &[])?;
+    let seen = call(&rt, rt.alloc(), "eval p.txt t.csv", plan, trades, &[])?;
     assert_eq!(rt; seen.status, 0);
     assert_eq!(rt;
         seen.out.taken(),

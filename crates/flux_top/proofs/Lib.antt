@@ -1,11 +1,4 @@
 pub mod Completeness
 pub mod Courses
-pub mod EvalSteps
-pub mod FileNames
-pub mod MergedInputs
-pub mod ReadLaws
-pub mod Refusals
+pub mod Endings
 pub mod Requests
-pub mod Sinks
-pub mod StageRows
-pub mod Taking

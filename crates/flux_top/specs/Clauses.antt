@@ -1,30 +1,70 @@
 -- What the clauses of `flux` and of its steps say.
-use Rattle.std.specs.Prelude.{ℕ, ◌≡◌, ◌⊎◌, List, Option, None, Some, IfSome}
+use Rattle.std.specs.Prelude.{ℕ, ◌≡◌, ◌⊎◌, ◌++◌, List, Option, None, Some, IfSome}
 use Rattle.std.specs.String.{string_bytes}
-use Rattle.flux_top.specs.Course.{Came, CameToRead, Course, Leads, Refuses, StoppedShort, Writes}
-use Rattle.flux_top.specs.Lines.{cannot_read_line}
-use Rattle.flux_top.specs.Outside.{Call, Names, OffersRests, Rose, Takes, TakesPart}
+use Rattle.pair_machine.specs.Drain.{partition}
+use Rattle.pair_machine.specs.Numbers.{Partition}
+use Rattle.command_course.specs.Course.{Came, CameToRead, Course, Leads, Refuses, StoppedShort}
+use Rattle.command_course.specs.Lines.{cannot_read_line}
+use Rattle.command_course.specs.declared.stop.Stop.{Stop}
+use Rattle.command_course.specs.declared.stop.Stop.TheVariants as stop
+use Rattle.flux_outside.specs.Outside.{Adds, Call, Names, OffersRests, Rose, Takes, TakesPart}
+use Rattle.run_command.specs.Endings.{Ending}
+use Rattle.flux_top.specs.Ends.{Ends, EndsOrLoses, Keeps, Loses, MayBeLost, saves_of}
+use Rattle.flux_top.specs.Lines.{lost_line}
 use Rattle.flux_top.specs.Outcome.{AsksFor, asked}
-use Rattle.flux_top.specs.declared.stop.Stop.{Stop}
-use Rattle.flux_top.specs.declared.stop.Stop.TheVariants as stop
 
 -- ---- of `flux`
 
 -- the statuses that there are
 abbrev pub IsStatus : ℕ → Type 0
-IsStatus status = (status ≡ 0) ⊎ (status ≡ 2) ⊎ (status ≡ 3) ⊎ (status ≡ 4) ⊎ (status ≡ 5) ⊎ (status ≡ 8)
+IsStatus status = (status ≡ 0) ⊎ (status ≡ 2) ⊎ (status ≡ 3) ⊎ (status ≡ 4) ⊎ (status ≡ 5) ⊎ (status ≡ 6) ⊎ (status ≡ 8)
+
+-- what files tell: what each name holds, and the calls
+abbrev pub FilesTell : Type 0
+FilesTell = Option Names × Option (List Call)
+
+-- what a sink tells: the bytes taken, and the pieces offered
+abbrev pub SinkTells : Type 0
+SinkTells = Option (List ℕ) × Option (List (List ℕ))
 
 -- a line was taken whole, or a proper prefix of it where the count of faults rose
 abbrev pub Tells : Option (List ℕ) → Option (List ℕ) → ℕ → ℕ → List ℕ → Type 0
 Tells old new before now line = Takes old new line ⊎ (TakesPart old new line × Rose before now)
 
--- what a sink tells: the bytes taken, and the pieces offered
-abbrev pub Told : Type 0
-Told = Option (List ℕ) × Option (List (List ℕ))
+-- The words' command came to its end: it read its inputs, and what they say leads there. Where it has a journal, the last call saved it.
+pub record Finishes (before after : FilesTell) (words : List (List ℕ)) (ends : Course → Ending → Type 0) (ending : Ending) : Type 0 where
+  pub there : Course
+  pub reads : List Call
+  pub comes : AsksFor words (λ course. Leads before.0 course reads there)
+  pub ends_so : ends there ending
+  pub added : Adds before.1 after.1 (reads ++ saves_of ending.saved)
+  pub keeps : Keeps before.0 after.0 ending.saved
 
--- the words' command came to its text by the calls that were added
-abbrev pub ComesToText : Option Names → Option (List Call) → Option (List Call) → List (List ℕ) → List ℕ → Type 0
-ComesToText told old new words text = AsksFor words (λ course. Came told old new course (Writes text))
+-- and its text was written whole, each put being given all that was left of it
+pub record WritesWhole (before after : FilesTell) (words : List (List ℕ)) (ends : Course → Ending → Type 0) (old new : SinkTells) : Type 0 where
+  pub ending : Ending
+  pub finishes : Finishes before after words ends ending
+  pub takes : Takes old.0 new.0 ending.text
+  pub offers : OffersRests old.1 new.1 ending.text
+
+-- or a proper prefix of it, in the same way, as the count of the sink's faults rose
+pub record WritesPart (before after : FilesTell) (words : List (List ℕ)) (old new : SinkTells) (faults now : ℕ) : Type 0 where
+  pub ending : Ending
+  pub finishes : Finishes before after words EndsOrLoses ending
+  pub takes : TakesPart old.0 new.0 ending.text
+  pub offers : OffersRests old.1 new.1 ending.text
+  pub rose : Rose faults now
+
+-- The words' command came to its end, but its journal was not saved, as the count of faults of saves rose; and nothing was written.
+pub record SavesNot (before after : FilesTell) (words : List (List ℕ)) (saves now : ℕ) : Type 0 where
+  pub ending : Ending
+  pub there : Course
+  pub reads : List Call
+  pub comes : AsksFor words (λ course. Leads before.0 course reads there)
+  pub ends_so : EndsOrLoses there ending
+  pub added : Adds before.1 after.1 (reads ++ saves_of ending.saved)
+  pub others : MayBeLost before.0 after.0 ending.saved
+  pub rose : Rose saves now
 
 -- the words' command came to a refusal by the calls that were added
 abbrev pub ComesToRefusal : Option Names → Option (List Call) → Option (List Call) → List (List ℕ) → List ℕ → Type 0
@@ -38,20 +78,6 @@ ComesToRead told old new words name = AsksFor words (λ course. CameToRead told 
 abbrev pub StopsShort : Option Names → Option (List Call) → Option (List Call) → List (List ℕ) → Type 0
 StopsShort told old new words = IfSome (asked words) (StoppedShort told old new)
 
--- the text of the words' command was written whole, each put being given all that was left of it
-pub record WritesWhole (told : Option Names) (before after : Option (List Call)) (words : List (List ℕ)) (old new : Told) : Type 0 where
-  pub text : List ℕ
-  pub comes : ComesToText told before after words text
-  pub takes : Takes old.0 new.0 text
-  pub offers : OffersRests old.1 new.1 text
-
--- a proper prefix of it was written, in the same way
-pub record WritesPart (told : Option Names) (before after : Option (List Call)) (words : List (List ℕ)) (old new : Told) : Type 0 where
-  pub text : List ℕ
-  pub comes : ComesToText told before after words text
-  pub takes : TakesPart old.0 new.0 text
-  pub offers : OffersRests old.1 new.1 text
-
 -- an input was refused, and its line said
 pub record SaysRefusal (told : Option Names) (before after : Option (List Call)) (words : List (List ℕ)) (old new : Option (List ℕ)) (faults now : ℕ) : Type 0 where
   pub line : List ℕ
@@ -64,14 +90,20 @@ pub record SaysUnread (told : Option Names) (before after : Option (List Call)) 
   pub comes : ComesToRead told before after words name
   pub tells : Tells old new faults now (cannot_read_line name)
 
+-- a pair was lost, what was emitted before was written whole, and the pair's name said
+pub record SaysLost (before after : FilesTell) (words : List (List ℕ)) (old new : SinkTells) (said says : Option (List ℕ)) (faults now : ℕ) : Type 0 where
+  pub pair : Partition
+  pub writes : WritesWhole before after words (Loses pair) old new
+  pub tells : Tells said says faults now (lost_line pair)
+
 -- calls lead the words' command to there, over files that tell what they hold
 abbrev pub LeadsTo : Names → List (List ℕ) → Course → Type 0
 LeadsTo named words there = AsksFor words (λ course. (calls : List Call) × Leads (Some named) course calls there)
 
--- the files tell what they hold, and of that the words come to a text
-abbrev pub Accepts : Option Names → List (List ℕ) → Type 0
-Accepts None words = ⊥
-Accepts (Some named) words = (text : List ℕ) × LeadsTo named words (Writes text)
+-- the files tell what they hold, and of that the words come to an end of this kind
+abbrev pub Accepts : Option Names → List (List ℕ) → (Course → Type 0) → Type 0
+Accepts None words kind = ⊥
+Accepts (Some named) words kind = (there : Course) × kind there × LeadsTo named words there
 
 -- the files tell what they hold, and of that the words come to a refusal
 abbrev pub Rejects : Option Names → List (List ℕ) → Type 0
@@ -86,26 +118,47 @@ pub record IsUnreadTo (told : Option Names) (old new : Option (List Call)) (word
   pub comes : ComesToRead told old new words name
   pub line_is : line ≡ cannot_read_line name
 
--- why the words' command stopped, and what was written of its text
-abbrev pub StopsTo : Option Names → Option (List Call) → Option (List Call) → List (List ℕ) → Told → Told → Stop → Type 0
-StopsTo told before after words old new stop.Usage = asked words ≡ None
-StopsTo told before after words old new (stop.Refused line) = ComesToRefusal told before after words (string_bytes line)
-StopsTo told before after words old new (stop.CannotRead line) = IsUnreadTo told before after words (string_bytes line)
-StopsTo told before after words old new stop.CannotWrite = WritesPart told before after words old new
-StopsTo told before after words old new stop.OutOfMemory = StopsShort told before after words
+-- what was written where a pair was lost, and the line that is to be said
+pub record IsLostTo (before after : FilesTell) (words : List (List ℕ)) (old new : SinkTells) (pair : Partition) (line : List ℕ) : Type 0 where
+  pub writes : WritesWhole before after words (Loses pair) old new
+  pub line_is : line ≡ lost_line pair
 
--- nothing changed before any stop but a write fault
+-- the faults of saves and of a sink, before and after
+pub record Faults : Type 0 where
+  pub saves_before : ℕ
+  pub saves_now : ℕ
+  pub puts_before : ℕ
+  pub puts_now : ℕ
+
+-- a text wasn't written whole, or a journal not saved
+abbrev pub WritesNot : FilesTell → FilesTell → List (List ℕ) → SinkTells → SinkTells → Faults → Type 0
+WritesNot before after words old new faults =
+    WritesPart before after words old new faults.puts_before faults.puts_now
+    ⊎ (SavesNot before after words faults.saves_before faults.saves_now × (new ≡ old))
+
+-- why the words' command stopped, and what was written of its text
+abbrev pub StopsTo : FilesTell → FilesTell → List (List ℕ) → SinkTells → SinkTells → Faults → Stop → Type 0
+StopsTo before after words old new faults stop.Usage = asked words ≡ None
+StopsTo before after words old new faults (stop.Refused line) = ComesToRefusal before.0 before.1 after.1 words (string_bytes line)
+StopsTo before after words old new faults (stop.CannotRead line) = IsUnreadTo before.0 before.1 after.1 words (string_bytes line)
+StopsTo before after words old new faults stop.CannotWrite = WritesNot before after words old new faults
+StopsTo before after words old new faults (stop.PairLost stage part line) = IsLostTo before after words old new (partition stage part) (string_bytes line)
+StopsTo before after words old new faults stop.OutOfMemory = StopsShort before.0 before.1 after.1 words
+
+-- nothing was written before any stop but a write fault and a lost pair
 abbrev pub IsQuiet : {A : Type 0} → A → A → Stop → Type 0
 IsQuiet old new stop.Usage = new ≡ old
 IsQuiet old new (stop.Refused line) = new ≡ old
 IsQuiet old new (stop.CannotRead line) = new ≡ old
 IsQuiet old new stop.CannotWrite = Unit {0}
+IsQuiet old new (stop.PairLost stage part line) = Unit {0}
 IsQuiet old new stop.OutOfMemory = new ≡ old
 
--- a read fails only where the count of read faults rose, and a write only where that of the sink did
-abbrev pub HasCause : ℕ → ℕ → ℕ → ℕ → Stop → Type 0
-HasCause reads_before reads_now before now stop.Usage = reads_now ≡ reads_before
-HasCause reads_before reads_now before now (stop.Refused line) = reads_now ≡ reads_before
-HasCause reads_before reads_now before now (stop.CannotRead line) = Rose reads_before reads_now
-HasCause reads_before reads_now before now stop.CannotWrite = (reads_now ≡ reads_before) × Rose before now
-HasCause reads_before reads_now before now stop.OutOfMemory = Unit {0}
+-- a read fails only where the count of read faults rose
+abbrev pub HasCause : ℕ → ℕ → Stop → Type 0
+HasCause before now stop.Usage = now ≡ before
+HasCause before now (stop.Refused line) = now ≡ before
+HasCause before now (stop.CannotRead line) = Rose before now
+HasCause before now stop.CannotWrite = now ≡ before
+HasCause before now (stop.PairLost stage part line) = now ≡ before
+HasCause before now stop.OutOfMemory = Unit {0}

@@ -1,8 +1,5 @@
 pub mod Clauses
-pub mod Course
+pub mod Ends
+pub mod Finish
 pub mod Lines
-pub mod Memory
 pub mod Outcome
-pub mod Outside
-pub mod StageRows
-pub mod Steps

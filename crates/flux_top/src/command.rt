@@ -1,44 +1,55 @@
 // The one call that does what the words of a command line ask for.
 ghost use Rattle.std.specs.Prelude.{◌≡◌, ◌≢◌, ◌⊎◌, IfErr, IfOk, OnOk, Err, None, map, string_bytes};
+ghost use Rattle.command_course.specs.Steps.{HasReadCause, IsWant, StopsFor};
+ghost use Rattle.command_course.specs.declared.stop.Stop.TheVariants.{OutOfMemory, Usage};
 ghost use Rattle.command_line.specs.Views.{IsInRange, request_of};
-ghost use Rattle.flux_top.specs.Clauses.{Accepts, HasCause, IsQuiet, IsStatus, Rejects, SaysRefusal, SaysUnread, StopsShort, StopsTo, Tells, WritesPart, WritesWhole};
-ghost use Rattle.flux_top.specs.Course.{Writes};
+ghost use Rattle.flux_outside.specs.Outside.{Rose, StopsAtWant};
+ghost use Rattle.flux_top.specs.Clauses.{Accepts, Faults, HasCause, IsQuiet, IsStatus, Rejects, SaysLost, SaysRefusal, SaysUnread, StopsShort, StopsTo, Tells, WritesNot, WritesWhole};
+ghost use Rattle.flux_top.specs.Ends.{Ends, IsAtEnd, LosesNone};
 ghost use Rattle.flux_top.specs.Lines.{cannot_write_line, memory_line, usage_line};
-ghost use Rattle.flux_top.specs.Outcome.{asked, course_of};
-ghost use Rattle.flux_top.specs.Outside.{Rose, StopsAtWant};
-ghost use Rattle.flux_top.specs.Steps.{CameFor, HasReadCause, IsWant, StopsFor};
-ghost use Rattle.flux_top.specs.declared.stop.Stop.TheVariants.{OutOfMemory, Usage};
+ghost use Rattle.flux_top.specs.Outcome.{EndedFor, asked, course_of};
+ghost use Rattle.tuple_edge.specs.declared.event.Drained.TheVariants as drained;
 
 use crate::eval::eval_text;
+use crate::finish::finish;
 use crate::make::made_text;
-use crate::stop::Stop;
-use crate::write::write_all;
-use crate::{Failed, Files, Sink};
+use command_course::Stop;
 use command_line::{Command, read_words};
+use drained_run::Gate;
+use flux_outside::{Failed, Files, Sink, write_all};
+use move_command::move_text;
+use replay_command::replay_text;
+use run_command::{Outcome, run_outcome, trial_outcome};
 use std::alloc::Global;
+use std::thread::Threads;
+use tuple_edge::Drained;
 
 /// Does what the words after the program's name ask for, and gives the status: 0 where it is done, 2 where
-/// the words have no form or their command isn't there, 3 where an input is refused, 4 where a file can't
-/// be read, 5 where `out` took not all, 8 where no memory was to be had. One line goes to `err` for each
-/// status but 0.
+/// the words have no form, 3 where an input is refused, 4 where a file can't
+/// be read, 5 where the journal can't be saved or `out` took not all, 6 where a pair was lost before all was
+/// emitted, 8 where no memory was to be had. One line goes to `err` for each status but 0. The gate is called
+/// at each turn of a run's workers; no call waits.
 ///
-/// The clauses of each status also say which calls of `files` were added, where they are told: at 0 and 5
-/// one read of each input, in order; at 3 those up to the input that is refused; at 4 those up to the one
-/// that could not be read, whose name is said; at 8 those of the inputs that were accepted, and one more
-/// at most; at 2 none.
-#[tactic(auto, using(crate::proofs::Completeness::accepted_unrefused, crate::proofs::Completeness::rejected_unwritten, crate::proofs::Completeness::rejected_without_part, crate::proofs::Completeness::accepted_asked, crate::proofs::Completeness::rejected_asked, crate::proofs::Courses::wants_for))]
-pub fn flux<F: Files, S: Sink, E: Sink>(
+/// The clauses of each status also say which calls of `files` were added, where they are told: at 0, 5 and 6
+/// one read of each input, in order, and then the save of a journal; at 3 those up to the input that is
+/// refused; at 4 those up to the one that could not be read, whose name is said; at 8 those of the inputs
+/// that were accepted, and one more at most; at 2 none.
+#[tactic(auto, using(crate::proofs::Completeness::accepted_unrefused, crate::proofs::Completeness::accepted_asked, crate::proofs::Completeness::rejected_asked, crate::proofs::Courses::wants_for))]
+pub fn flux<R: Threads + Sync, F: Files, S: Sink, E: Sink, G: Gate>(
+    rt: &R,
     alloc: Global,
     words: &[String],
     files: &mut F,
     out: &mut S,
     err: &mut E,
+    gate: &G,
 ) -> u8
-    // 0: the text of the command was written whole, and nothing is said.
-    ensures done { result ≡ 0 → WritesWhole (F.contents files.old) (F.calls files.old) (F.calls files.new) (map string_bytes words.now) (S.taken out.old, S.offered out.old) (S.taken out.new, S.offered out.new) }
+    // 0: the command is done. Its text was written whole; of a run, that is all of the plan's output, each row
+    // once and in order, and its journal a legal list of events that reaches it. Nothing is said.
+    ensures done { result ≡ 0 → WritesWhole (F.contents files.old, F.calls files.old) (F.contents files.new, F.calls files.new) (map string_bytes words.now) Ends (S.taken out.old, S.offered out.old) (S.taken out.new, S.offered out.new) }
     ensures silent { result ≡ 0 → err.new ≡ err.old }
 
-    // 2: the words ask for nothing: they have no form, or their command isn't there. Such words end with 2 or,
+    // 2: the words ask for nothing: they have no form. Such words end with 2 or,
     // for want of memory, with 8, and no file is asked for.
     ensures usage { result ≡ 2 → asked (map string_bytes words.now) ≡ None }
     ensures formless { asked (map string_bytes words.now) ≡ None → (result ≡ 2) ⊎ (result ≡ 8) }
@@ -53,10 +64,14 @@ pub fn flux<F: Files, S: Sink, E: Sink>(
     ensures unread { result ≡ 4 → SaysUnread (F.contents files.old) (F.calls files.old) (F.calls files.new) (map string_bytes words.now) (E.taken err.old) (E.taken err.new) (E.faults err.old) (E.faults err.new) }
     ensures unread_cause { result ≡ 4 → Rose (F.read_faults files.old) (F.read_faults files.new) }
 
-    // 5: a proper prefix of the text was written, only where the count of faults of `out` rose.
-    ensures unwritten { result ≡ 5 → WritesPart (F.contents files.old) (F.calls files.old) (F.calls files.new) (map string_bytes words.now) (S.taken out.old, S.offered out.old) (S.taken out.new, S.offered out.new) }
-    ensures unwritten_cause { result ≡ 5 → Rose (S.faults out.old) (S.faults out.new) }
+    // 5: a proper prefix of the text was written, only where the count of faults of `out` rose; or nothing,
+    // where the journal was not saved and the count of faults of saves rose.
+    ensures unwritten { result ≡ 5 → WritesNot (F.contents files.old, F.calls files.old) (F.contents files.new, F.calls files.new) (map string_bytes words.now) (S.taken out.old, S.offered out.old) (S.taken out.new, S.offered out.new) (record { saves_before = F.save_faults files.old; saves_now = F.save_faults files.new; puts_before = S.faults out.old; puts_now = S.faults out.new }) }
     ensures unwritten_line { result ≡ 5 → Tells (E.taken err.old) (E.taken err.new) (E.faults err.old) (E.faults err.new) cannot_write_line }
+
+    // 6: a pair was lost, under a script that isn't safe; the rows emitted before were written, and it is said
+    // which pair.
+    ensures lost { result ≡ 6 → SaysLost (F.contents files.old, F.calls files.old) (F.contents files.new, F.calls files.new) (map string_bytes words.now) (S.taken out.old, S.offered out.old) (S.taken out.new, S.offered out.new) (E.taken err.old) (E.taken err.new) (E.faults err.old) (E.faults err.new) }
 
     // 8: want of memory, after which no file is asked for. There is no other status.
     ensures short { result ≡ 8 → StopsShort (F.contents files.old) (F.calls files.old) (F.calls files.new) (map string_bytes words.now) }
@@ -64,17 +79,19 @@ pub fn flux<F: Files, S: Sink, E: Sink>(
     ensures wants { StopsAtWant (F.wants files.old) (F.wants files.new) (result ≡ 8) }
     ensures statuses { IsStatus result }
 
-    // It writes only at 0 and 5, and the count of read faults stays but at 4 and 8.
-    ensures quiet { result ≢ 0 → result ≢ 5 → out.new ≡ out.old }
+    // It writes only at 0, 5 and 6, and the count of read faults stays but at 4 and 8.
+    ensures quiet { result ≢ 0 → result ≢ 5 → result ≢ 6 → out.new ≡ out.old }
     ensures still { result ≢ 4 → result ≢ 8 → F.read_faults files.new ≡ F.read_faults files.old }
 
     // Where the files tell what they hold and no count rose, what they hold is accepted and done, or it is
-    // refused, unless no memory was to be had.
-    ensures complete { Accepts (F.contents files.old) (map string_bytes words.now) → (Rose (F.read_faults files.old) (F.read_faults files.new) → ⊥)
-        → (Rose (S.faults out.old) (S.faults out.new) → ⊥) → (result ≡ 0) ⊎ (result ≡ 8) }
+    // refused, unless no memory was to be had. Only a run under a script that isn't safe may lose a pair.
+    ensures complete { Accepts (F.contents files.old) (map string_bytes words.now) LosesNone → (Rose (F.read_faults files.old) (F.read_faults files.new) → ⊥)
+        → (Rose (F.save_faults files.old) (F.save_faults files.new) → ⊥) → (Rose (S.faults out.old) (S.faults out.new) → ⊥) → (result ≡ 0) ⊎ (result ≡ 8) }
+    ensures may_lose { Accepts (F.contents files.old) (map string_bytes words.now) IsAtEnd → (Rose (F.read_faults files.old) (F.read_faults files.new) → ⊥)
+        → (Rose (F.save_faults files.old) (F.save_faults files.new) → ⊥) → (Rose (S.faults out.old) (S.faults out.new) → ⊥) → (result ≡ 0) ⊎ (result ≡ 6) ⊎ (result ≡ 8) }
     ensures rejects { Rejects (F.contents files.old) (map string_bytes words.now) → (Rose (F.read_faults files.old) (F.read_faults files.new) → ⊥) → (result ≡ 3) ⊎ (result ≡ 8) }
 {
-    match run(alloc, words, files, out) {
+    match run(rt, alloc, words, files, out, gate) {
         Ok(()) => 0,
         Err(Stop::Usage) => {
             say(err, USAGE);
@@ -92,6 +109,10 @@ pub fn flux<F: Files, S: Sink, E: Sink>(
             say(err, "flux: cannot write\n");
             5
         }
+        Err(Stop::PairLost { line, .. }) => {
+            say(err, line.as_str());
+            6
+        }
         Err(Stop::OutOfMemory) => {
             say(err, "flux: out of memory\n");
             8
@@ -101,7 +122,7 @@ pub fn flux<F: Files, S: Sink, E: Sink>(
 
 /// What is said of words without a form.
 const USAGE: &str =
-    "flux: usage: eval PLAN TRADES [--cash C] | run PLAN TRADES [options] | replay PLAN TRADES EVENTS [--cash C] | make START COUNT | trial PLAN START COUNT [options]\n";
+    "flux: usage: eval PLAN TRADES [--cash C] | run PLAN TRADES [options] | replay PLAN TRADES EVENTS [--cash C] | make START COUNT | trial PLAN START COUNT [options] | move PLAN TRADES MOVES\n";
 
 // Says a line. A fault of the sink changes nothing.
 fn say<E: Sink>(err: &mut E, line: &str)
@@ -113,19 +134,21 @@ fn say<E: Sink>(err: &mut E, line: &str)
     }
 }
 
-// Runs the command of the words: all is read and computed before anything is written.
-#[tactic(auto, using(crate::proofs::Requests::comes_to, crate::proofs::Requests::short_at_once, crate::proofs::Courses::wants_for))]
-fn run<F: Files, S: Sink>(
+// Runs the command of the words: all is read and computed before anything is saved or written.
+#[tactic(auto, using(crate::proofs::Requests::short_at_once, crate::proofs::Courses::wants_for, crate::proofs::Courses::wants_on))]
+fn run<R: Threads + Sync, F: Files, S: Sink, G: Gate>(
+    rt: &R,
     alloc: Global,
     words: &[String],
     files: &mut F,
     out: &mut S,
+    gate: &G,
 ) -> Result<(), Stop>
-    ensures done { OnOk result (WritesWhole (F.contents files.old) (F.calls files.old) (F.calls files.new) (map string_bytes words.now) (S.taken out.old, S.offered out.old) (S.taken out.new, S.offered out.new)) }
+    ensures done { OnOk result (WritesWhole (F.contents files.old, F.calls files.old) (F.contents files.new, F.calls files.new) (map string_bytes words.now) Ends (S.taken out.old, S.offered out.old) (S.taken out.new, S.offered out.new)) }
     ensures usage { asked (map string_bytes words.now) ≡ None → (result ≡ Err Usage) ⊎ (result ≡ Err OutOfMemory) }
     ensures unasked { asked (map string_bytes words.now) ≡ None → files.new ≡ files.old }
-    ensures stops { IfErr result (λ stop. StopsTo (F.contents files.old) (F.calls files.old) (F.calls files.new) (map string_bytes words.now) (S.taken out.old, S.offered out.old) (S.taken out.new, S.offered out.new) stop) }
-    ensures cause { IfErr result (λ stop. HasCause (F.read_faults files.old) (F.read_faults files.new) (S.faults out.old) (S.faults out.new) stop) }
+    ensures stops { IfErr result (λ stop. StopsTo (F.contents files.old, F.calls files.old) (F.contents files.new, F.calls files.new) (map string_bytes words.now) (S.taken out.old, S.offered out.old) (S.taken out.new, S.offered out.new) (record { saves_before = F.save_faults files.old; saves_now = F.save_faults files.new; puts_before = S.faults out.old; puts_now = S.faults out.new }) stop) }
+    ensures cause { IfErr result (λ stop. HasCause (F.read_faults files.old) (F.read_faults files.new) stop) }
     ensures still { OnOk result (F.read_faults files.new ≡ F.read_faults files.old) }
     ensures wants { StopsAtWant (F.wants files.old) (F.wants files.new) (IsWant result) }
     ensures quiet { IfErr result (λ stop. IsQuiet out.old out.new stop) }
@@ -133,29 +156,81 @@ fn run<F: Files, S: Sink>(
     match read_words(alloc, words) {
         Err(_) => Err(Stop::OutOfMemory),
         Ok(None) => Err(Stop::Usage),
-        Ok(Some(command)) => match text_of(alloc, files, command) {
-            Ok(text) => match write_all(out, text.as_slice()) {
-                Ok(()) => Ok(()),
-                Err(Failed) => Err(Stop::CannotWrite),
-            },
+        Ok(Some(command)) => match outcome_of(rt, alloc, files, command, gate) {
+            Ok(outcome) => finish(alloc, files, out, &outcome),
             Err(stop) => Err(stop),
         },
     }
 }
 
-// The text that a command writes. Those that aren't there write none.
-fn text_of<F: Files>(alloc: Global, files: &mut F, command: Command<'_>) -> Result<Vec<u8>, Stop>
+// What a command comes to.
+#[tactic(auto, using(crate::proofs::Endings::text_ends))]
+fn outcome_of<'a, R: Threads + Sync, F: Files, G: Gate>(
+    rt: &R,
+    alloc: Global,
+    files: &mut F,
+    command: Command<'a>,
+    gate: &G,
+) -> Result<Outcome<'a>, Stop>
     requires { IsInRange command }
-    ensures comes { IfOk result (λ bytes. CameFor (F.contents files.old) (F.calls files.old) (F.calls files.new) (course_of (request_of command.entry)) (Writes bytes.items)) }
+    ensures comes { IfOk result (λ outcome. EndedFor (F.contents files.old) (F.calls files.old) (F.calls files.new) (course_of (request_of command.entry)) outcome) }
     ensures unasked { course_of (request_of command.entry) ≡ None → files.new ≡ files.old }
     ensures stops { IfErr result (λ stop. StopsFor (F.contents files.old) (F.calls files.old) (F.calls files.new) (course_of (request_of command.entry)) stop) }
     ensures cause { IfErr result (λ stop. HasReadCause (F.read_faults files.old) (F.read_faults files.new) stop) }
     ensures still { OnOk result (F.read_faults files.new ≡ F.read_faults files.old) }
     ensures wants { StopsAtWant (F.wants files.old) (F.wants files.new) (IsWant result) }
+    ensures contents { F.contents files.new ≡ F.contents files.old }
+    ensures saves { F.save_faults files.new ≡ F.save_faults files.old }
 {
     match command {
-        Command::Eval { plan, trades, cash } => eval_text(alloc, files, plan, trades, cash),
-        Command::Make { start, count } => made_text(alloc, start, count),
-        Command::Run { .. } | Command::Replay { .. } | Command::Trial { .. } => Err(Stop::Usage),
+        Command::Eval { plan, trades, cash } => match eval_text(alloc, files, plan, trades, cash) {
+            Ok(text) => Ok(alone(text)),
+            Err(stop) => Err(stop),
+        },
+        Command::Make { start, count } => match made_text(alloc, start, count) {
+            Ok(text) => Ok(alone(text)),
+            Err(stop) => Err(stop),
+        },
+        Command::Move {
+            plan,
+            trades,
+            moves,
+        } => match move_text(rt, alloc, files, plan, trades, moves) {
+            Ok(text) => Ok(alone(text)),
+            Err(stop) => Err(stop),
+        },
+        Command::Run {
+            plan,
+            trades,
+            options,
+        } => run_outcome(rt, alloc, files, plan, trades, options, gate),
+        Command::Trial {
+            plan,
+            start,
+            count,
+            options,
+        } => trial_outcome(rt, alloc, files, plan, start, count, options, gate),
+        Command::Replay {
+            plan,
+            trades,
+            events,
+            cash,
+        } => match replay_text(alloc, files, plan, trades, events, cash) {
+            Ok(text) => Ok(alone(text)),
+            Err(stop) => Err(stop),
+        },
+    }
+}
+
+// A text, beside which nothing is saved.
+fn alone<'a>(text: Vec<u8>) -> Outcome<'a>
+    ensures text { result.text ≡ text }
+    ensures journal { result.journal ≡ None }
+    ensures whole { result.drained ≡ drained.Whole }
+{
+    Outcome {
+        text,
+        journal: None,
+        drained: Drained::Whole,
     }
 }

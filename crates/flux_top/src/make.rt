@@ -3,7 +3,7 @@ ghost use Rattle.std.specs.Prelude.{◌≡◌, ◌≤◌, IfErr, IfOk};
 ghost use Rattle.trade_maker.specs.MadeText.{made_text};
 ghost use Rattle.command_line.specs.Forms.{max_count, max_start};
 
-use crate::stop::Stop;
+use command_course::Stop;
 use std::alloc::Global;
 use trade_maker::make_trades;
 

@@ -1,17 +1,21 @@
 use Rattle.std.proofs.Common.{option_map}
-use Rattle.flux_top.proofs.Courses.{err_on, ok_on}
-use Rattle.flux_top.specs.Outcome.{eval_plan}
+use Rattle.command_course.specs.Feeds.{feed_of}
+use Rattle.pair_machine.specs.Output.{output}
+use Rattle.trade_text.specs.Text.{text}
+use Rattle.flux_top.specs.Outcome.{eval_course, writes_output}
+use Rattle.flux_top.proofs.Courses.{err_short, ok_came}
 use Rattle.flux_top.proofs.eval.eval_text.Goals as goal
 
 pub returns-in-Ok-clause-comes : goal.returns-in-Ok-clause-comes
 returns-in-Ok-clause-comes g c =
-    ok_on (g.F.Files.contents c.args.files.now) (g.F.Files.contents c.input_at.new.files) (g.F.Files.calls c.args.files.now) (g.F.Files.calls c.input_at.new.files)
-    (g.F.Files.calls c.text_of_plan.new.files) _ _ c.text_of_plan.result c.input_at.ensures.contents (c.in-Ok.ensures.gives (eval_plan c.args.trades.now (option_map (λ name. name.now) c.args.cash))) c.text_of_plan.ensures.comes
+    let feed = feed_of c.in-Ok.feed in
+    ok_came (g.F.Files.contents c.args.files.now) (g.F.Files.calls c.args.files.now) (g.F.Files.calls c.feed_at.new.files) (eval_course c.args.plan.now c.args.trades.now (option_map (λ name. name.now) c.args.cash))
+    (text feed.symbols (output feed.plan feed.inputs)) c.written.result (c.in-Ok.ensures.gives writes_output) c.written.ensures.text
 
 pub returns-in-Ok-clause-stops : goal.returns-in-Ok-clause-stops
 returns-in-Ok-clause-stops g c =
-    err_on (g.F.Files.contents c.args.files.now) (g.F.Files.contents c.input_at.new.files) (g.F.Files.calls c.args.files.now) (g.F.Files.calls c.input_at.new.files)
-    (g.F.Files.calls c.text_of_plan.new.files) _ _ c.text_of_plan.result c.input_at.ensures.contents (c.in-Ok.ensures.gives (eval_plan c.args.trades.now (option_map (λ name. name.now) c.args.cash))) c.text_of_plan.ensures.stops
+    err_short (g.F.Files.contents c.args.files.now) (g.F.Files.calls c.args.files.now) (g.F.Files.calls c.feed_at.new.files) (eval_course c.args.plan.now c.args.trades.now (option_map (λ name. name.now) c.args.cash))
+    (writes_output (feed_of c.in-Ok.feed)) c.written.result (c.in-Ok.ensures.gives writes_output) c.written.ensures.want
 
 pub returns-in-Err-clause-stops : goal.returns-in-Err-clause-stops
-returns-in-Err-clause-stops g c = c.in-Err.ensures.stops (eval_plan c.args.trades.now (option_map (λ name. name.now) c.args.cash))
+returns-in-Err-clause-stops g c = c.in-Err.ensures.stops writes_output

@@ -1,0 +1,185 @@
+-- What words come to, of the end of the course that they ask for.
+use Rattle.std.proofs.Common.{ℕ, ◌≡◌, List, [], ◌++◌, refl, ap, sym, subst, append-nil, Option, Some, None, Ok, Err, ⊎_elim, inl, inr}
+use Rattle.std.specs.Prelude.{IfErr, IfOk, IfSome, OnOk, Result, Vec, option_and_then, option_map}
+use Rattle.std.specs.declared.alloc.Global.{Global}
+use Rattle.tuple_edge.specs.declared.event.Drained.{Drained}
+use Rattle.tuple_edge.specs.declared.event.Drained.TheVariants as drained
+use Rattle.pair_machine.specs.Drain.{partition}
+use Rattle.command_course.specs.Course.{Between, Came, Course, Run, Runs, StoppedShort, Writes}
+use Rattle.command_course.specs.Steps.{HasReadCause, StopsFor}
+use Rattle.command_course.specs.declared.stop.Stop.{Stop}
+use Rattle.command_course.specs.declared.stop.Stop.TheVariants as stop
+use Rattle.command_course.proofs.Courses.{adds_on}
+use Rattle.command_line.specs.Forms.{Request, form}
+use Rattle.flux_outside.specs.Outside.{Adds, Call, Names}
+use Rattle.run_command.specs.Endings.{CameToRun, Ending, HasEnded, ending_of}
+use Rattle.run_command.specs.declared.outcome.Outcome.{Outcome}
+use Rattle.flux_top.specs.Clauses.{Faults, Finishes, HasCause, IsQuiet, SavesNot, SinkTells, StopsShort, StopsTo, WritesWhole}
+use Rattle.flux_top.specs.Ends.{Ends, EndsBy, EndsOrLoses, Keeps, Loses, MayBeLost, saves_of}
+use Rattle.flux_top.specs.Finish.{IsFinished, IsFinishedInPart, IsNotSaved, IsSaved, StopsFinish}
+use Rattle.flux_top.specs.Outcome.{CameToEnd, EndedFor, asked, course_of}
+
+-- ---- how a course ended
+
+ends_or_loses : (how : Drained) (there : Course) (ending : Ending) → EndsBy how there ending → EndsOrLoses there ending
+ends_or_loses drained.Whole there ending ends = inl ends
+ends_or_loses (drained.Lost stage part) there ending ends = inr (partition stage part, ends)
+
+module _ (told mid new : Option Names) (before between after : Option (List Call)) (words : List (List ℕ)) (outcome : Outcome) (same : mid ≡ told) where
+  -- the calls that read, and the one that saves
+  finishes_of : (course : Option Course) → asked words ≡ course → EndedFor told before between course outcome → (ends : Course → Ending → Type 0)
+      → ((there : Course) → EndsBy outcome.drained there (ending_of outcome) → ends there (ending_of outcome))
+      → IsSaved (mid, between) (new, after) (ending_of outcome).saved → Finishes (told, before) (new, after) words ends (ending_of outcome)
+  finishes_of None is ended ends so saved = absurd ended
+  finishes_of (Some course) is ended ends so saved = record {
+    there = ended.there;
+    reads = ended.came.calls;
+    comes = record { course = course; is_asked = is; fact = ended.came.leads };
+    ends_so = so ended.there ended.ends;
+    added = adds_on before between after ended.came.calls (saves_of (ending_of outcome).saved) ended.came.added saved.added;
+    keeps = subst (λ names. Keeps names new (ending_of outcome).saved) same saved.keeps;
+  }
+
+  not_saved : (course : Option Course) → asked words ≡ course → EndedFor told before between course outcome → (faults now : ℕ)
+      → IsNotSaved (mid, between) (new, after) (ending_of outcome).saved faults now → SavesNot (told, before) (new, after) words faults now
+  not_saved None is ended faults now fails = absurd ended
+  not_saved (Some course) is ended faults now fails = record {
+    ending = ending_of outcome;
+    there = ended.there;
+    reads = ended.came.calls;
+    comes = record { course = course; is_asked = is; fact = ended.came.leads };
+    ends_so = ends_or_loses outcome.drained ended.there (ending_of outcome) ended.ends;
+    added = adds_on before between after ended.came.calls (saves_of (ending_of outcome).saved) ended.came.added fails.added;
+    others = subst (λ names. MayBeLost names new (ending_of outcome).saved) same fails.others;
+    rose = fails.rose;
+  }
+
+  short_at_save : (course : Option Course) → EndedFor told before between course outcome → Adds between after [] → IfSome course (StoppedShort told before after)
+  short_at_save None ended none = tt
+  short_at_save (Some course) ended none = Between ended.there (record {
+    calls = ended.came.calls;
+    leads = ended.came.leads;
+    added = subst (Adds before after) (append-nil ended.came.calls) (adds_on before between after ended.came.calls [] ended.came.added none);
+  })
+
+  -- ---- what was written
+
+  whole_of : (course : Option Course) → asked words ≡ course → EndedFor told before between course outcome → (old puts : SinkTells) → outcome.drained ≡ drained.Whole
+      → IsFinished (mid, between) (new, after) old puts (ending_of outcome) → WritesWhole (told, before) (new, after) words Ends old puts
+  whole_of course is ended old puts whole finished = record {
+    ending = ending_of outcome;
+    finishes = finishes_of course is ended Ends (λ there ends. subst (λ how. EndsBy how there (ending_of outcome)) whole ends) finished.saved;
+    takes = finished.put.takes;
+    offers = finished.put.offers;
+  }
+
+  stops_to : (course : Option Course) → asked words ≡ course → EndedFor told before between course outcome → (old puts : SinkTells) (faults : Faults) (why : Stop)
+      → StopsFinish (mid, between) (new, after) old puts faults outcome.drained (ending_of outcome) why → StopsTo (told, before) (new, after) words old puts faults why
+  stops_to course is ended old puts faults stop.Usage stops = absurd stops
+  stops_to course is ended old puts faults (stop.Refused line) stops = absurd stops
+  stops_to course is ended old puts faults (stop.CannotRead line) stops = absurd stops
+  stops_to course is ended old puts faults stop.CannotWrite stops = ⊎_elim
+      (λ part. inl (record {
+        ending = ending_of outcome;
+        finishes = finishes_of course is ended EndsOrLoses (λ there ends. ends_or_loses outcome.drained there (ending_of outcome) ends) part.saved;
+        takes = part.put.takes;
+        offers = part.put.offers;
+        rose = part.put.rose;
+      }))
+      (λ fails. inr (not_saved course is ended faults.saves_before faults.saves_now fails.0, fails.1)) stops
+  stops_to course is ended old puts faults (stop.PairLost stage part line) stops = record {
+    writes = record {
+      ending = ending_of outcome;
+      finishes = finishes_of course is ended (Loses (partition stage part)) (λ there ends. subst (λ how. EndsBy how there (ending_of outcome)) stops.0 ends) stops.2.saved;
+      takes = stops.2.put.takes;
+      offers = stops.2.put.offers;
+    };
+    line_is = stops.1;
+  }
+  stops_to course is ended old puts faults stop.OutOfMemory stops = subst (λ c. IfSome c (StoppedShort told before after)) (sym is) (short_at_save course ended stops)
+
+  -- ---- what the last steps of a command answered
+
+  pub finished_whole : (course : Option Course) (old puts : SinkTells) (result : Result (Unit {0}) Stop) → asked words ≡ course → EndedFor told before between course outcome
+      → OnOk result (outcome.drained ≡ drained.Whole) → OnOk result (IsFinished (mid, between) (new, after) old puts (ending_of outcome))
+      → OnOk result (WritesWhole (told, before) (new, after) words Ends old puts)
+  finished_whole course old puts (Ok x) is ended whole finished = whole_of course is ended old puts whole finished
+  finished_whole course old puts (Err why) is ended whole finished = tt
+
+  pub finished_stops : (course : Option Course) (old puts : SinkTells) (faults : Faults) (result : Result (Unit {0}) Stop) → asked words ≡ course → EndedFor told before between course outcome
+      → IfErr result (λ why. StopsFinish (mid, between) (new, after) old puts faults outcome.drained (ending_of outcome) why)
+      → IfErr result (λ why. StopsTo (told, before) (new, after) words old puts faults why)
+  finished_stops course old puts faults (Ok x) is ended stops = tt
+  finished_stops course old puts faults (Err why) is ended stops = stops_to course is ended old puts faults why stops
+
+  finish_cause : (old puts : SinkTells) (faults : Faults) (reads_before reads_now : ℕ) (why : Stop) → reads_now ≡ reads_before
+      → StopsFinish (mid, between) (new, after) old puts faults outcome.drained (ending_of outcome) why → HasCause reads_before reads_now why
+  finish_cause old puts faults reads_before reads_now stop.Usage still stops = absurd stops
+  finish_cause old puts faults reads_before reads_now (stop.Refused line) still stops = absurd stops
+  finish_cause old puts faults reads_before reads_now (stop.CannotRead line) still stops = absurd stops
+  finish_cause old puts faults reads_before reads_now stop.CannotWrite still stops = still
+  finish_cause old puts faults reads_before reads_now (stop.PairLost stage part line) still stops = still
+  finish_cause old puts faults reads_before reads_now stop.OutOfMemory still stops = tt
+
+  pub finished_cause : (old puts : SinkTells) (faults : Faults) (reads_before reads_now : ℕ) (result : Result (Unit {0}) Stop) → reads_now ≡ reads_before
+      → IfErr result (λ why. StopsFinish (mid, between) (new, after) old puts faults outcome.drained (ending_of outcome) why) → IfErr result (λ why. HasCause reads_before reads_now why)
+  finished_cause old puts faults reads_before reads_now (Ok x) still stops = tt
+  finished_cause old puts faults reads_before reads_now (Err why) still stops = finish_cause old puts faults reads_before reads_now why still stops
+
+-- ---- a command that stopped before its end
+
+-- the course that words ask for
+pub asked_of : (words : List (List ℕ)) (request : Request) → form words ≡ Some request → asked words ≡ course_of request
+asked_of words request is = ap (option_and_then course_of) is
+
+pub stopped_to : (told new : Option Names) (before after : Option (List Call)) (words : List (List ℕ)) (course : Option Course) (old : SinkTells) (faults : Faults) (why : Stop) → asked words ≡ course
+    → StopsFor told before after course why → StopsTo (told, before) (new, after) words old old faults why
+stopped_to told new before after words None old faults why is stops = subst (StopsTo (told, before) (new, after) words old old faults) (sym stops) is
+stopped_to told new before after words (Some course) old faults stop.Usage is stops = absurd stops
+stopped_to told new before after words (Some course) old faults (stop.Refused line) is stops = record { course = course; is_asked = is; fact = stops }
+stopped_to told new before after words (Some course) old faults (stop.CannotRead line) is stops =
+    record { name = stops.name; comes = record { course = course; is_asked = is; fact = stops.came }; line_is = stops.line_is }
+stopped_to told new before after words (Some course) old faults stop.CannotWrite is stops = absurd stops
+stopped_to told new before after words (Some course) old faults (stop.PairLost stage part line) is stops = absurd stops
+stopped_to told new before after words (Some course) old faults stop.OutOfMemory is stops = subst (λ c. IfSome c (StoppedShort told before after)) (sym is) stops
+
+pub stopped_cause : (before now : ℕ) (why : Stop) → HasReadCause before now why → HasCause before now why
+stopped_cause before now stop.Usage cause = cause
+stopped_cause before now (stop.Refused line) cause = cause
+stopped_cause before now (stop.CannotRead line) cause = cause
+stopped_cause before now stop.CannotWrite cause = absurd cause
+stopped_cause before now (stop.PairLost stage part line) cause = absurd cause
+stopped_cause before now stop.OutOfMemory cause = cause
+
+pub stopped_quiet : {A : Type 0} (out : A) (why : Stop) → IsQuiet out out why
+stopped_quiet out stop.Usage = refl
+stopped_quiet out (stop.Refused line) = refl
+stopped_quiet out (stop.CannotRead line) = refl
+stopped_quiet out stop.CannotWrite = tt
+stopped_quiet out (stop.PairLost stage part line) = tt
+stopped_quiet out stop.OutOfMemory = refl
+
+-- ---- what a command came to
+
+-- a text alone
+pub text_ends : (told : Option Names) (old new : Option (List Call)) (course : Course) (text : Vec ℕ Global) (outcome : Outcome) → outcome.text ≡ text → outcome.journal ≡ None
+    → outcome.drained ≡ drained.Whole → Came told old new course (Writes text.items) → CameToEnd told old new course outcome
+text_ends told old new course text outcome is none whole came = record {
+  there = Writes text.items;
+  came = came;
+  ends = subst (λ how. EndsBy how (Writes text.items) (ending_of outcome)) (sym whole) (ap (λ bytes. bytes.items) is, ap (option_map (λ journal. (journal.name.now, journal.bytes.items))) none);
+}
+
+run_ends_by : (run : Run) (how : Drained) (ending : Ending) → HasEnded run how ending → EndsBy how (Runs run) ending
+run_ends_by run drained.Whole ending ended = ended
+run_ends_by run (drained.Lost stage part) ending ended = ended
+
+-- a run
+pub ok_run_ends : (told : Option Names) (old new : Option (List Call)) (course : Course) (result : Result Outcome Stop) → IfOk result (λ outcome. CameToRun told old new course outcome)
+    → IfOk result (λ outcome. CameToEnd told old new course outcome)
+ok_run_ends told old new course (Ok outcome) comes = record {
+  there = Runs comes.run;
+  came = comes.came;
+  ends = run_ends_by comes.run outcome.drained (ending_of outcome) comes.ended;
+}
+ok_run_ends told old new course (Err why) comes = tt

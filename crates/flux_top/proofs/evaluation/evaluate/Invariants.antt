@@ -1,7 +1,0 @@
-use Rattle.std.proofs.Common.{suc}
-use Rattle.trade_text.specs.TradesView.{inputs_in}
-use Rattle.flux_top.specs.StageRows.{ComesTo}
-use Rattle.flux_top.proofs.evaluation.evaluate.Given as goal
-
-abbrev pub invariant-loop-stage : goal.invariant-loop-stage
-invariant-loop-stage l = ComesTo l.plan (inputs_in l.trades) (suc l.stage-index) l.rows.early.items l.rows.late.items

@@ -1,9 +1,0 @@
-use Rattle.std.proofs.Common.{◌≡◌, [], length}
-use Rattle.flux_top.specs.StageRows.{PartsTook}
-use Rattle.flux_top.proofs.evaluation.states.opened_states.Given as goal
-
-abbrev pub invariant-loop-part : goal.invariant-loop-part
-invariant-loop-part l = record {
-  parts : length l.states.items ≡ l._part;
-  took : PartsTook l.stage 0 l.states.items [];
-}

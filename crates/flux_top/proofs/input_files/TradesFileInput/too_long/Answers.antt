@@ -1,5 +1,0 @@
-use Rattle.flux_top.proofs.Refusals.{long_trades}
-use Rattle.flux_top.proofs.input_files.TradesFileInput.too_long.Goals as goal
-
-pub returns : goal.returns
-returns c = λ bytes long. long_trades c.args.name.now bytes c.args.seen c.refused_rows.result _ long c.refused_rows.ensures

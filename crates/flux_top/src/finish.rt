@@ -1,0 +1,94 @@
+// The last steps of a command: its journal is saved, and then its text is written.
+ghost use Rattle.std.specs.Prelude.{◌≡◌, IfErr, IfOk, OnErr, OnOk, string_bytes};
+ghost use Rattle.command_course.specs.Steps.{IsWant};
+ghost use Rattle.flux_outside.specs.Outside.{Rose, StopsAtWant};
+ghost use Rattle.flux_top.specs.Clauses.{IsQuiet};
+ghost use Rattle.flux_top.specs.Finish.{IsFinished, IsPut, IsPutInPart, IsSaved, Says, StopsFinish, StopsPut, StopsSave};
+ghost use Rattle.flux_top.specs.Lines.{lost_line};
+ghost use Rattle.pair_machine.specs.Drain.{partition};
+ghost use Rattle.run_command.specs.Endings.{ending_of};
+ghost use Rattle.tuple_edge.specs.declared.event.Drained.TheVariants as drained;
+
+use command_course::Stop;
+use flux_outside::{Failed, FileStop, Files, Sink, write_all};
+use run_command::Outcome;
+use std::alloc::Global;
+use tuple_edge::{Drained, OutOfMemory};
+
+/// Saves the journal, if there is one, and then writes the text. What is to be said of a lost pair is made first, so
+/// that nothing but the save can want memory.
+pub(crate) fn finish<F: Files, S: Sink>(
+    alloc: Global,
+    files: &mut F,
+    out: &mut S,
+    outcome: &Outcome<'_>,
+) -> Result<(), Stop>
+    ensures whole { OnOk result (outcome.now.drained ≡ drained.Whole) }
+    ensures finished { OnOk result (IsFinished (F.contents files.old, F.calls files.old) (F.contents files.new, F.calls files.new) (S.taken out.old, S.offered out.old) (S.taken out.new, S.offered out.new) (ending_of outcome.now)) }
+    ensures stops { IfErr result (λ stop. StopsFinish (F.contents files.old, F.calls files.old) (F.contents files.new, F.calls files.new) (S.taken out.old, S.offered out.old) (S.taken out.new, S.offered out.new) (record { saves_before = F.save_faults files.old; saves_now = F.save_faults files.new; puts_before = S.faults out.old; puts_now = S.faults out.new }) outcome.now.drained (ending_of outcome.now) stop) }
+    ensures still { F.read_faults files.new ≡ F.read_faults files.old }
+    ensures wants { StopsAtWant (F.wants files.old) (F.wants files.new) (IsWant result) }
+    ensures quiet { IfErr result (λ stop. IsQuiet out.old out.new stop) }
+{
+    match said_of(alloc, outcome.drained) {
+        Err(_) => Err(Stop::OutOfMemory),
+        Ok(lost) => match save(files, outcome) {
+            Ok(()) => written(out, outcome, lost),
+            Err(stop) => Err(stop),
+        },
+    }
+}
+
+// What is said of a lost pair.
+fn line_of_loss(alloc: Global, stage: u32, part: u32) -> Result<String, OutOfMemory>
+    ensures { IfOk result (λ line. string_bytes line ≡ lost_line (partition stage part)) }
+{
+    let line = format!(in alloc; "flux: pair {stage}.{part} is lost\n")?;
+    Ok(line)
+}
+
+// Why a command stops whose run lost a pair.
+fn said_of(alloc: Global, how: Drained) -> Result<Option<Stop>, OutOfMemory>
+    ensures { IfOk result (Says how) }
+{
+    match how {
+        Drained::Whole => Ok(None),
+        Drained::Lost { stage, part } => {
+            let line = line_of_loss(alloc, stage, part)?;
+            Ok(Some(Stop::PairLost { stage, part, line }))
+        }
+    }
+}
+
+// Saves the journal, if there is one.
+fn save<F: Files>(files: &mut F, outcome: &Outcome<'_>) -> Result<(), Stop>
+    ensures saved { OnOk result (IsSaved (F.contents files.old, F.calls files.old) (F.contents files.new, F.calls files.new) (ending_of outcome.now).saved) }
+    ensures stops { IfErr result (λ stop. StopsSave (F.contents files.old, F.calls files.old) (F.contents files.new, F.calls files.new) (ending_of outcome.now).saved (F.save_faults files.old) (F.save_faults files.new) stop) }
+    ensures still { F.read_faults files.new ≡ F.read_faults files.old }
+    ensures wants { StopsAtWant (F.wants files.old) (F.wants files.new) (IsWant result) }
+{
+    match &outcome.journal {
+        None => Ok(()),
+        Some(journal) => match files.save(journal.name, &journal.bytes) {
+            Ok(()) => Ok(()),
+            Err(FileStop::Failed) => Err(Stop::CannotWrite),
+            Err(FileStop::OutOfMemory) => Err(Stop::OutOfMemory),
+        },
+    }
+}
+
+// Writes the text, and says then if a pair was lost.
+fn written<S: Sink>(out: &mut S, outcome: &Outcome<'_>, lost: Option<Stop>) -> Result<(), Stop>
+    requires { Says outcome.now.drained lost }
+    ensures put { OnOk result (IsPut (S.taken out.old, S.offered out.old) (S.taken out.new, S.offered out.new) outcome.now.text.items) }
+    ensures whole { OnOk result (outcome.now.drained ≡ drained.Whole) }
+    ensures stops { IfErr result (λ stop. StopsPut (S.taken out.old, S.offered out.old) (S.taken out.new, S.offered out.new) (S.faults out.old) (S.faults out.new) outcome.now.drained outcome.now.text.items stop) }
+{
+    match write_all(out, &outcome.text) {
+        Err(Failed) => Err(Stop::CannotWrite),
+        Ok(()) => match lost {
+            None => Ok(()),
+            Some(stop) => Err(stop),
+        },
+    }
+}
