@@ -26,6 +26,7 @@ fn saves_and_reads<F: Files>(alloc: Global, files: &mut F) -> Result<[bool; 5], 
 
 #[test]
 fn files_hold_what_was_saved(rt: HostRuntime) -> Result<(), Fail> {
+    let alloc = rt.alloc();
     let mut files = MemFiles::new(alloc, Vec::new(alloc));
     assert_eq!(rt; saves_and_reads(alloc, &mut files)?, [true; 5]);
     assert_eq!(rt; files.file("kept.txt"), Some(b"five\n".as_slice()));

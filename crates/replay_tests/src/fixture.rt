@@ -43,14 +43,35 @@ pub(crate) fn replay(
     files.put_file("p.txt", plan.as_bytes())?;
     files.put_file("t.csv", trades.as_bytes())?;
     files.put_file("e.txt", events.as_bytes())?;
-    files.put_file("c.csv", cash.unwrap_or("").as_bytes())?;
-    let name = cash.map(|_| "c.csv");
-    let (written, text) = match replay_text(alloc, &mut files, "p.txt", "t.csv", "e.txt", name) {
-        Ok(text) => (true, String::from_utf8(text)?),
-        Err(Stop::Refused { line }) => (false, line),
-        Err(_) => (false, String::new(alloc)),
-    };
-    Ok(Seen { written, text })
+    if let Some(movements) = cash {
+        files.put_file("c.csv", movements.as_bytes())?;
+        return shown(
+            alloc,
+            replay_text(alloc, &mut files, "p.txt", "t.csv", "e.txt", Some("c.csv")),
+        );
+    }
+    shown(
+        alloc,
+        replay_text(alloc, &mut files, "p.txt", "t.csv", "e.txt", None),
+    )
+}
+
+// What an answer shows.
+fn shown(alloc: Global, answer: Result<Vec<u8>, Stop>) -> Result<Seen, Fail> {
+    match answer {
+        Ok(bytes) => Ok(Seen {
+            written: true,
+            text: String::from_utf8(bytes)?,
+        }),
+        Err(Stop::Refused { line }) => Ok(Seen {
+            written: false,
+            text: line,
+        }),
+        Err(_) => Ok(Seen {
+            written: false,
+            text: String::new(alloc),
+        }),
+    }
 }
 
 /// Whether one of the lines of a text is this one.
