@@ -124,7 +124,7 @@ fn says_the_first_faulty_input(rt: HostRuntime) -> Result<(), Fail> {
     ];
     for (plan, trades, events, movements, line) in cases {
         let seen = replay(alloc, plan, trades, events, movements)?;
-        assert!(rt; !seen.written, "{line}");
+        assert!(rt; !seen.written);
         assert_eq!(rt; seen.text.as_str(), line);
     }
     Ok(())
