@@ -10,7 +10,7 @@ const TOTAL: &str = "flux 1\nstage 1 parts 1 by account total account\n";
 const HEADER: &str = "time,account,symbol,side,qty,price\n";
 
 const USAGE: &str =
-    "flux: usage: eval PLAN TRADES [--cash C] | run PLAN TRADES [options] | replay PLAN TRADES EVENTS [--cash C] | make START COUNT | trial PLAN START COUNT [options]\n";
+    "flux: usage: eval PLAN TRADES [--cash C] | run PLAN TRADES [options] | replay PLAN TRADES EVENTS [--cash C] | make START COUNT | trial PLAN START COUNT [options] | move PLAN TRADES MOVES\n";
 
 #[test]
 fn gives_each_fault_its_status_and_line(rt: HostRuntime) -> Result<(), Fail> {
