@@ -1,5 +1,5 @@
 -- Why moves are refused.
-use Rattle.std.proofs.Common.{ℕ, ◌≡◌, ◌<◌, ◌∙◌, true, List, length, refl, sym, ap, Err, Result, arith}
+use Rattle.std.proofs.Common.{ℕ, ◌≡◌, ◌<◌, true, List, length, refl, ap, Err, Result, arith}
 use Rattle.std.specs.Prelude.{◌≢◌, nat_lt}
 use Rattle.std.proofs.lemmas.Bool.Decides.{nat_tests}
 use Rattle.plan_reader.specs.PlanView.{PlanView}
@@ -8,21 +8,11 @@ use Rattle.bucket_move.specs.Moves.{Fails, moves_of}
 use Rattle.bucket_move.specs.declared.error.MovesError.{MovesError}
 use Rattle.bucket_move.specs.declared.error.MovesError.TheVariants as error
 use Rattle.bucket_move.specs.declared.moves.Shift.{Shift}
-use Rattle.command_course.specs.Course.{Reading}
 use Rattle.command_course.specs.Lines.{line_of}
 use Rattle.command_course.specs.Steps.{IsRefusedBy, StopsOn}
 use Rattle.command_course.specs.declared.stop.Stop.{Stop}
-use Rattle.command_course.specs.declared.stop.Stop.TheVariants as stop
+use Rattle.command_course.proofs.Refusals.{refused}
 use Rattle.move_command.specs.Inputs.{moves_from, moves_or_line}
-
--- a reading that fails by this fault is refused by its line
-refused : {A : Type 0} (reading : Reading A) (line : List ℕ) (why : Stop) (P : Type 0) → (P → reading ≡ Err line) → IsRefusedBy why line P → StopsOn reading why
-refused reading line stop.Usage P fails by = by
-refused reading line (stop.Refused said) P fails by = fails by.1 ∙ ap Err (sym by.0)
-refused reading line (stop.CannotRead said) P fails by = by
-refused reading line stop.CannotWrite P fails by = by
-refused reading line (stop.PairLost stage part said) P fails by = by
-refused reading line stop.OutOfMemory P fails by = tt
 
 moves_fail : (e : MovesError) (read : Result (List Shift) MovesError) → Fails e read → e ≢ error.OutOfMemory → read ≡ Err e
 moves_fail error.OutOfMemory read fails known = absurd (known refl)
