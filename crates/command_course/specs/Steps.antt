@@ -1,5 +1,5 @@
 -- What the clauses of the steps of a command say: how a step ended, and how far the course came.
-use Rattle.std.specs.Prelude.{ℕ, ◌≡◌, List, Option, Some, None, Result, Ok, Err, IsSomeAnd}
+use Rattle.std.specs.Prelude.{ℕ, ◌≡◌, List, Option, Result, Ok, Err}
 use Rattle.std.specs.String.{string_bytes}
 use Rattle.command_course.specs.Course.{Came, CameToRead, Course, Reading, Refuses, StoppedShort, Way, reads}
 use Rattle.command_course.specs.Lines.{cannot_read_line}
@@ -48,15 +48,6 @@ StopsOf told old new course (stop.CannotRead line) = IsUnread told old new cours
 StopsOf told old new course stop.CannotWrite = ⊥
 StopsOf told old new course (stop.PairLost stage part said) = ⊥
 StopsOf told old new course stop.OutOfMemory = StoppedShort told old new course
-
--- a command came to there, if it is there
-abbrev pub CameFor : Option Names → Option (List Call) → Option (List Call) → Option Course → Course → Type 0
-CameFor told old new course there = IsSomeAnd course (λ way. Came told old new way there)
-
--- why a command stopped: it is not there, or its course stopped
-abbrev pub StopsFor : Option Names → Option (List Call) → Option (List Call) → Option Course → Stop → Type 0
-StopsFor told old new None why = why ≡ stop.Usage
-StopsFor told old new (Some course) why = StopsOf told old new course why
 
 -- a step stopped for want of memory
 abbrev pub IsWant : {A : Type 0} → Result A Stop → Type 0

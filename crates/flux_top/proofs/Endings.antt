@@ -1,12 +1,12 @@
 -- What words come to, of the end of the course that they ask for.
 use Rattle.std.proofs.Common.{ℕ, ◌≡◌, List, [], ◌++◌, refl, ap, sym, subst, append-nil, Option, Some, None, Ok, Err, ⊎_elim, inl, inr}
-use Rattle.std.specs.Prelude.{IfErr, IfOk, IfSome, OnOk, Result, Vec, option_and_then, option_map}
+use Rattle.std.specs.Prelude.{IfErr, IfOk, IfSome, OnOk, Result, Vec, option_map}
 use Rattle.std.specs.declared.alloc.Global.{Global}
 use Rattle.tuple_edge.specs.declared.event.Drained.{Drained}
 use Rattle.tuple_edge.specs.declared.event.Drained.TheVariants as drained
 use Rattle.pair_machine.specs.Drain.{partition}
 use Rattle.command_course.specs.Course.{Between, Came, Course, Run, Runs, StoppedShort, Writes}
-use Rattle.command_course.specs.Steps.{HasReadCause, StopsFor}
+use Rattle.command_course.specs.Steps.{HasReadCause, StopsOf}
 use Rattle.command_course.specs.declared.stop.Stop.{Stop}
 use Rattle.command_course.specs.declared.stop.Stop.TheVariants as stop
 use Rattle.command_course.proofs.Courses.{adds_on}
@@ -17,7 +17,7 @@ use Rattle.run_command.specs.declared.outcome.Outcome.{Outcome}
 use Rattle.flux_top.specs.Clauses.{Faults, Finishes, HasCause, IsQuiet, SavesNot, SinkTells, StopsShort, StopsTo, WritesWhole}
 use Rattle.flux_top.specs.Ends.{Ends, EndsBy, EndsOrLoses, Keeps, Loses, MayBeLost, saves_of}
 use Rattle.flux_top.specs.Finish.{IsFinished, IsFinishedInPart, IsNotSaved, IsSaved, StopsFinish}
-use Rattle.flux_top.specs.Outcome.{CameToEnd, EndedFor, asked, course_of}
+use Rattle.flux_top.specs.Outcome.{CameToEnd, asked, course_of}
 
 -- ---- how a course ended
 
@@ -27,11 +27,10 @@ ends_or_loses (drained.Lost stage part) there ending ends = inr (partition stage
 
 module _ (told mid new : Option Names) (before between after : Option (List Call)) (words : List (List ℕ)) (outcome : Outcome) (same : mid ≡ told) where
   -- the calls that read, and the one that saves
-  finishes_of : (course : Option Course) → asked words ≡ course → EndedFor told before between course outcome → (ends : Course → Ending → Type 0)
+  finishes_of : (course : Course) → asked words ≡ Some course → CameToEnd told before between course outcome → (ends : Course → Ending → Type 0)
       → ((there : Course) → EndsBy outcome.drained there (ending_of outcome) → ends there (ending_of outcome))
       → IsSaved (mid, between) (new, after) (ending_of outcome).saved → Finishes (told, before) (new, after) words ends (ending_of outcome)
-  finishes_of None is ended ends so saved = absurd ended
-  finishes_of (Some course) is ended ends so saved = record {
+  finishes_of course is ended ends so saved = record {
     there = ended.there;
     reads = ended.came.calls;
     comes = record { course = course; is_asked = is; fact = ended.came.leads };
@@ -40,10 +39,9 @@ module _ (told mid new : Option Names) (before between after : Option (List Call
     keeps = subst (λ names. Keeps names new (ending_of outcome).saved) same saved.keeps;
   }
 
-  not_saved : (course : Option Course) → asked words ≡ course → EndedFor told before between course outcome → (faults now : ℕ)
+  not_saved : (course : Course) → asked words ≡ Some course → CameToEnd told before between course outcome → (faults now : ℕ)
       → IsNotSaved (mid, between) (new, after) (ending_of outcome).saved faults now → SavesNot (told, before) (new, after) words faults now
-  not_saved None is ended faults now fails = absurd ended
-  not_saved (Some course) is ended faults now fails = record {
+  not_saved course is ended faults now fails = record {
     ending = ending_of outcome;
     there = ended.there;
     reads = ended.came.calls;
@@ -54,9 +52,8 @@ module _ (told mid new : Option Names) (before between after : Option (List Call
     rose = fails.rose;
   }
 
-  short_at_save : (course : Option Course) → EndedFor told before between course outcome → Adds between after [] → IfSome course (StoppedShort told before after)
-  short_at_save None ended none = tt
-  short_at_save (Some course) ended none = Between ended.there (record {
+  short_at_save : (course : Course) → CameToEnd told before between course outcome → Adds between after [] → StoppedShort told before after course
+  short_at_save course ended none = Between ended.there (record {
     calls = ended.came.calls;
     leads = ended.came.leads;
     added = subst (Adds before after) (append-nil ended.came.calls) (adds_on before between after ended.came.calls [] ended.came.added none);
@@ -64,7 +61,7 @@ module _ (told mid new : Option Names) (before between after : Option (List Call
 
   -- ---- what was written
 
-  whole_of : (course : Option Course) → asked words ≡ course → EndedFor told before between course outcome → (old puts : SinkTells) → outcome.drained ≡ drained.Whole
+  whole_of : (course : Course) → asked words ≡ Some course → CameToEnd told before between course outcome → (old puts : SinkTells) → outcome.drained ≡ drained.Whole
       → IsFinished (mid, between) (new, after) old puts (ending_of outcome) → WritesWhole (told, before) (new, after) words Ends old puts
   whole_of course is ended old puts whole finished = record {
     ending = ending_of outcome;
@@ -73,7 +70,7 @@ module _ (told mid new : Option Names) (before between after : Option (List Call
     offers = finished.put.offers;
   }
 
-  stops_to : (course : Option Course) → asked words ≡ course → EndedFor told before between course outcome → (old puts : SinkTells) (faults : Faults) (why : Stop)
+  stops_to : (course : Course) → asked words ≡ Some course → CameToEnd told before between course outcome → (old puts : SinkTells) (faults : Faults) (why : Stop)
       → StopsFinish (mid, between) (new, after) old puts faults outcome.drained (ending_of outcome) why → StopsTo (told, before) (new, after) words old puts faults why
   stops_to course is ended old puts faults stop.Usage stops = absurd stops
   stops_to course is ended old puts faults (stop.Refused line) stops = absurd stops
@@ -100,13 +97,13 @@ module _ (told mid new : Option Names) (before between after : Option (List Call
 
   -- ---- what the last steps of a command answered
 
-  pub finished_whole : (course : Option Course) (old puts : SinkTells) (result : Result (Unit {0}) Stop) → asked words ≡ course → EndedFor told before between course outcome
+  pub finished_whole : (course : Course) (old puts : SinkTells) (result : Result (Unit {0}) Stop) → asked words ≡ Some course → CameToEnd told before between course outcome
       → OnOk result (outcome.drained ≡ drained.Whole) → OnOk result (IsFinished (mid, between) (new, after) old puts (ending_of outcome))
       → OnOk result (WritesWhole (told, before) (new, after) words Ends old puts)
   finished_whole course old puts (Ok x) is ended whole finished = whole_of course is ended old puts whole finished
   finished_whole course old puts (Err why) is ended whole finished = tt
 
-  pub finished_stops : (course : Option Course) (old puts : SinkTells) (faults : Faults) (result : Result (Unit {0}) Stop) → asked words ≡ course → EndedFor told before between course outcome
+  pub finished_stops : (course : Course) (old puts : SinkTells) (faults : Faults) (result : Result (Unit {0}) Stop) → asked words ≡ Some course → CameToEnd told before between course outcome
       → IfErr result (λ why. StopsFinish (mid, between) (new, after) old puts faults outcome.drained (ending_of outcome) why)
       → IfErr result (λ why. StopsTo (told, before) (new, after) words old puts faults why)
   finished_stops course old puts faults (Ok x) is ended stops = tt
@@ -129,19 +126,18 @@ module _ (told mid new : Option Names) (before between after : Option (List Call
 -- ---- a command that stopped before its end
 
 -- the course that words ask for
-pub asked_of : (words : List (List ℕ)) (request : Request) → form words ≡ Some request → asked words ≡ course_of request
-asked_of words request is = ap (option_and_then course_of) is
+pub asked_of : (words : List (List ℕ)) (request : Request) → form words ≡ Some request → asked words ≡ Some (course_of request)
+asked_of words request is = ap (option_map course_of) is
 
-pub stopped_to : (told new : Option Names) (before after : Option (List Call)) (words : List (List ℕ)) (course : Option Course) (old : SinkTells) (faults : Faults) (why : Stop) → asked words ≡ course
-    → StopsFor told before after course why → StopsTo (told, before) (new, after) words old old faults why
-stopped_to told new before after words None old faults why is stops = subst (StopsTo (told, before) (new, after) words old old faults) (sym stops) is
-stopped_to told new before after words (Some course) old faults stop.Usage is stops = absurd stops
-stopped_to told new before after words (Some course) old faults (stop.Refused line) is stops = record { course = course; is_asked = is; fact = stops }
-stopped_to told new before after words (Some course) old faults (stop.CannotRead line) is stops =
+pub stopped_to : (told new : Option Names) (before after : Option (List Call)) (words : List (List ℕ)) (course : Course) (old : SinkTells) (faults : Faults) (why : Stop) → asked words ≡ Some course
+    → StopsOf told before after course why → StopsTo (told, before) (new, after) words old old faults why
+stopped_to told new before after words course old faults stop.Usage is stops = absurd stops
+stopped_to told new before after words course old faults (stop.Refused line) is stops = record { course = course; is_asked = is; fact = stops }
+stopped_to told new before after words course old faults (stop.CannotRead line) is stops =
     record { name = stops.name; comes = record { course = course; is_asked = is; fact = stops.came }; line_is = stops.line_is }
-stopped_to told new before after words (Some course) old faults stop.CannotWrite is stops = absurd stops
-stopped_to told new before after words (Some course) old faults (stop.PairLost stage part line) is stops = absurd stops
-stopped_to told new before after words (Some course) old faults stop.OutOfMemory is stops = subst (λ c. IfSome c (StoppedShort told before after)) (sym is) stops
+stopped_to told new before after words course old faults stop.CannotWrite is stops = absurd stops
+stopped_to told new before after words course old faults (stop.PairLost stage part line) is stops = absurd stops
+stopped_to told new before after words course old faults stop.OutOfMemory is stops = subst (λ c. IfSome c (StoppedShort told before after)) (sym is) stops
 
 pub stopped_cause : (before now : ℕ) (why : Stop) → HasReadCause before now why → HasCause before now why
 stopped_cause before now stop.Usage cause = cause

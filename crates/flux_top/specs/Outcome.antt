@@ -1,5 +1,5 @@
 -- What each command does with its files.
-use Rattle.std.specs.Prelude.{ℕ, ◌≡◌, List, Option, Some, None, IsSomeAnd, option_and_then}
+use Rattle.std.specs.Prelude.{ℕ, ◌≡◌, List, Option, Some, option_map}
 use Rattle.command_line.specs.Forms.{Eval, Make, Move, Replay, Request, Run, Trial, form}
 use Rattle.trade_text.specs.Text.{text}
 use Rattle.pair_machine.specs.Output.{output}
@@ -24,17 +24,17 @@ abbrev pub eval_course : (plan trades : List ℕ) → Option (List ℕ) → Cour
 eval_course plan trades cash = with_feed plan trades cash writes_output
 
 -- The course of a command.
-abbrev pub course_of : Request → Option Course
-course_of (Eval plan trades cash) = Some (eval_course plan trades cash)
-course_of (Run plan trades options) = Some (run_course plan trades options)
-course_of (Replay plan trades events cash) = Some (replay_course plan trades events cash)
-course_of (Make start count) = Some (Writes (made_text start count))
-course_of (Trial plan start count options) = Some (trial_course plan start count options)
-course_of (Move plan trades moves) = Some (move_course plan trades moves)
+abbrev pub course_of : Request → Course
+course_of (Eval plan trades cash) = eval_course plan trades cash
+course_of (Run plan trades options) = run_course plan trades options
+course_of (Replay plan trades events cash) = replay_course plan trades events cash
+course_of (Make start count) = Writes (made_text start count)
+course_of (Trial plan start count options) = trial_course plan start count options
+course_of (Move plan trades moves) = move_course plan trades moves
 
 -- the course that words ask for, if they have a form
 abbrev pub asked : List (List ℕ) → Option Course
-asked words = option_and_then course_of (form words)
+asked words = option_map course_of (form words)
 
 -- words ask for this course, and something holds of it
 pub record AsksFor (words : List (List ℕ)) (holds : Course → Type 0) : Type 0 where
@@ -49,7 +49,3 @@ pub record CameToEnd (told : Option Names) (old new : Option (List Call)) (cours
   pub there : Course
   pub came : Came told old new course there
   pub ends : EndsBy outcome.drained there (ending_of outcome)
-
--- so did that of a command, if it is there
-abbrev pub EndedFor : Option Names → Option (List Call) → Option (List Call) → Option Course → Outcome → Type 0
-EndedFor told old new course outcome = IsSomeAnd course (λ way. CameToEnd told old new way outcome)

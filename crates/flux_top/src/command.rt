@@ -1,13 +1,13 @@
 // The one call that does what the words of a command line ask for.
 ghost use Rattle.std.specs.Prelude.{◌≡◌, ◌≢◌, ◌⊎◌, IfErr, IfOk, OnOk, Err, None, map, string_bytes};
-ghost use Rattle.command_course.specs.Steps.{HasReadCause, IsWant, StopsFor};
+ghost use Rattle.command_course.specs.Steps.{HasReadCause, IsWant, StopsOf};
 ghost use Rattle.command_course.specs.declared.stop.Stop.TheVariants.{OutOfMemory, Usage};
 ghost use Rattle.command_line.specs.Views.{IsInRange, request_of};
 ghost use Rattle.flux_outside.specs.Outside.{Rose, StopsAtWant};
 ghost use Rattle.flux_top.specs.Clauses.{Accepts, Faults, HasCause, IsQuiet, IsStatus, Rejects, SaysLost, SaysRefusal, SaysUnread, StopsShort, StopsTo, Tells, WritesNot, WritesWhole};
 ghost use Rattle.flux_top.specs.Ends.{Ends, IsAtEnd, LosesNone};
 ghost use Rattle.flux_top.specs.Lines.{cannot_write_line, memory_line, usage_line};
-ghost use Rattle.flux_top.specs.Outcome.{EndedFor, asked, course_of};
+ghost use Rattle.flux_top.specs.Outcome.{CameToEnd, asked, course_of};
 ghost use Rattle.tuple_edge.specs.declared.event.Drained.TheVariants as drained;
 
 use crate::eval::eval_text;
@@ -173,9 +173,8 @@ fn outcome_of<'a, R: Threads + Sync, F: Files, G: Gate>(
     gate: &G,
 ) -> Result<Outcome<'a>, Stop>
     requires { IsInRange command }
-    ensures comes { IfOk result (λ outcome. EndedFor (F.contents files.old) (F.calls files.old) (F.calls files.new) (course_of (request_of command.entry)) outcome) }
-    ensures unasked { course_of (request_of command.entry) ≡ None → files.new ≡ files.old }
-    ensures stops { IfErr result (λ stop. StopsFor (F.contents files.old) (F.calls files.old) (F.calls files.new) (course_of (request_of command.entry)) stop) }
+    ensures comes { IfOk result (λ outcome. CameToEnd (F.contents files.old) (F.calls files.old) (F.calls files.new) (course_of (request_of command.entry)) outcome) }
+    ensures stops { IfErr result (λ stop. StopsOf (F.contents files.old) (F.calls files.old) (F.calls files.new) (course_of (request_of command.entry)) stop) }
     ensures cause { IfErr result (λ stop. HasReadCause (F.read_faults files.old) (F.read_faults files.new) stop) }
     ensures still { OnOk result (F.read_faults files.new ≡ F.read_faults files.old) }
     ensures wants { StopsAtWant (F.wants files.old) (F.wants files.new) (IsWant result) }
