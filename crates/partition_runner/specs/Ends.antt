@@ -24,6 +24,11 @@ pub record OutEndView : Type 0 where
   pub link : OutLink
   pub spare : ℕ
 
+-- all ends on which a node sends: the links, and how many further packets may wait at each of them without memory
+pub record OutsView : Type 0 where
+  pub links : List OutLink
+  pub room : ℕ
+
 abbrev pub links_of : List OutEndView → List OutLink
 links_of outs = map (λ e. e.link) outs
 

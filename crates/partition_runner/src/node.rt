@@ -26,9 +26,9 @@ use crate::kept::Kept;
 use crate::links::Links;
 use crate::names::RunNames;
 use crate::out_end::OutEnd;
+use crate::outs::Outs;
 use crate::part::Part;
 use crate::receiving::receive;
-use crate::sending::{flush_all, reserve_all, send_all, some_wait};
 use crate::tap::Tap;
 use plan_reader::Plan;
 use std::alloc::Global;
@@ -46,7 +46,7 @@ const MOST_PACKETS: usize = 24;
 pub struct Node<N: RunNames, A: Acts, M: Links, T: Tap> {
     pub(crate) state: A,
     pub(crate) ins: Vec<InEnd<M::In>>,
-    pub(crate) outs: Vec<OutEnd<M::Out>>,
+    pub(crate) outs: Outs<M::Out>,
     pub(crate) kept: Option<Kept>,
     // Empty between events.
     outbox: Outbox,
@@ -54,14 +54,13 @@ pub struct Node<N: RunNames, A: Acts, M: Links, T: Tap> {
     pub(crate) history: Vec<Stamped>,
     // What the orders of the script have made it do.
     pub(crate) fired: Fired,
-    // With which in-link the next round begins.
+    // The in-link that is tried first.
     next: usize,
     pub(crate) tap: Option<T>,
     of: PhantomData<N>,
 }
 
 impl<N: RunNames, A: Acts, M: Links, T: Tap> Model for Node<N, A, M, T> {
-    ghost use Rattle.partition_runner.specs.Ends.{links_of};
     ghost use Rattle.partition_runner.specs.NodeView.{NodeView};
     ghost use Rattle.partition_runner.specs.SoundNode.{IsSoundNode, TapFits};
     ghost use Rattle.std.specs.Prelude.{◌≡◌, []};
@@ -71,14 +70,14 @@ impl<N: RunNames, A: Acts, M: Links, T: Tap> Model for Node<N, A, M, T> {
     ghost view = { λ n. record {
       state = n.state;
       ins = n.ins.items;
-      outs = links_of n.outs.items;
+      outs = n.outs.links;
       kept = n.kept;
       history = n.history.items;
       tap = n.tap;
     } };
 
     ghost invariant = { λ n. (n.outbox.packets ≡ []) × TapFits T.given A.rows n.tap n.state
-        × IsSoundNode A.id A.of_plan A.stands N.plan N.inputs N.script n.state n.ins.items (links_of n.outs.items) n.kept n.clock n.fired n.history.items };
+        × IsSoundNode A.id A.of_plan A.stands N.plan N.inputs N.script n.state n.ins.items n.outs.links n.kept n.clock n.fired n.history.items };
 }
 
 impl<N: RunNames, A: Acts, M: Links, T: Tap> Node<N, A, M, T> {
@@ -103,7 +102,7 @@ impl<N: RunNames, A: Acts, M: Links, T: Tap> Node<N, A, M, T> {
         Node {
             state,
             ins,
-            outs,
+            outs: Outs::new(outs),
             kept: None,
             outbox: Outbox::new(alloc),
             clock: 0,
@@ -151,7 +150,7 @@ impl<N: RunNames, A: Acts, M: Links, T: Tap> Node<N, A, M, T> {
             return Ok(false);
         }
         self.history.reserve(1)?;
-        reserve_all(&mut self.outs, MOST_PACKETS)?;
+        self.outs.reserve(MOST_PACKETS)?;
         self.outbox.reserve(MOST_PACKETS)?;
         let event = task.event_at(self.state.id());
         match self.state.act(&task, &mut self.outbox)? {
@@ -164,9 +163,9 @@ impl<N: RunNames, A: Acts, M: Links, T: Tap> Node<N, A, M, T> {
             clock: self.clock,
             event,
         });
-        send_all(&mut self.outs, &self.outbox, self.clock);
+        self.outs.send_all(&self.outbox, self.clock);
         self.outbox.clear();
-        flush_all(&mut self.outs);
+        self.outs.flush();
         Ok(true)
     }
 
@@ -179,8 +178,7 @@ impl<N: RunNames, A: Acts, M: Links, T: Tap> Node<N, A, M, T> {
         if let Some(kept) = self.kept {
             return Some(kept);
         }
-        self.next = self.next.wrapping_add(1);
-        self.kept = receive(&mut self.ins, self.next);
+        self.kept = receive(&mut self.ins, &mut self.next);
         self.kept
     }
 
@@ -211,7 +209,7 @@ impl<N: RunNames, A: Acts, M: Links, T: Tap> Node<N, A, M, T> {
     pub(crate) fn work(&mut self, plan: &Plan) -> Result<bool, OutOfMemory>
         ensures { name_of A.id self.new ≡ name_of A.id self.old }
     {
-        if some_wait(&self.outs) {
+        if self.outs.some_wait() {
             return Ok(false);
         }
         self.event(plan, Task::Work)
@@ -237,10 +235,11 @@ impl<N: RunNames, A: Acts, M: Links, T: Tap> Node<N, A, M, T> {
         tap.offer(self.state.emitted());
     }
 
-    // Pushes what waits.
-    pub(crate) fn flush(&mut self)
+    // Pushes what waits, and tries the next in-link first from now on.
+    pub(crate) fn begin_turn(&mut self)
         ensures { name_of A.id self.new ≡ name_of A.id self.old }
     {
-        flush_all(&mut self.outs);
+        self.outs.flush();
+        self.next = self.next.wrapping_add(1);
     }
 }

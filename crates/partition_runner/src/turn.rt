@@ -21,7 +21,7 @@ impl<N: RunNames, A: Acts, M: Links, T: Tap> Node<N, A, M, T> {
         requires { script.now ≡ N.script }
         ensures { name_of A.id self.new ≡ name_of A.id self.old }
     {
-        self.flush();
+        self.begin_turn();
         let fired = self.fire(plan, script)?;
         let took = self.take_some(plan)?;
         let made = self.make_some(plan)?;
