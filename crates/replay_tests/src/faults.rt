@@ -102,8 +102,8 @@ fn says_the_first_fault_of_events(rt: HostRuntime) -> Result<(), Fail> {
     let alloc = rt.alloc();
     let trades = buys(alloc, 3)?;
     for (events, line) in EVENTS {
-        let seen = replay(alloc, ONE, &trades, events, None)?;
-        assert!(rt; !seen.written, "{events}");
+        let seen = replay(&rt, alloc, ONE, &trades, events, None)?;
+        assert_eq!(rt; seen.status, 3, "{events}");
         assert_eq!(rt; seen.text.as_str(), line, "{events}");
     }
     Ok(())
@@ -123,8 +123,8 @@ fn says_the_first_faulty_input(rt: HostRuntime) -> Result<(), Fail> {
         (two, HEADER, "", Some(cash), "flux: e.txt: header\n"),
     ];
     for (plan, trades, events, movements, line) in cases {
-        let seen = replay(alloc, plan, trades, events, movements)?;
-        assert!(rt; !seen.written);
+        let seen = replay(&rt, alloc, plan, trades, events, movements)?;
+        assert_eq!(rt; seen.status, 3);
         assert_eq!(rt; seen.text.as_str(), line);
     }
     Ok(())

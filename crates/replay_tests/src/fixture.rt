@@ -1,9 +1,10 @@
-// A call of `replay` over files in memory.
-use command_course::Stop;
-use flux_outside::MemFiles;
-use replay_command::replay_text;
+// A call of `flux replay` over files in memory.
+use drained_run::FreeGate;
+use flux_outside::{MemFiles, MemSink};
+use flux_top::flux;
 use std::alloc::Global;
 use std::test::Fail;
+use std::thread::Threads;
 
 // One stage of one partition.
 pub(crate) const ONE: &str = "flux 1\nstage 1 parts 1 by account total account\n";
@@ -24,15 +25,16 @@ pub(crate) fn buys(alloc: Global, count: u32) -> Result<String, Fail> {
     Ok(text)
 }
 
-/// What a call came to: the text that it wrote, or the line of a refusal; at another stop no text.
+/// What a call came to: the status, and the text that it wrote or, at another status than 0, what it said.
 #[derive(Drop)]
 pub(crate) struct Seen {
-    pub(crate) written: bool,
+    pub(crate) status: u8,
     pub(crate) text: String,
 }
 
 /// Replays events over the files `p.txt`, `t.csv`, `e.txt` and, where they are given, movements `c.csv`.
-pub(crate) fn replay(
+pub(crate) fn replay<R: Threads + Sync>(
+    rt: &R,
     alloc: Global,
     plan: &str,
     trades: &str,
@@ -43,35 +45,25 @@ pub(crate) fn replay(
     files.put_file("p.txt", plan.as_bytes())?;
     files.put_file("t.csv", trades.as_bytes())?;
     files.put_file("e.txt", events.as_bytes())?;
+    let mut words = words(alloc, &["replay", "p.txt", "t.csv", "e.txt"])?;
     if let Some(movements) = cash {
         files.put_file("c.csv", movements.as_bytes())?;
-        return shown(
-            alloc,
-            replay_text(alloc, &mut files, "p.txt", "t.csv", "e.txt", Some("c.csv")),
-        );
+        words.push(String::from_str(alloc, "--cash=c.csv")?)?;
     }
-    shown(
-        alloc,
-        replay_text(alloc, &mut files, "p.txt", "t.csv", "e.txt", None),
-    )
+    let mut out = MemSink::new(alloc, Vec::new(alloc), usize::MAX, 10_000)?;
+    let mut err = MemSink::new(alloc, Vec::new(alloc), usize::MAX, 1_000)?;
+    let status = flux(rt, alloc, &words, &mut files, &mut out, &mut err, &FreeGate);
+    let told = if status == 0 { &out } else { &err };
+    let text = String::from_utf8(told.taken().to_vec(alloc)?)?;
+    Ok(Seen { status, text })
 }
 
-// What an answer shows.
-fn shown(alloc: Global, answer: Result<Vec<u8>, Stop>) -> Result<Seen, Fail> {
-    match answer {
-        Ok(bytes) => Ok(Seen {
-            written: true,
-            text: String::from_utf8(bytes)?,
-        }),
-        Err(Stop::Refused { line }) => Ok(Seen {
-            written: false,
-            text: line,
-        }),
-        Err(_) => Ok(Seen {
-            written: false,
-            text: String::new(alloc),
-        }),
+fn words(alloc: Global, all: &[&str]) -> Result<Vec<String>, Fail> {
+    let mut words = Vec::new(alloc);
+    for word in all {
+        words.push(String::from_str(alloc, word)?)?;
     }
+    Ok(words)
 }
 
 /// Whether one of the lines of a text is this one.

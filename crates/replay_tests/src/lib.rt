@@ -1,5 +1,5 @@
-//! Tests of `replay`: the lines of states worked by hand, and the refusals of events. The crate has no code of its own:
-//! it stands above replay_command so that replay_command is proved once, and not a second time with its tests.
+//! Tests of `flux replay` by whole calls: the lines of states worked by hand, and the refusals of events. The crate has
+//! no code of its own.
 #![tactic(auto)]
 
 #[cfg(test)]

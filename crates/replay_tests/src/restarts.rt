@@ -2,6 +2,7 @@
 use crate::fixture::{ONE, buys, has_line, replay};
 use std::alloc::Global;
 use std::test::Fail;
+use std::thread::Threads;
 
 // B is stopped and brought back, and A sends its state: seven chunks and their end.
 const RESTART: &str =
@@ -23,13 +24,19 @@ const FIFTH: &str = "take in>1.0.b 5\n";
 const FIRST: &str = "take 1.0.a>1.0.b 1\n";
 
 // The lines of the state that the pieces of a text reach, one after another.
-fn shows(alloc: Global, trades: u32, pieces: &[&str], lines: &[&str]) -> Result<bool, Fail> {
+fn shows<R: Threads + Sync>(
+    rt: &R,
+    alloc: Global,
+    trades: u32,
+    pieces: &[&str],
+    lines: &[&str],
+) -> Result<bool, Fail> {
     let mut events = String::from_str(alloc, RESTART)?;
     for piece in pieces {
         events.push_str(piece)?;
     }
-    let seen = replay(alloc, ONE, &buys(alloc, trades)?, &events, None)?;
-    let mut all = seen.written;
+    let seen = replay(rt, alloc, ONE, &buys(alloc, trades)?, &events, None)?;
+    let mut all = seen.status == 0;
     for line in lines {
         all = all && has_line(&seen.text, line);
     }
@@ -49,8 +56,8 @@ fn takes_chunks_in_their_order(rt: HostRuntime) -> Result<(), Fail> {
         "1.0.b < 0 mark=3 told=0",
         "1.0.b > 0 low=0 made=3 a=1",
     ];
-    assert!(rt; shows(alloc, 3, &[OUT_OF_ORDER], &waits)?);
-    assert!(rt; shows(alloc, 3, &[OUT_OF_ORDER, SECOND_ON], &runs)?);
+    assert!(rt; shows(&rt, alloc, 3, &[OUT_OF_ORDER], &waits)?);
+    assert!(rt; shows(&rt, alloc, 3, &[OUT_OF_ORDER, SECOND_ON], &runs)?);
     Ok(())
 }
 
@@ -63,8 +70,16 @@ fn goes_on_with_what_it_held(rt: HostRuntime) -> Result<(), Fail> {
         "1.0.b < 0 mark=5 told=0",
     ];
     let gap = ["1.0.b < 0 mark=3 told=0"];
-    assert!(rt; shows(alloc, 5, &[MORE, FIFTH, FOURTH], &held)?);
-    assert!(rt; shows(alloc, 5, &[MORE, FOURTH, FIFTH, FIRST, SECOND_ON], &both)?);
-    assert!(rt; shows(alloc, 5, &[MORE, FIFTH, FIRST, SECOND_ON], &gap)?);
+    assert!(rt; shows(&rt, alloc, 5, &[MORE, FIFTH, FOURTH], &held)?);
+    assert!(rt;
+        shows(
+            &rt,
+            alloc,
+            5,
+            &[MORE, FOURTH, FIFTH, FIRST, SECOND_ON],
+            &both
+        )?
+    );
+    assert!(rt; shows(&rt, alloc, 5, &[MORE, FIFTH, FIRST, SECOND_ON], &gap)?);
     Ok(())
 }

@@ -11,8 +11,15 @@ const MADE: &str =
 #[test]
 fn writes_the_whole_state(rt: HostRuntime) -> Result<(), Fail> {
     let alloc = rt.alloc();
-    let seen = replay(alloc, MARKED, &buys(alloc, 4)?, "events 1\nmake 5\n", None)?;
-    assert!(rt; seen.written);
+    let seen = replay(
+        &rt,
+        alloc,
+        MARKED,
+        &buys(alloc, 4)?,
+        "events 1\nmake 5\n",
+        None,
+    )?;
+    assert_eq!(rt; seen.status, 0);
     assert_eq!(rt; seen.text.as_str(), MADE);
     Ok(())
 }
@@ -94,8 +101,8 @@ const CASES: [Case; 7] = [
 fn shows_what_the_events_lead_to(rt: HostRuntime) -> Result<(), Fail> {
     let alloc = rt.alloc();
     for (plan, trades, events, lines) in CASES {
-        let seen = replay(alloc, plan, &buys(alloc, trades)?, events, None)?;
-        assert!(rt; seen.written, "{events}");
+        let seen = replay(&rt, alloc, plan, &buys(alloc, trades)?, events, None)?;
+        assert_eq!(rt; seen.status, 0, "{events}");
         for line in lines {
             assert!(rt; has_line(&seen.text, line), "{line}");
         }
@@ -111,7 +118,7 @@ fn shows_both_sources(rt: HostRuntime) -> Result<(), Fail> {
     let trades = format!(in alloc; "{HEADER}34200,7,A,B,1,1\n34210,7,A,B,1,1\n")?;
     let cash = "time,account,amount\n34205,7,-2.50\n34210,7,1\n";
     let events = "events 1\nmake 5\npull in 1.0.a 6\nwork 1.0.a 5\npull 1.0.a out 2\nwork out 2\n";
-    let seen = replay(alloc, plan, &trades, events, Some(cash))?;
+    let seen = replay(&rt, alloc, plan, &trades, events, Some(cash))?;
     let lines = [
         "in 0 > 0 low=0 made=3 a=1 b=1",
         "in 1 > 0 low=0 made=3 a=1 b=1",
@@ -121,7 +128,7 @@ fn shows_both_sources(rt: HostRuntime) -> Result<(), Fail> {
         "row 34200,7,A,1,100",
         "row 34205,7,-,0,-250",
     ];
-    assert!(rt; seen.written);
+    assert_eq!(rt; seen.status, 0);
     for line in lines {
         assert!(rt; has_line(&seen.text, line), "{line}");
     }
