@@ -14,8 +14,6 @@ const USAGE: &str =
 
 #[test]
 fn gives_each_fault_its_status_and_line(rt: HostRuntime) -> Result<(), Fail> {
-    let row_of_five = "time,account,symbol,side,qty,price\n34200,7,A,B,1\n";
-    let two_marks = "\u{feff}\u{feff}time,account,symbol,side,qty,price\n";
     let cases = [
         ("", TOTAL, HEADER, 2u8, USAGE),
         ("eval p.txt", TOTAL, HEADER, 2, USAGE),
@@ -40,22 +38,6 @@ fn gives_each_fault_its_status_and_line(rt: HostRuntime) -> Result<(), Fail> {
             "flux: no.csv: cannot read\n",
         ),
         (EVAL, TOTAL, "", 3, "flux: t.csv: header\n"),
-        (EVAL, TOTAL, "time,acc", 3, "flux: t.csv: header\n"),
-        (EVAL, TOTAL, two_marks, 3, "flux: t.csv: header\n"),
-        (
-            EVAL,
-            TOTAL,
-            row_of_five,
-            3,
-            "flux: t.csv: record 2: fields\n",
-        ),
-        (
-            EVAL,
-            "flux 1\nstage 1 parts",
-            "",
-            3,
-            "flux: p.txt: line 2: grammar\n",
-        ),
         (
             EVAL,
             "flux 1\nstage 1 parts 9 by account total account\n",
@@ -119,14 +101,5 @@ fn stops_where_a_sink_stops(rt: HostRuntime) -> Result<(), Fail> {
         assert_eq!(rt; seen.out.taken(), taken, "{most}");
         assert_eq!(rt; seen.err.taken(), said, "{most}");
     }
-
-    // A fault of the error stream changes nothing.
-    let mut fails = Vec::new(alloc);
-    fails.push(1)?;
-    let out = MemSink::new(alloc, Vec::new(alloc), usize::MAX, 1_000)?;
-    let err = MemSink::new(alloc, fails, usize::MAX, 1_000)?;
-    let seen = call_into(&rt, rt.alloc(), EVAL, TOTAL, b"", &[], out, err)?;
-    assert_eq!(rt; seen.status, 3);
-    assert_eq!(rt; seen.err.taken(), b"".as_slice());
     Ok(())
 }
