@@ -1,0 +1,19 @@
+//! Tests of runs by public calls: that the events of a run on one thread and on more drive the core to the nodes that the
+//! run gave; failures; a tap; a worker that is held up. The crate has no code of its own: it stands above partition_runner
+//! so that partition_runner is proved once, and not a second time with its tests.
+#![tactic(auto)]
+
+#[cfg(test)]
+mod clocks;
+#[cfg(test)]
+mod failures;
+#[cfg(test)]
+mod fixture;
+#[cfg(test)]
+mod gates;
+#[cfg(test)]
+mod nodes;
+#[cfg(test)]
+mod runs;
+#[cfg(test)]
+mod taps;
