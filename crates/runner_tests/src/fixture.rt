@@ -161,6 +161,16 @@ pub(crate) fn is_legal(
     Ok(steps.follows(&outcome.events) && agrees(&steps.core, &outcome.ran))
 }
 
+// Whether these events are steps from the opening on, and lead to all rows of the output.
+pub(crate) fn leads_to_all(
+    alloc: Global,
+    story: &Story,
+    events: &[Event],
+) -> Result<bool, OutOfMemory> {
+    let mut steps = opened(alloc, story)?;
+    Ok(steps.follows(events) && steps.core.emitted() == story.output.as_slice())
+}
+
 // Whether what egress emitted is a front of the output, and all of it where egress is done.
 pub(crate) fn emits_a_front(story: &Story, ran: &Ran) -> bool {
     let rows = ran.egress.emitted();

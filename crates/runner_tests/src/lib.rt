@@ -1,6 +1,7 @@
 //! Tests of runs by public calls: that the events of a run on one thread and on more drive the core to the nodes that the
-//! run gave; failures; a tap; a worker that is held up. The crate has no code of its own: it stands above partition_runner
-//! so that partition_runner is proved once, and not a second time with its tests.
+//! run gave; failures; links that lose packets, with the drain after them; a tap; a worker that is held up. The crate has
+//! no code of its own: it stands above partition_runner and core_drain so that each of them is proved once, and not a
+//! second time with its tests.
 #![tactic(auto)]
 
 #[cfg(test)]
@@ -11,6 +12,8 @@ mod failures;
 mod fixture;
 #[cfg(test)]
 mod gates;
+#[cfg(test)]
+mod lossy;
 #[cfg(test)]
 mod nodes;
 #[cfg(test)]
