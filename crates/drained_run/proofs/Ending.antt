@@ -1,5 +1,6 @@
 -- The merged events and the drain of what the threads left are how a run ends.
-use Rattle.std.proofs.Common.{◌≡◌, ◌∙◌, ◌≤◌, List, [], refl, sym, ap, subst}
+use Rattle.std.proofs.Common.{◌≡◌, ◌∙◌, ◌≤◌, ◌++◌, List, [], refl, sym, ap, subst}
+use Rattle.std.proofs.lemmas.List.{append-nil}
 use Rattle.tuple_edge.specs.Input.{Input}
 use Rattle.tuple_edge.specs.declared.event.Drained.{Drained}
 use Rattle.tuple_edge.specs.declared.event.Drained.TheVariants as drained
@@ -31,8 +32,8 @@ use Rattle.flux_core.specs.Opening.{bare_core}
 use Rattle.flux_core.specs.Stands.{IsGiven}
 use Rattle.partition_runner.specs.Ran.{IsLegalRun}
 use Rattle.partition_runner.specs.declared.ran.Ran.{Ran}
-use Rattle.core_drain.specs.Drained.{IsDrained, IsLost, IsWhole}
-use Rattle.drained_run.specs.Ended.{EndedView, EndsSo, IsEnded, IsLostAt, IsRun, rows_at}
+use Rattle.core_drain.specs.Drained.{IsDrained, IsDrainedFrom, IsLost, IsWhole}
+use Rattle.drained_run.specs.Ended.{EndsSo, IsLostAt, IsRun, rows_at}
 use Rattle.drained_run.specs.Ended as ended
 use Rattle.drained_run.proofs.Joined.{bare, drainable, events_of, given_here, left, reached, reaches, stands}
 
@@ -44,6 +45,17 @@ leads plan inputs script limits events s legal within = record { legal = legal; 
 -- which pair is the first lost one is a matter of the nodes alone
 same_lost : (nodes : NodeId → Node) (one another : LinkId → List Message) (pairs : List Partition) (p : Partition) → IsFirstLost (with_sent nodes one) pairs p → IsFirstLost (with_sent nodes another) pairs p
 same_lost nodes one another pairs p h = record { before = h.before; after = h.after; whole = h.whole; served = h.served; lost = h.lost }
+
+-- ---- a drain lists its events behind those that stood there, whatever they are
+
+behind_from : (old new : CoreView) (es after : List Event) (s : State) → IsDrainedFrom old new [] after s → IsDrainedFrom old new es (es ++ after) s
+behind_from old new es after s d =
+    let w = d.went in
+    record { may = d.may; went = record { appended = ap (λ xs. es ++ xs) w.appended; reached = w.reached; legal = w.legal; quiet = w.quiet; stands = w.stands }; done = d.done }
+
+behind : (old new : CoreView) (es after : List Event) (d : Drained) → IsDrained old new [] after d → IsDrained old new es (es ++ after) d
+behind old new es after drained.Whole w = record { drained = λ s stands may. behind_from old new es after s (w.drained s stands may); rows = w.rows }
+behind old new es after (drained.Lost stage part) l = record { lost = l.lost; unchanged = l.unchanged; no_event = ap (λ xs. es ++ xs) l.no_event ∙ append-nil es }
 
 module _ (plan : PlanView) (script : List Order) (ran : Ran) (limits : IsPlan plan) (run : IsLegalRun plan ran.ingress.inputs script ran) (core : CoreView) (after : List Event)
     (same_plan : core.plan ≡ plan) (same_inputs : inputs_of core ≡ ran.ingress.inputs) where
@@ -115,11 +127,12 @@ module _ (plan : PlanView) (inputs : List Input) (script : List Order) (ran : Ra
   pub timely : AreTimely inputs → AreTimely ran.ingress.inputs
   timely times = subst AreTimely (sym (own_inputs plan inputs script ran run)) times
 
-  pub run_ends : (old core : CoreView) (before after : List Event) (d : Drained) → old ≡ bare_nodes → before ≡ events_of ran → core.plan ≡ old.plan → inputs_of core ≡ inputs_of old
-      → IsDrained old core before after d → EndsSo plan inputs script after core.egress.emitted d
-  run_ends old core before after d is joined same_plan same_inputs h =
+  -- where the drain's events were listed apart
+  pub run_ends : (old core : CoreView) (before after : List Event) (d : Drained) → old ≡ bare_nodes → before ≡ [] → core.plan ≡ old.plan → inputs_of core ≡ inputs_of old
+      → IsDrained old core before after d → EndsSo plan inputs script (events_of ran ++ after) core.egress.emitted d
+  run_ends old core before after d is none same_plan same_inputs h =
       let plan_is : core.plan ≡ plan = same_plan ∙ ap (λ (c : CoreView). c.plan) is in
       let inputs_are : inputs_of core ≡ ran.ingress.inputs = same_inputs ∙ ap (λ (c : CoreView). inputs_of c) is in
-      let drained_so : IsDrained bare_nodes core (events_of ran) after d = subst (λ c. IsDrained c core (events_of ran) after d) is (subst (λ es. IsDrained old core es after d) joined h) in
-      subst (λ (I : List Input). EndsSo plan I script after core.egress.emitted d) (own_inputs plan inputs script ran run)
-      (ends plan script ran limits (own_run plan inputs script ran run) core after plan_is inputs_are d drained_so)
+      let drained_so : IsDrained bare_nodes core (events_of ran) (events_of ran ++ after) d = behind bare_nodes core (events_of ran) after d (subst (λ c. IsDrained c core [] after d) is (subst (λ es. IsDrained old core es after d) none h)) in
+      subst (λ (I : List Input). EndsSo plan I script (events_of ran ++ after) core.egress.emitted d) (own_inputs plan inputs script ran run)
+      (ends plan script ran limits (own_run plan inputs script ran run) core (events_of ran ++ after) plan_is inputs_are d drained_so)

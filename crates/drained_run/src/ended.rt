@@ -1,9 +1,11 @@
 // What a run comes to.
-ghost use Rattle.std.specs.Prelude.{◌≡◌};
+ghost use Rattle.std.specs.Prelude.{◌≡◌, IfOk};
 
 use flux_core::Core;
+use run_journal::merge;
+use std::alloc::Global;
 use std::marker::Model;
-use tuple_edge::{Drained, Event, Row};
+use tuple_edge::{Drained, Event, History, OutOfMemory, Row};
 
 /// A run that has ended.
 ///
@@ -11,16 +13,28 @@ use tuple_edge::{Drained, Event, Row};
 #[derive(Drop)]
 pub struct Ended {
     pub(crate) core: Core,
-    pub(crate) events: Vec<Event>,
+    // What happened on the threads, node by node.
+    pub(crate) histories: Vec<History>,
+    // What the drain did then.
+    pub(crate) drain: Vec<Event>,
     pub(crate) drained: Drained,
 }
 
 impl Model for Ended {
     ghost use Rattle.drained_run.specs.Ended.{EndedView};
+    ghost use Rattle.pair_machine.specs.Joint.{logged_events};
+    ghost use Rattle.run_journal.specs.Logs.{AreMergeable, log_of_histories};
+    ghost use Rattle.std.specs.Prelude.{◌++◌};
 
     ghost Value = { EndedView };
 
-    ghost view = { λ e. record { rows = e.core.egress.emitted; events = e.events.items; drained = e.drained } };
+    ghost view = { λ e. record {
+      rows = e.core.egress.emitted;
+      events = logged_events (log_of_histories e.histories.items) ++ e.drain.items;
+      drained = e.drained;
+    } };
+
+    ghost invariant = { λ e. AreMergeable e.histories.items };
 }
 
 impl Ended {
@@ -31,11 +45,14 @@ impl Ended {
         self.core.emitted()
     }
 
-    /// What happened at all nodes, in one order: on the threads, and then in the drain.
-    pub fn events(&self) -> &[Event]
-        ensures { result.now ≡ self.now.events }
+    /// What happened at all nodes, in one order: on the threads, and then in the drain. The order is made by this
+    /// call, since only a journal needs it.
+    pub fn events(&self, alloc: Global) -> Result<Vec<Event>, OutOfMemory>
+        ensures { IfOk result (λ events. events.items ≡ self.now.events) }
     {
-        &self.events
+        let mut events = merge(alloc, &self.histories)?;
+        events.extend_from_slice(&self.drain)?;
+        Ok(events)
     }
 
     /// How it ended: whole, or with the first lost pair.

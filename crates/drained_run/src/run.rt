@@ -1,8 +1,6 @@
-// A run: the nodes on threads, their histories in one list, and the drain on the caller.
+// A run: the nodes on threads, and then the drain on the caller.
 ghost use Rattle.drained_run.specs.Ended.{IsEnded};
-ghost use Rattle.pair_machine.specs.Joint.{logged_events};
-ghost use Rattle.run_journal.specs.Logs.{AreMergeable, log_of_histories};
-ghost use Rattle.std.specs.Prelude.{◌≡◌, ◌≤◌, IfOk};
+ghost use Rattle.std.specs.Prelude.{◌≤◌, IfOk};
 ghost use Rattle.trade_text.specs.TradesView.{inputs_in};
 
 use crate::ended::Ended;
@@ -11,19 +9,10 @@ use failure_script::Script;
 use flux_core::Core;
 use partition_runner::{Gate, Ran, run_nodes};
 use plan_reader::Plan;
-use run_journal::merge;
 use std::alloc::Global;
 use std::thread::Threads;
 use trade_text::Trades;
-use tuple_edge::{Event, History, OutOfMemory};
-
-// The events of histories in one list; the histories are let go before anything else is done.
-fn merged(alloc: Global, histories: Vec<History>) -> Result<Vec<Event>, OutOfMemory>
-    requires { AreMergeable histories.items }
-    ensures { IfOk result (λ events. events.items ≡ logged_events (log_of_histories histories.items)) }
-{
-    merge(alloc, &histories)
-}
+use tuple_edge::OutOfMemory;
 
 /// Runs a plan over its trades under a failure script: its nodes by so many workers, each for so many turns or
 /// until egress is done, and then the drain on the caller.
@@ -54,12 +43,13 @@ pub fn run_and_drain<R: Threads + Sync, G: Gate>(
         egress,
         histories,
     } = run_nodes(rt, alloc, plan, trades, script, threads, turns, gate)?;
-    let mut events = merged(alloc, histories)?;
     let mut core = Core::of(alloc, plan, ingress, replicas, controls, egress)?;
+    let mut events = Vec::new(alloc);
     let drained = drain(&mut core, &mut events)?;
     Ok(Ended {
         core,
-        events,
+        histories,
+        drain: events,
         drained,
     })
 }

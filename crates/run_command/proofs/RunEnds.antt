@@ -1,5 +1,5 @@
 -- From the end of a run, as a list of events and its rows, to what is written and saved.
-use Rattle.std.proofs.Common.{ℕ, ◌≡◌, ◌∙◌, suc, Bool, true, List, [], ◌∷◌, length, refl, ap, sym, subst, Option, Ok, Err}
+use Rattle.std.proofs.Common.{ℕ, ◌≡◌, ◌∙◌, suc, Bool, true, List, [], ◌∷◌, length, refl, ap, sym, subst, Ok, Err}
 use Rattle.std.specs.Prelude.{IfOk, Result, Vec, if◌then◌else◌}
 use Rattle.std.specs.declared.alloc.Global.{Global}
 use Rattle.tuple_edge.specs.declared.memory.OutOfMemory.{OutOfMemory}

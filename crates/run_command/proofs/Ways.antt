@@ -1,5 +1,5 @@
 -- A course that comes to a run: its inputs are read, and then the plan is run.
-use Rattle.std.proofs.Common.{ℕ, ◌≡◌, Bool, List, [], refl, ap, sym, subst, Option, Ok, Err}
+use Rattle.std.proofs.Common.{ℕ, ◌≡◌, Bool, List, [], ap, sym, subst, Option, Ok, Err}
 use Rattle.std.specs.Prelude.{IfErr, IfOk, Result}
 use Rattle.pair_machine.specs.declared.order.Order.{Order}
 use Rattle.trade_text.specs.Kinds.{trades_kind}

@@ -1,5 +1,5 @@
 -- The courses of the commands `run` and `trial`.
-use Rattle.std.specs.Prelude.{ℕ, Bool, false, true, List, [], Option}
+use Rattle.std.specs.Prelude.{ℕ, Bool, false, true, List, []}
 use Rattle.command_line.specs.Forms.{Options}
 use Rattle.plan_reader.specs.PlanView.{PlanView}
 use Rattle.trade_text.specs.Kinds.{trades_kind}

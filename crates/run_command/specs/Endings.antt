@@ -1,5 +1,5 @@
 -- How a run ends: what is written, and the journal that is saved.
-use Rattle.std.specs.Prelude.{ℕ, ◌≡◌, List, [], length, Option, option_map, if◌then◌else◌, string_bytes}
+use Rattle.std.specs.Prelude.{ℕ, ◌≡◌, List, [], length, Option, option_map, if◌then◌else◌}
 use Rattle.tuple_edge.specs.declared.event.Drained.{Drained}
 use Rattle.tuple_edge.specs.declared.event.Drained.TheVariants as drained
 use Rattle.tuple_edge.specs.declared.event.Event.{Event}

@@ -1,5 +1,5 @@
 // The end of a run, as texts.
-ghost use Rattle.std.specs.Prelude.{◌≡◌, ◌≤◌, IfErr, IfOk, List, option_map};
+ghost use Rattle.std.specs.Prelude.{◌≡◌, IfOk, option_map};
 ghost use Rattle.command_course.specs.Course.{Run};
 ghost use Rattle.command_course.specs.Feeds.{IsFed, feed_of};
 ghost use Rattle.command_line.specs.Views.{AreInRange, options_in};
@@ -8,16 +8,16 @@ ghost use Rattle.run_command.specs.Endings.{HasEnded, TextIs, ending_of, journal
 ghost use Rattle.tuple_edge.specs.declared.row.Row.{Row};
 
 use crate::outcome::{Journal, Outcome};
-use command_course::{Feed, Stop};
+use command_course::Feed;
 use command_line::RunOptions;
-use drained_run::{Gate, run_and_drain};
+use drained_run::{Ended, Gate, run_and_drain};
 use failure_script::Script;
 use run_journal::write_events;
 use std::alloc::Global;
 use std::thread::Threads;
 use trade_maker::write_summary;
 use trade_text::write_output;
-use tuple_edge::{Drained, Event, OutOfMemory, Row};
+use tuple_edge::{Drained, OutOfMemory, Row};
 
 // The text of the rows that egress emitted, or their summary.
 fn text_of(
@@ -37,20 +37,21 @@ fn text_of(
     }
 }
 
-// The journal of these events, where a file is named for it.
+// The journal of a run, where a file is named for it.
 fn journal_of<'a>(
     alloc: Global,
     name: Option<&'a str>,
-    events: &[Event],
+    ended: &Ended,
 ) -> Result<Option<Journal<'a>>, OutOfMemory>
-    ensures { IfOk result (λ journal. option_map (λ j. (j.name.now, j.bytes.items)) journal ≡ journal_of (option_map (λ n. n.now) name.entry) events.now) }
+    ensures { IfOk result (λ journal. option_map (λ j. (j.name.now, j.bytes.items)) journal ≡ journal_of (option_map (λ n. n.now) name.entry) ended.now.events) }
 {
-    match name {
-        None => Ok(None),
-        Some(name) => match write_events(alloc, events) {
-            Ok(bytes) => Ok(Some(Journal { name, bytes })),
-            Err(_) => Err(OutOfMemory),
-        },
+    let Some(name) = name else {
+        return Ok(None);
+    };
+    let events = ended.events(alloc)?;
+    match write_events(alloc, &events) {
+        Ok(bytes) => Ok(Some(Journal { name, bytes })),
+        Err(_) => Err(OutOfMemory),
     }
 }
 
@@ -80,7 +81,7 @@ pub(crate) fn run_end<'a, R: Threads + Sync, G: Gate>(
     )?;
     let drained = ended.drained();
     let text = text_of(alloc, feed, ended.rows(), drained, is_summary)?;
-    let journal = journal_of(alloc, options.journal, ended.events())?;
+    let journal = journal_of(alloc, options.journal, &ended)?;
     Ok(Outcome {
         text,
         journal,

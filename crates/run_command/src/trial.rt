@@ -1,7 +1,6 @@
 // The command `trial`: a run over made trades, with a summary in place of the rows.
 ghost use Rattle.std.specs.Prelude.{◌≡◌, ◌≤◌, false, true, IfErr, IfOk, OnOk, Ok};
 ghost use Rattle.command_course.specs.Feeds.{with_movements};
-ghost use Rattle.command_course.specs.Inputs.{rows_or_line};
 ghost use Rattle.command_course.specs.Steps.{HasReadCause, IsWant, StopsOf};
 ghost use Rattle.command_line.specs.Forms.{max_count, max_start};
 ghost use Rattle.command_line.specs.Views.{AreInRange, options_in};

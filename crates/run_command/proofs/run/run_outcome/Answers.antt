@@ -1,4 +1,4 @@
-use Rattle.std.proofs.Common.{false, option_map}
+use Rattle.std.proofs.Common.{false}
 use Rattle.command_course.specs.Feeds.{feed_of, with_feed}
 use Rattle.command_line.specs.Views.{options_in, text_in}
 use Rattle.run_command.specs.Courses.{runs}
