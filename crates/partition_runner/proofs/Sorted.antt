@@ -8,7 +8,7 @@ use Rattle.tuple_edge.specs.declared.node.NodeId.{NodeId}
 use Rattle.tuple_edge.specs.declared.node.NodeId.TheVariants as node
 use Rattle.plan_reader.specs.PlanView.{PlanView}
 use Rattle.pair_machine.specs.Counts.{flow_of}
-use Rattle.pair_machine.specs.Joint.{AreRising, IsLog, Logged}
+use Rattle.pair_machine.specs.Joint.{AreRising, IsLog}
 use Rattle.pair_machine.specs.Joint as joint
 use Rattle.pair_machine.specs.Lists.{Among, Each}
 use Rattle.pair_machine.specs.Machine.{State}

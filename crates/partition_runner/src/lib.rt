@@ -26,6 +26,7 @@ mod ran;
 mod ready;
 mod receiving;
 mod rings;
+mod round;
 mod running;
 mod runs;
 mod sending;

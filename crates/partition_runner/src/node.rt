@@ -29,6 +29,7 @@ use crate::out_end::OutEnd;
 use crate::outs::Outs;
 use crate::part::Part;
 use crate::receiving::receive;
+use crate::round::Round;
 use crate::tap::Tap;
 use plan_reader::Plan;
 use std::alloc::Global;
@@ -54,8 +55,8 @@ pub struct Node<N: RunNames, A: Acts, M: Links, T: Tap> {
     pub(crate) history: Vec<Stamped>,
     // What the orders of the script have made it do.
     pub(crate) fired: Fired,
-    // The in-link that is tried first.
-    next: usize,
+    // Which in-links this turn is still to look at.
+    round: Round,
     pub(crate) tap: Option<T>,
     of: PhantomData<N>,
 }
@@ -108,7 +109,7 @@ impl<N: RunNames, A: Acts, M: Links, T: Tap> Node<N, A, M, T> {
             clock: 0,
             history: Vec::new(alloc),
             fired: Fired::nothing(),
-            next: 0,
+            round: Round::none(),
             tap,
             of: PhantomData,
         }
@@ -130,7 +131,7 @@ impl<N: RunNames, A: Acts, M: Links, T: Tap> Node<N, A, M, T> {
             clock: _,
             history,
             fired: _,
-            next: _,
+            round: _,
             tap,
             of: _,
         } = self;
@@ -178,7 +179,7 @@ impl<N: RunNames, A: Acts, M: Links, T: Tap> Node<N, A, M, T> {
         if let Some(kept) = self.kept {
             return Some(kept);
         }
-        self.kept = receive(&mut self.ins, &mut self.next);
+        self.kept = receive(&mut self.ins, &mut self.round);
         self.kept
     }
 
@@ -235,11 +236,11 @@ impl<N: RunNames, A: Acts, M: Links, T: Tap> Node<N, A, M, T> {
         tap.offer(self.state.emitted());
     }
 
-    // Pushes what waits, and tries the next in-link first from now on.
+    // Pushes what waits, and begins a round over its in-links.
     pub(crate) fn begin_turn(&mut self)
         ensures { name_of A.id self.new ≡ name_of A.id self.old }
     {
         self.outs.flush();
-        self.next = self.next.wrapping_add(1);
+        self.round = self.round.renewed(self.ins.len());
     }
 }

@@ -1,6 +1,5 @@
 // The nodes of a plan, in their order.
 ghost use Rattle.partition_runner.specs.NodeOrder.{nodes_before_egress, pair_nodes, stage_nodes};
-ghost use Rattle.plan_reader.specs.PlanView.{IsPlan};
 ghost use Rattle.std.specs.Prelude.{◌≡◌, ◌++◌, ◌∷◌, [], IfOk, OnOk};
 
 use plan_reader::Plan;
