@@ -1,5 +1,5 @@
 // How events are read.
-ghost use Rattle.std.specs.Prelude.{All, ◌≡◌, ◌≤◌, IfOk, length};
+ghost use Rattle.std.specs.Prelude.{All, ◌≤◌, IfOk, length};
 ghost use Rattle.plan_reader.specs.Reading.{Reads, Takes};
 ghost use Rattle.run_journal.specs.Events.{body_of, events_of, events_of_lines, header_at, with_line, with_lines};
 ghost use Rattle.run_journal.specs.Limits.{max_events};

@@ -6,45 +6,11 @@ ghost use Rattle.tuple_edge.specs.declared.event.Event.{Event as NodeEvent};
 ghost use Rattle.plan_reader.specs.PlanView.{IsPlan, PlanView};
 ghost use Rattle.plan_reader.specs.Text.{line_text};
 ghost use Rattle.run_journal.specs.Events.{events_of};
-ghost use Rattle.run_journal.specs.Text.{AreSayable, event_words, events_text, letter_of, lined_from, link_name, member_name, node_name};
+ghost use Rattle.run_journal.specs.Text.{AreSayable, event_words, events_text, lined_from, link_name, node_name};
 
+use crate::name_text::push_node;
 use std::alloc::Global;
-use tuple_edge::{Event, LinkId, NodeId, OutOfMemory, Which};
-
-fn letter_of(which: Which) -> &'static str
-    ensures { result.now ≡ letter_of which }
-{
-    match which {
-        Which::A => "a",
-        Which::B => "b",
-    }
-}
-
-// Appends the name of a node of the pair that runs this partition of this stage.
-fn push_member(text: &mut String, stage: u32, part: u32, letter: &str) -> Result<(), OutOfMemory>
-    ensures { OnOk result (string_bytes text.new ≡ string_bytes text.old ++ member_name stage part letter.now) }
-{
-    write!(text, "{stage}.{part}.{letter}")?;
-    Ok(())
-}
-
-// Appends the name of a node.
-fn push_node(text: &mut String, node: NodeId) -> Result<(), OutOfMemory>
-    ensures { OnOk result (string_bytes text.new ≡ string_bytes text.old ++ node_name node) }
-{
-    match node {
-        NodeId::Ingress => {
-            text.push_str("in")?;
-            Ok(())
-        }
-        NodeId::Replica { stage, part, which } => push_member(text, stage, part, letter_of(which)),
-        NodeId::Control { stage, part } => push_member(text, stage, part, "c"),
-        NodeId::Egress => {
-            text.push_str("out")?;
-            Ok(())
-        }
-    }
-}
+use tuple_edge::{Event, LinkId, NodeId, OutOfMemory};
 
 // Appends the line of a word and a node.
 fn push_at_node(text: &mut String, word: &str, node: NodeId) -> Result<(), OutOfMemory>

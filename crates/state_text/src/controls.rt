@@ -3,8 +3,9 @@ ghost use Rattle.pair_control.specs.ControllerView.{numbers_of, watched_numbers,
 ghost use Rattle.state_text.specs.StateText.{controller_text, leader_word, reports_line, status_word, term_line, watched_line};
 ghost use Rattle.std.specs.Prelude.{◌≡◌, ◌<◌, ◌++◌, OnOk, length, string_bytes};
 
-use crate::names::{flag_word, letter_of};
+use crate::names::flag_word;
 use pair_control::PairControl;
+use run_journal::letter_of;
 use tuple_edge::{OutOfMemory, Status, Which};
 
 fn leader_word(leader: Option<Which>) -> &'static str

@@ -13,9 +13,9 @@ ghost use Rattle.std.specs.List.{flat_map};
 ghost use Rattle.std.specs.Prelude.{◌≡◌, ◌<◌, ◌+◌, ◌++◌, ◌^◌, All, IfOk, IsTrue, OnOk, codes, if◌then◌else◌, length, string_bytes, take};
 ghost use Rattle.tuple_edge.specs.declared.node.NodeId.{NodeId as Node};
 
-use crate::names::push_node;
 use crate::nodes::nodes_of;
 use flux_core::Core;
+use run_journal::push_node;
 use std::alloc::Global;
 use std::collections::BTreeMap;
 use tuple_edge::{NodeId, OutOfMemory, Outbox};

@@ -1,52 +1,17 @@
 // The names of nodes, and short words.
-ghost use Rattle.plan_reader.specs.Lines.{Word};
-ghost use Rattle.run_journal.specs.Text.{letter_of, member_name, node_name};
+ghost use Rattle.run_journal.specs.Text.{node_name};
 ghost use Rattle.state_text.specs.StateText.{flag_word, source_name};
-ghost use Rattle.std.specs.Prelude.{◌≡◌, ◌++◌, IfOk, OnOk, string_bytes};
+ghost use Rattle.std.specs.Prelude.{◌≡◌, IfOk, string_bytes};
 
+use run_journal::push_node;
 use std::alloc::Global;
-use tuple_edge::{NodeId, OutOfMemory, Which};
-
-pub(crate) fn letter_of(which: Which) -> &'static str
-    ensures { result.now ≡ letter_of which }
-{
-    match which {
-        Which::A => "a",
-        Which::B => "b",
-    }
-}
+use tuple_edge::{NodeId, OutOfMemory};
 
 // A truth value as a digit.
 pub(crate) fn flag_word(flag: bool) -> &'static str
     ensures { result.now ≡ flag_word flag }
 {
     if flag { "1" } else { "0" }
-}
-
-// Appends the name of a node of the pair that runs this partition of this stage.
-fn push_member(text: &mut String, stage: u32, part: u32, letter: &str) -> Result<(), OutOfMemory>
-    ensures { OnOk result (string_bytes text.new ≡ string_bytes text.old ++ member_name stage part letter.now) }
-{
-    write!(text, "{stage}.{part}.{letter}")?;
-    Ok(())
-}
-
-// Appends the name of a node.
-pub(crate) fn push_node(text: &mut String, node: NodeId) -> Result<(), OutOfMemory>
-    ensures { OnOk result (string_bytes text.new ≡ string_bytes text.old ++ node_name node) }
-{
-    match node {
-        NodeId::Ingress => {
-            text.push_str("in")?;
-            Ok(())
-        }
-        NodeId::Replica { stage, part, which } => push_member(text, stage, part, letter_of(which)),
-        NodeId::Control { stage, part } => push_member(text, stage, part, "c"),
-        NodeId::Egress => {
-            text.push_str("out")?;
-            Ok(())
-        }
-    }
 }
 
 // The name of a node.
