@@ -1,5 +1,5 @@
 // The buckets of a stage: where each stands, what is kept of it, and the answers so far.
-ghost use Rattle.std.specs.Prelude.{◌≡◌, ◌<◌, ◌≤◌, ◌++◌, ◌∷◌, [], List, All, IfOk, IsTrue, OnErr, OnOk, false, is_err, length, replicate, slice_index, slice_set};
+ghost use Rattle.std.specs.Prelude.{◌≡◌, ◌<◌, ◌≤◌, ◌++◌, ◌∷◌, [], List, All, IfOk, IsTrue, OnErr, OnOk, false, is_err, replicate, slice_set};
 ghost use Rattle.tuple_edge.specs.declared.row.Row.{Row};
 ghost use Rattle.stream_ops.specs.Answers.{answers};
 ghost use Rattle.stream_ops.specs.Spec.{IsSpec};
@@ -8,7 +8,7 @@ ghost use Rattle.stream_ops.specs.Times.{IsTime};
 ghost use Rattle.plan_reader.specs.PlanView.{IsPlan};
 ghost use Rattle.plan_reader.specs.declared.stage.Stage.{Stage};
 ghost use Rattle.bucket_move.specs.BucketsView.{Call, Feeds, IsAfter, Moves, fed, keys_at, opening_table, part_of, table_after};
-ghost use Rattle.bucket_move.specs.ByKey.{is_by_key, is_keyed};
+ghost use Rattle.bucket_move.specs.ByKey.{is_by_key};
 ghost use Rattle.bucket_move.specs.Limits.{buckets};
 ghost use Rattle.bucket_move.specs.Rows.{items_of};
 ghost use Rattle.bucket_move.specs.Working.{kept_in};
@@ -21,7 +21,7 @@ use std::alloc::Global;
 use std::marker::Model;
 use std::thread::Threads;
 use stream_ops::{OpSpec, OpState};
-use tuple_edge::{Item, OutOfMemory, Row};
+use tuple_edge::{OutOfMemory, Row};
 
 /// An operator that is by key, split by the buckets of its rows. Each bucket stands at a partition,
 /// which keeps what the operator needs of the bucket's rows, and moves to another one whole.

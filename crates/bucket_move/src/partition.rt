@@ -1,5 +1,5 @@
 // One partition: what it keeps of the buckets that stand there, and its answers to the rows of a call.
-ghost use Rattle.std.specs.Prelude.{ℕ, ◌≡◌, ◌<◌, ◌≤◌, ◌+◌, ◌++◌, ◌∷◌, [], List, All, IfOk, OnOk, drop, length, replicate, slice_index_or, slice_set, true, false};
+ghost use Rattle.std.specs.Prelude.{ℕ, ◌≡◌, ◌<◌, ◌+◌, ◌++◌, ◌∷◌, [], List, All, IfOk, OnOk, drop, length, replicate, slice_index_or, slice_set, true, false};
 ghost use Rattle.tuple_edge.specs.declared.row.Row.{Row};
 ghost use Rattle.stream_ops.specs.Kept.{keys_after};
 ghost use Rattle.stream_ops.specs.Spec.{IsSpec};

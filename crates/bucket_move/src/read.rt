@@ -1,5 +1,5 @@
 // How moves are read.
-ghost use Rattle.std.specs.Prelude.{◌≡◌, ◌≤◌, All, IfOk};
+ghost use Rattle.std.specs.Prelude.{◌≤◌, All, IfOk};
 ghost use Rattle.plan_reader.specs.Reading.{Reads, Takes};
 ghost use Rattle.bucket_move.specs.Moves.{Gives, body_of, moves_of, moves_of_lines, next_shift, shifts_after, with_line};
 ghost use Rattle.bucket_move.specs.Shifts.{DontFall, IsShiftOf, last_at};

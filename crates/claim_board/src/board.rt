@@ -1,5 +1,5 @@
 // The board, and the calls that threads make between its making and its closing.
-ghost use Rattle.std.specs.Prelude.{◌≡◌, ◌+◌, ◌<◌, ◌≤◌, length};
+ghost use Rattle.std.specs.Prelude.{◌≡◌, ◌+◌, ◌<◌, length};
 
 use crate::rule::{Claim, Halt, Look, OfBoard, Opening, Release};
 use crate::seat::BoardSeat;

@@ -2,10 +2,10 @@
 use Rattle.std.proofs.Common.{ℕ, ◌≡◌, ◌<◌, ◌∙◌, true, false, List, [], ◌∷◌, ◌++◌, length, refl, sym, ap, subst, append_assoc, append-nil, string_bytes, Option, Some, None, Ok, Err, ⊎_elim, inl, inr}
 use Rattle.std.specs.Prelude.{IfErr, IfOk, Result, Vec}
 use Rattle.std.specs.declared.alloc.Global.{Global}
-use Rattle.command_course.specs.Course.{AtReading, Between, Came, CameToRead, Course, Leads, Reading, Reads, Refuses, Runs, StoppedShort, Way, Writes, reads, ◌>>=◌}
+use Rattle.command_course.specs.Course.{AtReading, Between, Came, CameToRead, Course, Leads, Reading, Reads, Refuses, Runs, StoppedShort, Writes, reads, ◌>>=◌}
 use Rattle.command_course.specs.Lines.{cannot_read_line}
 use Rattle.flux_outside.specs.Outside.{Adds, Call, IsHeld, IsRead, Joins, Names, Read, StopsAtWant, Wants, WantsLast}
-use Rattle.command_course.specs.Steps.{Gives, GivesBy, IsRefusedBy, IsUnreadBy, StopsAt, StopsBy, StopsOf, StopsOn}
+use Rattle.command_course.specs.Steps.{Gives, IsRefusedBy, IsUnreadBy, StopsAt, StopsOf, StopsOn}
 use Rattle.flux_outside.specs.declared.outside.Got.TheVariants as got
 use Rattle.command_course.specs.declared.stop.Stop.{Stop}
 use Rattle.command_course.specs.declared.stop.Stop.TheVariants as stop

@@ -1,10 +1,10 @@
 -- One way behind the other: a value is read, and then what goes on with it.
-use Rattle.std.proofs.Common.{ℕ, ◌≡◌, List, refl, ap, sym, subst, Option, Some, None, Ok, Err}
+use Rattle.std.proofs.Common.{ℕ, ◌≡◌, List, refl, ap, sym, subst, Option, Some, Ok, Err}
 use Rattle.std.specs.Prelude.{◌≢◌, IfErr, IfOk, Result, if◌then◌else◌}
 use Rattle.std.proofs.lemmas.Bool.{eq-eqb}
 use Rattle.merge_order.proofs.Choices.{nat_not}
 use Rattle.plan_reader.specs.PlanView.{PlanView}
-use Rattle.command_course.specs.Course.{Between, Came, Course, Refuses, Way}
+use Rattle.command_course.specs.Course.{Between, Came, Refuses, Way}
 use Rattle.command_course.specs.Feeds.{for_plan}
 use Rattle.command_course.specs.Lines.{not_in_plan_line}
 use Rattle.command_course.specs.Steps.{GivesBy, IsRefusedBy, StopsBy, StopsOf}

@@ -1,5 +1,5 @@
 // The reading of an input: a file is read and checked before the next one is read.
-ghost use Rattle.std.specs.Prelude.{◌≡◌, ◌<◌, ◌≤◌, ℕ, List, length, Ok, IfErr, IfOk, OnOk, string_bytes};
+ghost use Rattle.std.specs.Prelude.{◌≡◌, ◌<◌, ℕ, List, length, Ok, IfErr, IfOk, OnOk, string_bytes};
 ghost use Rattle.command_course.specs.Course.{Reading};
 ghost use Rattle.command_course.specs.Lines.{cannot_read_line, line_of};
 ghost use Rattle.flux_outside.specs.Outside.{StopsAtWant};

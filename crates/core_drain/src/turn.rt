@@ -2,7 +2,7 @@
 ghost use Rattle.core_drain.specs.Progress.{IsAfter, IsTurnOf, IsWithin, Keeps, MayBegin, Start, before_turn, done_before, flow_at, pulls_of, turn_of};
 ghost use Rattle.pair_machine.specs.Drain.{drain_events};
 ghost use Rattle.plan_reader.specs.Nodes.{has_node, has_pair, is_consumer, stage_of_node};
-ghost use Rattle.std.specs.Prelude.{◌≡◌, ◌≢◌, ◌≤◌, ◌+◌, ◌++◌, [], IsTrue, OnErr, OnOk, length};
+ghost use Rattle.std.specs.Prelude.{◌≡◌, ◌≤◌, ◌+◌, ◌++◌, [], IsTrue, OnErr, OnOk, length};
 ghost use Rattle.tuple_edge.specs.declared.node.NodeId.TheVariants as node;
 
 use crate::next::repeat;

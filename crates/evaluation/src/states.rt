@@ -1,5 +1,5 @@
 // The operators of a stage's partitions, and what they answer to rows. Answers don't depend on stamps, so every item has stamp 0 here.
-ghost use Rattle.std.specs.Prelude.{◌≡◌, ◌≤◌, ◌<◌, ◌++◌, ◌∷◌, ℕ, [], All, IfOk, List, OnOk, length};
+ghost use Rattle.std.specs.Prelude.{◌≡◌, ◌≤◌, ◌<◌, ◌++◌, ◌∷◌, [], All, IfOk, List, OnOk, length};
 ghost use Rattle.evaluation.specs.StageRows.{HasTaken, HasTime, PartsTook, alike, early_replies, late_replies, row_replies, rows_to};
 ghost use Rattle.plan_reader.specs.PlanView.{IsStage};
 ghost use Rattle.stream_ops.specs.Answers.{answers};

@@ -1,5 +1,5 @@
 // How a script is read.
-ghost use Rattle.std.specs.Prelude.{◌≡◌, All, IfOk, OnErr};
+ghost use Rattle.std.specs.Prelude.{All, IfOk};
 ghost use Rattle.plan_reader.specs.Reading.{Takes};
 ghost use Rattle.failure_script.specs.Orders.{IsOrderOf};
 ghost use Rattle.failure_script.specs.Script.{Gives, next_order, orders_after, script_of, with_line};

@@ -2,7 +2,7 @@
 ghost use Rattle.std.specs.Prelude.{◌≡◌, true, IfOk, IfSome};
 ghost use Rattle.plan_reader.specs.Nodes.{has_node, is_replica};
 ghost use Rattle.plan_reader.specs.Reading.{Takes, TakesBy};
-ghost use Rattle.failure_script.specs.Grammar.{back_at, back_of, end_at, fixed_at, is_kill, items_at, items_of, kill_at, order_at, replica_at, word_at};
+ghost use Rattle.failure_script.specs.Grammar.{back_at, end_at, fixed_at, is_kill, items_at, items_of, kill_at, order_at, replica_at, word_at};
 ghost use Rattle.failure_script.specs.Orders.{IsItems, IsOrderOf};
 
 use crate::error::Fault;

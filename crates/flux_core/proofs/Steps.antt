@@ -13,7 +13,7 @@ use Rattle.pair_machine.specs.Courses.{Pairwise}
 use Rattle.pair_machine.specs.Flow.{Flow}
 use Rattle.pair_machine.specs.Journal.{TakesNoMessage}
 use Rattle.pair_machine.specs.Links.{HasNode, IsThere, link}
-use Rattle.pair_machine.specs.Machine.{State, act_of, acted, after, at_node, buffer_of, changed, does, mark_of, messages_to, posted, pull_of, source_pulled, step}
+use Rattle.pair_machine.specs.Machine.{State, act_of, acted, after, at_node, buffer_of, changed, mark_of, messages_to, posted, pull_of, source_pulled, step}
 use Rattle.pair_machine.specs.Machine as machine
 use Rattle.pair_machine.specs.Messages.{Act, AsksBack, AsksStop, Dies, Makes, Message, Pulls, Refusal, Works}
 use Rattle.pair_machine.specs.Numbers.{Node, is_node}

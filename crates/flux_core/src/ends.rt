@@ -1,14 +1,13 @@
 // The two ends of a pull.
-ghost use Rattle.flux_core.specs.CoreView.{HasPlaces, station};
+ghost use Rattle.flux_core.specs.CoreView.{station};
 ghost use Rattle.flux_core.specs.Ends.{IsNextSource, IsSourceOf, consumer_in, producer_in};
-ghost use Rattle.flux_core.specs.CoreView.{IngressIs, flow_in};
+ghost use Rattle.flux_core.specs.CoreView.{flow_in};
 ghost use Rattle.flux_core.specs.Acts.{IsTimelyTask};
 ghost use Rattle.flux_core.specs.Refusals.{IsRefusal};
 ghost use Rattle.flux_core.specs.Stands.{IsCore, StandsFor};
 ghost use Rattle.flux_core.specs.Steps.{IsTaskOf};
 ghost use Rattle.flux_core.specs.declared.error.ApplyError.TheVariants as error;
 ghost use Rattle.flux_producer.specs.ProducerView.{contents_of};
-ghost use Rattle.ingress_egress.specs.IngressView.{IngressView};
 ghost use Rattle.pair_machine.specs.Machine.{State, act_of};
 ghost use Rattle.plan_reader.specs.Nodes.{has_edge, has_node};
 ghost use Rattle.std.specs.Option.{option_map};

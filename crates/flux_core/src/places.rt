@@ -1,7 +1,6 @@
 // Where a node stands among those of its kind.
 ghost use Rattle.flux_core.specs.CoreView.{pair_place, replica_place};
 ghost use Rattle.plan_reader.specs.Nodes.{has_pair};
-ghost use Rattle.plan_reader.specs.PlanView.{IsPlan};
 ghost use Rattle.std.specs.Prelude.{◌≡◌, ◌<◌, ◌^◌, IsTrue};
 
 use plan_reader::Plan;

@@ -1,11 +1,8 @@
 // What a pull finds at its two ends.
-ghost use Rattle.ack_buffer.specs.Buffer.{item_at};
-ghost use Rattle.flux_core.specs.Pulls.{IsAhead, IsKept, IsNoPull, IsPullOf};
+ghost use Rattle.flux_core.specs.Pulls.{IsAhead, IsNoPull, IsPullOf};
 ghost use Rattle.flux_core.specs.declared.error.ApplyError.TheVariants as error;
-ghost use Rattle.flux_producer.specs.ProducerView.{buffer_at};
-ghost use Rattle.merge_order.specs.MergeView.{mark_of};
 ghost use Rattle.std.specs.Option.{option_map};
-ghost use Rattle.std.specs.Prelude.{◌≡◌, ◌≤◌, ◌<◌, ◌↔◌, IfErr, IfOk, IsTrue, Some, length};
+ghost use Rattle.std.specs.Prelude.{◌≡◌, ◌<◌, ◌↔◌, IfErr, IfOk, IsTrue, Some, length};
 
 use crate::acts::Task;
 use crate::error::ApplyError;

@@ -1,7 +1,7 @@
 -- One call of an inlet after others.
 use Rattle.flux_link.specs.LossyInlets.{Leads}
 use Rattle.flux_link.specs.declared.arrival.Arrival.{Arrival}
-use Rattle.std.proofs.Common.{◌≡◌, List, [], ◌∷◌, ◌++◌, Option, Some, refl, subst, sym}
+use Rattle.std.proofs.Common.{List, [], ◌∷◌, ◌++◌, Option, Some, refl, subst, sym}
 
 module _ {I : Type 0} (receives : I → Option Arrival → I → Type 0) where
   pub leads_on : (arrivals : List Arrival) (before now after : I) (arrival : Arrival)

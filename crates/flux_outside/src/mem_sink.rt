@@ -1,6 +1,6 @@
 // A sink in memory, which fails where it is told to.
-ghost use Rattle.std.specs.Prelude.{◌≡◌, ◌<◌, ◌≤◌, [], None, IfOk, OnErr, OnOk, Some, length, take};
-ghost use Rattle.flux_outside.specs.Memory.{MemSinkView, after_put, put_answer, put_fails};
+ghost use Rattle.std.specs.Prelude.{◌≡◌, ◌<◌, ◌≤◌, [], None, IfOk, OnErr, Some, length, take};
+ghost use Rattle.flux_outside.specs.Memory.{MemSinkView, after_put, put_answer};
 ghost use Rattle.flux_outside.specs.Outside.{IsOffered, Rose, Takes, TakesPart};
 
 use crate::{Failed, Sink};

@@ -1,13 +1,12 @@
 // One out-edge of a producer.
-ghost use Rattle.ack_buffer.specs.Buffer.{BufferView, item_at};
+ghost use Rattle.ack_buffer.specs.Buffer.{item_at};
 ghost use Rattle.flux_producer.specs.Limits.{max_copies};
-ghost use Rattle.flux_producer.specs.OutEdge.{acknowledged, cursor_of, over, rewound, sent, unused, wanted, with_item, with_room};
+ghost use Rattle.flux_producer.specs.OutEdge.{acknowledged, cursor_of, over, rewound, sent, wanted, with_item, with_room};
 ghost use Rattle.flux_producer.specs.ProducerView.{without_room};
 ghost use Rattle.std.specs.Prelude.{◌≡◌, ◌≤◌, ◌<◌, ◌+◌, IfOk, IfSome, IfNone, OnErr, OnOk};
 ghost use Rattle.tuple_edge.specs.Limits.{number_limit};
 
 use ack_buffer::AckBuffer;
-use std::alloc::Global;
 use std::marker::Model;
 use tuple_edge::{Item, OutOfMemory};
 

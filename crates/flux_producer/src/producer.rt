@@ -3,10 +3,10 @@ ghost use Rattle.ack_buffer.specs.Buffer.{item_at};
 ghost use Rattle.flux_producer.specs.Due.{IsLeast, NoneWaits, due_at, due_of, due_to};
 ghost use Rattle.flux_producer.specs.Limits.{max_copies};
 ghost use Rattle.flux_producer.specs.OutEdge.{over, rewound, unused, with_item};
-ghost use Rattle.flux_producer.specs.ProducerView.{HasRoom, HaveMoreRoom, KeepsRoom, MayGrow, acked, buffer_at, contents_of, cursor_at, edge_at, emitted, emitted_to_all, id_of, leading, opening, over_buffers, sent_on, wanted_from, without_room};
+ghost use Rattle.flux_producer.specs.ProducerView.{HasRoom, HaveMoreRoom, KeepsRoom, MayGrow, acked, buffer_at, contents_of, cursor_at, edge_at, emitted, emitted_to_all, id_of, leading, opening, over_buffers, sent_on, wanted_from};
 ghost use Rattle.flux_producer.specs.StandsFor.{BuffersStandFor, StandsFor, with_next};
 ghost use Rattle.std.specs.Prelude.{◌≡◌, ◌≢◌, ◌≤◌, ◌<◌, ◌+◌, ◌-◌, ◌++◌, ◌∷◌, ◌↔◌, [], ℕ, List, length, None, Some, IfOk, OnErr, OnOk, IsTrue, IfNone, IfSome, map, replicate, slice_get};
-ghost use Rattle.tuple_edge.specs.Limits.{edge_limit, number_limit};
+ghost use Rattle.tuple_edge.specs.Limits.{number_limit};
 ghost use Rattle.tuple_edge.specs.declared.item.Item.{Item};
 
 use crate::Due;

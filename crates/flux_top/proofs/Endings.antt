@@ -1,5 +1,5 @@
 -- What words come to, of the end of the course that they ask for.
-use Rattle.std.proofs.Common.{ℕ, ◌≡◌, List, [], ◌++◌, refl, ap, sym, subst, append-nil, Option, Some, None, Ok, Err, ⊎_elim, inl, inr}
+use Rattle.std.proofs.Common.{ℕ, ◌≡◌, List, [], refl, ap, sym, subst, append-nil, Option, Some, None, Ok, Err, ⊎_elim, inl, inr}
 use Rattle.std.specs.Prelude.{IfErr, IfOk, IfSome, OnOk, Result, Vec, option_map}
 use Rattle.std.specs.declared.alloc.Global.{Global}
 use Rattle.tuple_edge.specs.declared.event.Drained.{Drained}
@@ -14,9 +14,9 @@ use Rattle.command_line.specs.Forms.{Request, form}
 use Rattle.flux_outside.specs.Outside.{Adds, Call, Names}
 use Rattle.run_command.specs.Endings.{CameToRun, Ending, HasEnded, ending_of}
 use Rattle.run_command.specs.declared.outcome.Outcome.{Outcome}
-use Rattle.flux_top.specs.Clauses.{Faults, Finishes, HasCause, IsQuiet, SavesNot, SinkTells, StopsShort, StopsTo, WritesWhole}
+use Rattle.flux_top.specs.Clauses.{Faults, Finishes, HasCause, IsQuiet, SavesNot, SinkTells, StopsTo, WritesWhole}
 use Rattle.flux_top.specs.Ends.{Ends, EndsBy, EndsOrLoses, Keeps, Loses, MayBeLost, saves_of}
-use Rattle.flux_top.specs.Finish.{IsFinished, IsFinishedInPart, IsNotSaved, IsSaved, StopsFinish}
+use Rattle.flux_top.specs.Finish.{IsFinished, IsNotSaved, IsSaved, StopsFinish}
 use Rattle.flux_top.specs.Outcome.{CameToEnd, asked, course_of}
 
 -- ---- how a course ended

@@ -9,7 +9,7 @@ use Rattle.command_course.specs.declared.stop.Stop.{Stop}
 use Rattle.command_course.specs.declared.stop.Stop.TheVariants as stop
 use Rattle.flux_outside.specs.Outside.{Adds, Call, Names, OffersRests, Rose, Takes, TakesPart}
 use Rattle.run_command.specs.Endings.{Ending}
-use Rattle.flux_top.specs.Ends.{Ends, EndsOrLoses, Keeps, Loses, MayBeLost, saves_of}
+use Rattle.flux_top.specs.Ends.{EndsOrLoses, Keeps, Loses, MayBeLost, saves_of}
 use Rattle.flux_top.specs.Lines.{lost_line}
 use Rattle.flux_top.specs.Outcome.{AsksFor, asked}
 

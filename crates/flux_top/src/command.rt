@@ -4,7 +4,7 @@ ghost use Rattle.command_course.specs.Steps.{HasReadCause, IsWant, StopsOf};
 ghost use Rattle.command_course.specs.declared.stop.Stop.TheVariants.{OutOfMemory, Usage};
 ghost use Rattle.command_line.specs.Views.{IsInRange, request_of};
 ghost use Rattle.flux_outside.specs.Outside.{Rose, StopsAtWant};
-ghost use Rattle.flux_top.specs.Clauses.{Accepts, Faults, HasCause, IsQuiet, IsStatus, Rejects, SaysLost, SaysRefusal, SaysUnread, StopsShort, StopsTo, Tells, WritesNot, WritesWhole};
+ghost use Rattle.flux_top.specs.Clauses.{Accepts, HasCause, IsQuiet, IsStatus, Rejects, SaysLost, SaysRefusal, SaysUnread, StopsShort, StopsTo, Tells, WritesNot, WritesWhole};
 ghost use Rattle.flux_top.specs.Ends.{Ends, IsAtEnd, LosesNone};
 ghost use Rattle.flux_top.specs.Lines.{cannot_write_line, memory_line, usage_line};
 ghost use Rattle.flux_top.specs.Outcome.{CameToEnd, asked, course_of};

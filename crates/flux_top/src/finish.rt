@@ -1,9 +1,9 @@
 // The last steps of a command: its journal is saved, and then its text is written.
-ghost use Rattle.std.specs.Prelude.{◌≡◌, IfErr, IfOk, OnErr, OnOk, string_bytes};
+ghost use Rattle.std.specs.Prelude.{◌≡◌, IfErr, IfOk, OnOk, string_bytes};
 ghost use Rattle.command_course.specs.Steps.{IsWant};
-ghost use Rattle.flux_outside.specs.Outside.{Rose, StopsAtWant};
+ghost use Rattle.flux_outside.specs.Outside.{StopsAtWant};
 ghost use Rattle.flux_top.specs.Clauses.{IsQuiet};
-ghost use Rattle.flux_top.specs.Finish.{IsFinished, IsPut, IsPutInPart, IsSaved, Says, StopsFinish, StopsPut, StopsSave};
+ghost use Rattle.flux_top.specs.Finish.{IsFinished, IsPut, IsSaved, Says, StopsFinish, StopsPut, StopsSave};
 ghost use Rattle.flux_top.specs.Lines.{lost_line};
 ghost use Rattle.pair_machine.specs.Drain.{partition};
 ghost use Rattle.run_command.specs.Endings.{ending_of};

@@ -1,7 +1,6 @@
 -- What contracts see of ingress, and what each event makes of it.
 use Rattle.std.specs.Prelude.{◌≡◌, ◌<◌, ◌≤◌, ◌+◌, ℕ, zero, suc, true, List, [], ◌∷◌, ◌++◌, Option, None, Some, is_some, length, map, slice_get, slice_index_or, slice_set}
 use Rattle.tuple_edge.specs.Input.{Input}
-use Rattle.tuple_edge.specs.Limits.{number_limit}
 use Rattle.tuple_edge.specs.declared.event.Worked.TheVariants as worked
 use Rattle.tuple_edge.specs.declared.item.Item.{Item}
 use Rattle.tuple_edge.specs.declared.node.NodeId.{NodeId}

@@ -11,7 +11,7 @@ ghost use Rattle.pair_machine.specs.Messages.{Message};
 ghost use Rattle.pair_machine.specs.Sound.{IsSound};
 ghost use Rattle.plan_reader.specs.Nodes.{has_link};
 ghost use Rattle.plan_reader.specs.PlanView.{IsPlan};
-ghost use Rattle.std.specs.Prelude.{◌≡◌, ◌<◌, ◌↔◌, All, IsTrue, List};
+ghost use Rattle.std.specs.Prelude.{◌<◌, ◌↔◌, All, IsTrue, List};
 ghost use Rattle.stream_ops.specs.Times.{IsTime, IsTimely};
 ghost use Rattle.tuple_edge.specs.Input.{Input};
 ghost use Rattle.tuple_edge.specs.declared.node.NodeId.TheVariants as node;

@@ -1,9 +1,7 @@
 // Egress as a node: what it is, and what can be read of it.
-ghost use Rattle.flux_consumer.specs.ConsumerView.{report_of};
 ghost use Rattle.ingress_egress.specs.EgressStands.{IsAdmitted, IsOfPlan, IsTaken, IsWorked, StandsFor};
-ghost use Rattle.ingress_egress.specs.EgressView.{EgressView, IsFrontOf, MayPull, MayWork, acknowledgements, after_tuple, is_end, merging, pulling, taking, working};
+ghost use Rattle.ingress_egress.specs.EgressView.{EgressView, IsFrontOf, MayPull, MayWork, acknowledgements, after_tuple, is_end, pulling, taking, working};
 ghost use Rattle.merge_order.specs.Edges.{item_at};
-ghost use Rattle.merge_order.specs.MergeView.{all_wait, item_of, least, mark_of};
 ghost use Rattle.pair_machine.specs.Boundary.{egress_partition};
 ghost use Rattle.pair_machine.specs.Consumers.{pulled};
 ghost use Rattle.pair_machine.specs.Counts.{flow_of, items_on};

@@ -1,17 +1,17 @@
 // Ingress as a node: what it is, and what can be read of it.
 ghost use Rattle.flux_producer.specs.Due.{due_of};
 ghost use Rattle.ack_buffer.specs.Buffer.{item_at};
-ghost use Rattle.flux_producer.specs.ProducerView.{acked, buffer_at, sent_on, wanted_from};
+ghost use Rattle.flux_producer.specs.ProducerView.{buffer_at, sent_on};
 ghost use Rattle.ingress_egress.specs.IngressStands.{IsAdmitted, IsMade, IsMadeIn, IsOfPlan, IsTaken, IsWorked, StandsFor};
 ghost use Rattle.pair_machine.specs.Consumers.{first_below};
-ghost use Rattle.ingress_egress.specs.IngressView.{AreWide, contents_in, new_producers, producer_at, producer_in, source_due, taking, tuple_of, with_producer, working};
+ghost use Rattle.ingress_egress.specs.IngressView.{AreWide, contents_in, new_producers, producer_at, producer_in, source_due, taking, tuple_of, working};
 ghost use Rattle.trade_text.specs.TradesView.{inputs_in};
 ghost use Rattle.node_edges.specs.OutEdges.{copy_of, which_at};
 ghost use Rattle.pair_machine.specs.Machine.{new_node};
 ghost use Rattle.pair_machine.specs.Receivers.{GoOverLinks, appended};
 ghost use Rattle.pair_machine.specs.Replicas.{which_of};
 ghost use Rattle.plan_reader.specs.PlanView.{IsPlan, PlanView};
-ghost use Rattle.std.specs.Prelude.{◌≡◌, ◌<◌, ◌≤◌, ◌+◌, ◌++◌, ◌∷◌, [], ℕ, List, None, Some, IfNone, IfOk, IfSome, OnErr, OnOk, IsTrue, is_some, length, slice_get, slice_set};
+ghost use Rattle.std.specs.Prelude.{◌≡◌, ◌<◌, ◌≤◌, ◌+◌, ◌++◌, ◌∷◌, [], List, None, Some, IfNone, IfOk, IfSome, OnErr, OnOk, is_some, length, slice_get, slice_set};
 ghost use Rattle.tuple_edge.specs.Input.{Input};
 ghost use Rattle.tuple_edge.specs.declared.event.Worked.TheVariants.{Idle};
 ghost use Rattle.tuple_edge.specs.declared.node.NodeId.TheVariants as node;

@@ -1,5 +1,5 @@
 // One make at ingress: what is produced on the edges of each source.
-ghost use Rattle.flux_producer.specs.ProducerView.{HasRoom, MayGrow, buffer_at, contents_of, edge_at, emitted, emitted_to_all};
+ghost use Rattle.flux_producer.specs.ProducerView.{HasRoom, MayGrow, contents_of};
 ghost use Rattle.ingress_egress.specs.IngressView.{AreWide, EachHasRoom, MayMake, MayMakeMore, any_input_of, input_of, producer_in};
 ghost use Rattle.trade_text.specs.TradesView.{paired};
 ghost use Rattle.node_edges.specs.OutEdges.{HasMade};

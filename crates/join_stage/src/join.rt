@@ -5,11 +5,11 @@ ghost use Rattle.std.specs.BTreeMap.{insert_entry, is_at};
 ghost use Rattle.std.specs.Map.{lookup};
 ghost use Rattle.std.specs.Map.Iter.{ShowsInOrder, deref_pair};
 ghost use Rattle.join_stage.specs.declared.rows.Sides.{Sides};
-ghost use Rattle.std.specs.Option.{IfSome, option_and_then, option_copied, option_map};
+ghost use Rattle.std.specs.Option.{IfSome, option_and_then, option_map};
 ghost use Rattle.std.specs.Ordering.{int_eq};
 ghost use Rattle.std.specs.declared.ops.Bound.{Bound};
 ghost use Rattle.join_stage.specs.declared.rows.JoinKey.{JoinKey};
-ghost use Rattle.std.specs.Prelude.{◌≡◌, ◌≤◌, ◌++◌, [], ◌∷◌, Some, None, IfOk, if◌then◌else◌, OnOk, OnErr, ◌+◌, length, slice_get, vec_len, vec_capacity};
+ghost use Rattle.std.specs.Prelude.{◌≡◌, ◌≤◌, ◌++◌, [], ◌∷◌, Some, None, IfOk, if◌then◌else◌, OnOk, OnErr, ◌+◌, length, slice_get};
 
 use crate::rows::{JoinKey, Kept, Pair, SideRow, SidedRow, Sides};
 use crate::store::{KeyedStore, OutOfMemory};

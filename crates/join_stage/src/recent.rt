@@ -1,6 +1,6 @@
 // The last items of a run: images of them, and one more.
 ghost use Rattle.circular_buffer.specs.Buffer.{buffer, keep_last};
-ghost use Rattle.std.specs.Prelude.{◌≡◌, ◌++◌, ◌∷◌, [], IfOk};
+ghost use Rattle.std.specs.Prelude.{◌++◌, ◌∷◌, []};
 
 use crate::store::{Image, OutOfMemory, Takes};
 use circular_buffer::HeapCircularBuffer;

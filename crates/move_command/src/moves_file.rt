@@ -1,5 +1,5 @@
 // The kind of input file that says moves.
-ghost use Rattle.std.specs.Prelude.{◌≡◌, ◌≢◌, All};
+ghost use Rattle.std.specs.Prelude.{◌≢◌, All};
 ghost use Rattle.bucket_move.specs.Messages.{moves_fault};
 ghost use Rattle.bucket_move.specs.Shifts.{DontFall, IsShiftOf};
 ghost use Rattle.command_course.specs.Lines.{line_of};

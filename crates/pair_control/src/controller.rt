@@ -1,6 +1,6 @@
 // The controller: what it is, and what can be read of it.
 ghost use Rattle.pair_control.specs.Admitted.{AreReportsSmall, AreSmall};
-ghost use Rattle.pair_control.specs.ControllerView.{numbers_of, partition_at, partition_of, watched_numbers, watched_of};
+ghost use Rattle.pair_control.specs.ControllerView.{numbers_of, partition_at, partition_of, watched_of};
 ghost use Rattle.pair_control.specs.StandsFor.{StandsFor, node_of};
 ghost use Rattle.pair_machine.specs.Controllers.{counts};
 ghost use Rattle.pair_machine.specs.Flow.{Flow};

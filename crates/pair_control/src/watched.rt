@@ -2,7 +2,7 @@
 ghost use Rattle.pair_control.specs.ControllerView.{reported, watched_numbers};
 ghost use Rattle.pair_machine.specs.Controllers.{counts, least_of};
 ghost use Rattle.pair_machine.specs.Machine.{new_watched};
-ghost use Rattle.std.specs.Prelude.{◌≡◌, ◌<◌, ◌+◌, ◌^◌, ℕ, false, true, IfOk, if◌then◌else◌, length, max, slice_index};
+ghost use Rattle.std.specs.Prelude.{◌≡◌, ◌<◌, ◌+◌, ◌^◌, ℕ, false, true, IfOk, if◌then◌else◌, length, slice_index};
 ghost use Rattle.tuple_edge.specs.declared.status.Status.TheVariants as status;
 
 use std::alloc::Global;

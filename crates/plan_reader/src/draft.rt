@@ -1,5 +1,5 @@
 // What the lines of a plan have said so far.
-ghost use Rattle.std.specs.Prelude.{◌≡◌, ◌∷◌, ◌++◌, ◌≤◌, [], length, All, IfOk, OnOk};
+ghost use Rattle.std.specs.Prelude.{◌≡◌, ◌∷◌, ◌≤◌, [], length, All, IfOk, OnOk};
 ghost use Rattle.plan_reader.specs.Plan.{hold_at, mark_at, next_stage_at, plan_said, statement_at, whole};
 ghost use Rattle.plan_reader.specs.PlanView.{IsPlan, IsStage, edges};
 ghost use Rattle.plan_reader.specs.Draft.{MayFollow, nothing_said, said_with, said_with_line};
@@ -10,8 +10,8 @@ use crate::error::Fault;
 use crate::statement::{Statement, setting, stage};
 use crate::words::{is, word};
 use crate::{
-    DEFAULT_HOLD, DEFAULT_MARK, EDGES_PER_MARK, Line, MAX_HOLD, MAX_MARK, MAX_STAGES, MIN_HOLD,
-    Plan, PlanError, Stage, Words,
+    DEFAULT_HOLD, DEFAULT_MARK, EDGES_PER_MARK, Line, MAX_HOLD, MAX_MARK, MIN_HOLD, Plan,
+    PlanError, Stage, Words,
 };
 use std::alloc::Global;
 use std::marker::Model;

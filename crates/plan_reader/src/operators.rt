@@ -1,5 +1,5 @@
 // The readers of an operator and its settings.
-ghost use Rattle.std.specs.Prelude.{◌≡◌, IfOk};
+ghost use Rattle.std.specs.Prelude.{IfOk};
 ghost use Rattle.stream_ops.specs.Spec.{IsSpec};
 ghost use Rattle.plan_reader.specs.Operators.{crossing_at, join_at, keep_at, last_at, op_at, total_at, window_at};
 ghost use Rattle.plan_reader.specs.PlanView.{IsLimit};

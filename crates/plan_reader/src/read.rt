@@ -1,5 +1,5 @@
 // How a plan is read.
-ghost use Rattle.std.specs.Prelude.{◌≡◌, ◌≤◌, IfOk};
+ghost use Rattle.std.specs.Prelude.{◌≤◌, IfOk};
 ghost use Rattle.plan_reader.specs.Draft.{drafted_plan, said_after};
 ghost use Rattle.plan_reader.specs.Plan.{body_of, plan_of, version_at};
 ghost use Rattle.plan_reader.specs.PlanView.{IsPlan};

@@ -1,7 +1,6 @@
 -- Events applied to a core one after another are events replayed.
-use Rattle.std.proofs.Common.{◌≡◌, ◌∙◌, ℕ, List, [], ◌∷◌, ◌++◌, Err, Ok, Result, refl, sym, ap, subst, string_bytes, Vec}
+use Rattle.std.proofs.Common.{◌≡◌, ◌∙◌, ℕ, List, [], ◌∷◌, ◌++◌, Err, Ok, Result, refl, sym, ap, subst}
 use Rattle.std.specs.Prelude.{◌≢◌, IfErr, IfOk, OnOk}
-use Rattle.std.specs.declared.alloc.Global.{Global}
 use Rattle.tuple_edge.specs.Input.{Input}
 use Rattle.tuple_edge.specs.declared.event.Event.{Event}
 use Rattle.tuple_edge.specs.declared.node.NodeId.TheVariants as node
@@ -12,7 +11,6 @@ use Rattle.pair_machine.specs.Counts.{flow_of}
 use Rattle.pair_machine.specs.Flow.{Flow}
 use Rattle.pair_machine.specs.Machine.{State, egress_in, follow, opening, step}
 use Rattle.pair_machine.specs.Messages.{NoMoreRows, NotHeld, NotRunning, NotSent, NothingDue, Refusal}
-use Rattle.pair_machine.specs.Sound.{IsSound}
 use Rattle.pair_machine.proofs.MachineLaws.{plan_opens_sound}
 use Rattle.run_journal.specs.declared.lined.Lined.{Lined}
 use Rattle.flux_core.specs.CoreView.{CoreView, flow_in, inputs_of}
@@ -29,9 +27,9 @@ use Rattle.command_course.specs.Steps.{IsRefusedBy}
 use Rattle.command_course.specs.declared.stop.Stop.{Stop}
 use Rattle.command_course.specs.declared.stop.Stop.TheVariants as stop
 use Rattle.state_text.specs.StateText.{state_text}
-use Rattle.replay_command.specs.Courses.{flow_for, replays, text_in, writes_state}
+use Rattle.replay_command.specs.Courses.{replays, text_in, writes_state}
 use Rattle.replay_command.specs.Ends.{StopsIn}
-use Rattle.replay_command.specs.Replaying.{RefusedAt, error_text, refusal_text, refused_text, replayed, stepped, then_on}
+use Rattle.replay_command.specs.Replaying.{error_text, refusal_text, replayed, stepped, then_on}
 
 -- ---- the machine's own lists
 

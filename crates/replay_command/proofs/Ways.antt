@@ -1,5 +1,5 @@
 -- A course that reads nothing more, behind the readings before it.
-use Rattle.std.proofs.Common.{ℕ, ◌≡◌, List, Option, Ok, Err, sym, ap, string_bytes}
+use Rattle.std.proofs.Common.{ℕ, ◌≡◌, List, Option, Ok, Err, string_bytes}
 use Rattle.std.specs.Prelude.{IfErr, IfOk, Result, Vec}
 use Rattle.std.specs.declared.alloc.Global.{Global}
 use Rattle.command_course.specs.Course.{Between, Came, Course, Refuses, Writes}

@@ -1,6 +1,5 @@
 // Many small runs under random safe scripts, on one to eight threads, beside `eval`.
 use crate::fixture::{THREE, call, files_of, made};
-use flux_outside::MemFiles;
 use std::alloc::Global;
 use std::test::Fail;
 use std::thread::Threads;

@@ -1,5 +1,5 @@
 -- The list of a move: what a consumer, a producer and an operator hold at one moment, as entries.
-use Rattle.std.specs.Prelude.{ℕ, zero, suc, ◌+◌, ◌-◌, List, [], ◌∷◌, ◌++◌, length}
+use Rattle.std.specs.Prelude.{ℕ, ◌+◌, ◌-◌, List, [], ◌∷◌, ◌++◌, length}
 use Rattle.tuple_edge.specs.Entries.{each_below, numbered}
 use Rattle.tuple_edge.specs.declared.packet.Entry.{Entry}
 use Rattle.tuple_edge.specs.declared.packet.Entry.TheVariants as entry

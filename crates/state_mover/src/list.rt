@@ -1,7 +1,6 @@
 // The list of a move, as far as it is fixed at the beginning.
 ghost use Rattle.flux_producer.specs.ProducerView.{buffer_at};
 ghost use Rattle.state_mover.specs.Pieces.{AreFilled, IsFilled};
-ghost use Rattle.merge_order.specs.MergeView.{MergeView};
 ghost use Rattle.state_mover.specs.MoveList.{fixed_part, head_entries, kept_entries, low_entry, mark_entry};
 ghost use Rattle.tuple_edge.specs.Entries.{each_below};
 ghost use Rattle.std.specs.Prelude.{◌≡◌, ◌++◌, ◌<◌, IfOk, OnOk, length};

@@ -3,7 +3,7 @@ ghost use Rattle.state_mover.specs.MoveList.{fixed_part};
 ghost use Rattle.state_mover.specs.Pieces.{AreFilled};
 ghost use Rattle.tuple_edge.specs.declared.packet.Entry.{Entry};
 ghost use Rattle.state_mover.specs.MoverView.{IsMidway, IsSound, after_next, begun, moved_at, moved_from, place_next, total_of};
-ghost use Rattle.std.specs.Prelude.{◌≡◌, ◌<◌, ◌≤◌, ◌+◌, None, ◌^◌, ◌++◌, ◌↔◌, IfOk, IfSome, IsSome, Some, List, length, slice_get};
+ghost use Rattle.std.specs.Prelude.{◌≡◌, ◌<◌, ◌≤◌, ◌+◌, None, ◌++◌, ◌↔◌, IfOk, IfSome, IsSome, Some, List, length, slice_get};
 ghost use Rattle.state_mover.specs.declared.mover.Moved.TheVariants as moved;
 ghost use Rattle.stream_ops.specs.Entries.{place_of};
 ghost use Rattle.tuple_edge.specs.Limits.{number_limit};

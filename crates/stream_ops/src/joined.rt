@@ -4,7 +4,7 @@ ghost use Rattle.join_stage.specs.Store.{first_where};
 ghost use Rattle.std.specs.BTreeMap.{is_at};
 ghost use Rattle.std.specs.Map.{lookup};
 ghost use Rattle.std.specs.Option.{option_and_then};
-ghost use Rattle.std.specs.Prelude.{◌≡◌, ◌≤◌, ◌≤ℤ◌, ◌+◌, ◌++◌, ◌∷◌, [], pos, OnErr, OnOk, Some, None, length, map, option_map, vec_capacity, vec_len};
+ghost use Rattle.std.specs.Prelude.{◌≡◌, ◌≤◌, ◌≤ℤ◌, ◌+◌, ◌++◌, pos, OnErr, OnOk, Some, None, length, map, option_map, vec_capacity, vec_len};
 ghost use Rattle.stream_ops.specs.Entries.{all_told, is_after};
 ghost use Rattle.stream_ops.specs.Joins.{entry_of_kept, join_key, kept_row, key_of_join, keyed, row_of_pair, side_entry, side_row, told_side, told_sides};
 

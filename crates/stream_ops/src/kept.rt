@@ -4,7 +4,7 @@ ghost use Rattle.join_stage.specs.Store.{changed};
 ghost use Rattle.std.specs.BTreeMap.{insert_entry};
 ghost use Rattle.std.specs.List.{All};
 ghost use Rattle.std.specs.Map.{lookup};
-ghost use Rattle.std.specs.Prelude.{ℕ, ◌≡◌, ◌≤◌, ◌≤ℤ◌, ◌++◌, ◌∷◌, [], pos, ◌+◌, IfOk, OnErr, OnOk, Some, if◌then◌else◌, length, map, fold, unwrap_or, vec_capacity, vec_len};
+ghost use Rattle.std.specs.Prelude.{◌≡◌, ◌≤◌, ◌≤ℤ◌, ◌++◌, ◌∷◌, [], pos, ◌+◌, IfOk, OnErr, OnOk, Some, if◌then◌else◌, length, map, fold, unwrap_or, vec_capacity, vec_len};
 ghost use Rattle.stream_ops.specs.Entries.{all_told, told_last};
 ghost use Rattle.stream_ops.specs.Keys.{is_key, key_cmp};
 ghost use Rattle.stream_ops.specs.Steps.{closed_by, has_room, last_added, no_sums, opened_by, sums_last, told_closed, told_crossing, told_window_row, total_with, window_with};

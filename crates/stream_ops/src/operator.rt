@@ -1,5 +1,5 @@
 // An operator's settings, with what it keeps for each key.
-ghost use Rattle.std.specs.Prelude.{ℕ, ◌≡◌, ◌≤◌, ◌+◌, ◌∷◌, ◌++◌, [], List, Some, None, IfOk, OnErr, OnOk, length};
+ghost use Rattle.std.specs.Prelude.{ℕ, ◌≡◌, ◌≤◌, ◌+◌, ◌∷◌, ◌++◌, [], List, Some, None, OnErr, OnOk, length};
 ghost use Rattle.stream_ops.specs.Answers.{end_answer, row_answer};
 ghost use Rattle.join_stage.specs.Store.{first_where};
 ghost use Rattle.std.specs.Option.{option_and_then};

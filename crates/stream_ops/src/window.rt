@@ -33,7 +33,6 @@ fn start_of(number: &i64, width: &i64) -> i64
 }
 
 impl OpenWindow {
-    ghost use Rattle.stream_ops.specs.Spec.{IsSpec};
     ghost use Rattle.stream_ops.specs.Steps.{closed_by, opened_by, told_window_row, window_with};
     ghost use Rattle.stream_ops.specs.Sums.{amounts, sums_with};
     ghost use Rattle.stream_ops.specs.Times.{IsTime};

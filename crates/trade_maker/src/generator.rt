@@ -1,5 +1,5 @@
 // The generator: a linear congruential one, and the trades that are made of its draws.
-ghost use Rattle.std.specs.Prelude.{◌≡◌, ◌<◌, ◌≤◌};
+ghost use Rattle.std.specs.Prelude.{◌≡◌, ◌<◌};
 ghost use Rattle.trade_maker.specs.Generator.{drawn, made_trade, next_state, state_after};
 ghost use Rattle.trade_maker.specs.Limits.{states};
 

@@ -1,6 +1,6 @@
 // The text of rows.
 ghost use Rattle.std.specs.Prelude.{◌≡◌, ◌+◌, ◌≤◌, ◌++◌, ◌∷◌, [], IfOk, OnOk, codes, drop, if◌then◌else◌, length};
-ghost use Rattle.std.specs.Fmt.{decimal, signed_decimal};
+ghost use Rattle.std.specs.Fmt.{signed_decimal};
 ghost use Rattle.trade_text.specs.Text.{count_line, part_text, row_line, text};
 
 use crate::Trades;

@@ -1,6 +1,5 @@
 // Trades as a file has them, and how they are read.
 ghost use Rattle.std.specs.Prelude.{◌≡◌, ◌≤◌, ◌<◌, ◌^◌, IfErr, IfOk, Ok, false, length};
-ghost use Rattle.csv.specs.Records.{fields_of};
 ghost use Rattle.trade_text.specs.Limits.{max_account, max_cents, max_qty, max_seconds, max_symbols};
 ghost use Rattle.trade_text.specs.Refusals.{IsRefusalOf, Reads};
 ghost use Rattle.trade_text.specs.Signed.{signed};

@@ -1,9 +1,7 @@
 // The order of nodes: ingress, the pairs by stage and partition, egress.
 ghost use Rattle.std.specs.Prelude.{◌≡◌, refl};
 ghost use Rattle.tuple_edge.specs.NodeOrder.{node_ties, node_total};
-ghost use Rattle.std.proofs.Common.{rules};
 ghost use Rattle.std.specs.Cmp.{partial_order_from_own_ties, partial_order_from_total};
-ghost use Rattle.std.specs.Cmp.Rules.{comparing};
 ghost use Rattle.std.specs.Ordering.{as_partial_cmp};
 ghost use Rattle.tuple_edge.specs.Node.{node_cmp, group_of, part_of, rank_of, stage_of};
 

@@ -1,7 +1,7 @@
 // What a replica's packet says to the controller, before anything follows from it.
 ghost use Rattle.pair_control.specs.Admitted.{IsCarried};
-ghost use Rattle.pair_control.specs.ControllerView.{IsOneAway, IsOneCatching, numbers_of, partition_of, watched_of};
-ghost use Rattle.pair_control.specs.Packets.{IsDone, SendsAtMost, message_of, packets_of};
+ghost use Rattle.pair_control.specs.ControllerView.{IsOneAway, numbers_of, partition_of, watched_of};
+ghost use Rattle.pair_control.specs.Packets.{IsDone, SendsAtMost, message_of};
 ghost use Rattle.pair_machine.specs.Controllers.{controller_hears, goes_down};
 ghost use Rattle.pair_machine.specs.Messages.{Caught};
 ghost use Rattle.pair_machine.specs.Numbers.{other, replica_at};

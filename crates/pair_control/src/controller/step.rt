@@ -1,7 +1,7 @@
 // One packet at the controller, whole: what it says, and then what follows after each packet.
 ghost use Rattle.pair_control.specs.Admitted.{AreReportsSmall, AreSmall, IsAdmitted, IsFromReplica};
 ghost use Rattle.pair_control.specs.ControllerView.{IsOneAway, IsOneCatching, numbers_of, partition_of, watched_of};
-ghost use Rattle.pair_control.specs.Packets.{IsDone, SendsAtMost, message_of, packets_of, taking};
+ghost use Rattle.pair_control.specs.Packets.{IsDone, SendsAtMost, packets_of, taking};
 ghost use Rattle.pair_control.specs.Raised.{acked_after};
 ghost use Rattle.pair_control.specs.StandsFor.{IsMachineStep, IsOfPlan, IsTaken, node_of};
 ghost use Rattle.pair_machine.specs.Contents.{BodyStands};

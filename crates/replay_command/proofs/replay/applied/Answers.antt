@@ -1,4 +1,4 @@
-use Rattle.std.proofs.Common.{◌≡◌, subst, sym}
+use Rattle.std.proofs.Common.{subst}
 use Rattle.plan_reader.specs.PlanView.{IsPlan}
 use Rattle.trade_text.specs.TradesView.{inputs_in}
 use Rattle.flux_core.specs.Follows.{IsFollowed, IsStopped, events_of}

@@ -1,4 +1,4 @@
-use Rattle.std.proofs.Common.{◌≡◌, ◌∙◌, ap}
+use Rattle.std.proofs.Common.{◌∙◌, ap}
 use Rattle.std.proofs.Math.Seq.{map-set_same}
 use Rattle.flux_producer.specs.ProducerView.{contents_of, without_room}
 use Rattle.flux_producer.proofs.producer.Producer.reserve_on.Goals as goal

@@ -1,4 +1,4 @@
-use Rattle.std.proofs.Common.{◌≡◌, ◌≤◌, ◌+◌, length, ap, subst, refl, ℕ}
+use Rattle.std.proofs.Common.{◌≤◌, ◌+◌, length, ap, subst, ℕ}
 use Rattle.std.specs.BTreeMap.{is_at}
 use Rattle.std.specs.Map.{lookup}
 use Rattle.join_stage.specs.Join.{JoinView, key_cmp}
