@@ -11,7 +11,8 @@ use Rattle.tuple_edge.specs.declared.node.Which.{Which}
 use Rattle.tuple_edge.specs.declared.node.Which.TheVariants.{A, B}
 use Rattle.tuple_edge.specs.declared.status.Status.TheVariants as status
 use Rattle.tuple_edge.specs.Node.{part_of}
-use Rattle.pair_machine.specs.Numbers.{Producer, Consumer, RunningNumbers, Replica, Gone, Running, Gathering, Watched, Controller, Ingress, Node, IngressNode, ReplicaNode, ControllerNode, EgressNode, Partition, is_node, other}
+pub use Rattle.tuple_edge.specs.Node.{partner_node}
+use Rattle.pair_machine.specs.Numbers.{Producer, Consumer, RunningNumbers, Replica, Gone, Running, Gathering, Watched, Controller, Ingress, Node, IngressNode, ReplicaNode, ControllerNode, EgressNode, Partition, is_node}
 use Rattle.pair_machine.specs.Messages.{Message, Envelope, Act, Takes, Works, Makes, Dies, AsksStop, AsksBack, Pulls, Refusal, NotSent, NothingDue, NotRunning, NotHeld}
 use Rattle.pair_machine.specs.Flow.{Flow}
 use Rattle.pair_machine.specs.Replicas.{made_by, replica_does, which_of}
@@ -110,12 +111,6 @@ does f (node.Control s p) a n = controller_does f (record { stage = s; part = p 
 does f node.Egress a n = as_egress (egress_does f a (egress_in n))
 
 -- ---- what an event asks of its node
-
-abbrev pub partner_node : NodeId → NodeId
-partner_node node.Ingress = node.Ingress
-partner_node (node.Replica s p w) = node.Replica s p (other w)
-partner_node (node.Control s p) = node.Control s p
-partner_node node.Egress = node.Egress
 
 -- the one node that a step changes
 abbrev pub at_node : Event → NodeId

@@ -8,6 +8,7 @@ use Rattle.tuple_edge.specs.declared.node.NodeId.TheVariants as node
 use Rattle.tuple_edge.specs.declared.node.Which.{Which}
 use Rattle.tuple_edge.specs.declared.node.Which.TheVariants.{A, B}
 use Rattle.tuple_edge.specs.declared.status.Status.{Status}
+pub use Rattle.tuple_edge.specs.Node.{other}
 
 -- ---- edges
 
@@ -101,10 +102,6 @@ pub data Node : Type 0 where
 pub record Partition : Type 0 where
   pub stage : ℕ
   pub part : ℕ
-
-abbrev pub other : Which → Which
-other A = B
-other B = A
 
 abbrev pub is_which : Which → Which → Bool
 is_which A A = true

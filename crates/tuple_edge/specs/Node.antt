@@ -1,4 +1,4 @@
--- The order of nodes.
+-- Nodes: partners, and their order.
 use Rattle.std.specs.Prelude.{ℕ}
 use Rattle.std.specs.declared.cmp.Ordering.{Ordering}
 use Rattle.std.specs.Ordering.{nat_cmp, on, then_cmp}
@@ -6,6 +6,18 @@ use Rattle.tuple_edge.specs.declared.node.Which.{Which}
 use Rattle.tuple_edge.specs.declared.node.Which.TheVariants as which
 use Rattle.tuple_edge.specs.declared.node.NodeId.{NodeId}
 use Rattle.tuple_edge.specs.declared.node.NodeId.TheVariants as node
+
+-- the other replica of a pair
+abbrev pub other : Which → Which
+other which.A = which.B
+other which.B = which.A
+
+-- the other replica of a replica's pair; another node is its own partner
+abbrev pub partner_node : NodeId → NodeId
+partner_node node.Ingress = node.Ingress
+partner_node (node.Replica stage part which) = node.Replica stage part (other which)
+partner_node (node.Control stage part) = node.Control stage part
+partner_node node.Egress = node.Egress
 
 -- ingress, then the pairs, then egress
 abbrev pub group_of : NodeId → ℕ

@@ -8,7 +8,7 @@ pub enum Event {
     Take { link: LinkId, index: u64 },
     /// A node does the first piece of work that is due.
     Work { node: NodeId },
-    /// Ingress makes the next trade, or the end, into items.
+    /// Ingress makes the next input, or the end, into items.
     Make,
     /// A replica fails.
     Kill { node: NodeId },

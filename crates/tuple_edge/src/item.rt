@@ -4,10 +4,13 @@ ghost use Rattle.tuple_edge.specs.Item.{comes_before, kind_of, stamp_of};
 
 use crate::Row;
 
+/// Every number of an item, every count, mark, clock and incarnation is below this.
+pub const NUMBER_LIMIT: u64 = 1 << 62;
+
 /// What stands at one place of an edge. The stamp is the number that ingress gave, from 1.
 #[derive(Clone, Copy, Debug, PartialEq, Eq)]
 pub enum Item {
-    /// A row that comes from the trade of this stamp.
+    /// A row that comes from the input of this stamp.
     Row { stamp: u64, row: Row },
     /// No further row of this stamp or an earlier one follows.
     Mark { stamp: u64 },

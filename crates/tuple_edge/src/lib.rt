@@ -18,7 +18,7 @@ mod status;
 mod sum;
 
 pub use event::{Drained, Event, History, Stamped, Worked};
-pub use item::Item;
+pub use item::{Item, NUMBER_LIMIT};
 pub use memory::OutOfMemory;
 pub use node::{EdgeId, LinkId, NodeId, Which};
 pub use outbox::Outbox;

@@ -1,4 +1,6 @@
 // The names of nodes, edges and links.
+ghost use Rattle.std.specs.Prelude.{◌≡◌};
+ghost use Rattle.tuple_edge.specs.Node.{other, partner_node};
 
 /// One of the two replicas of a pair.
 #[derive(Clone, Copy, Debug, PartialEq, Eq, PartialOrd, Ord)]
@@ -7,13 +9,25 @@ pub enum Which {
     B,
 }
 
+impl Which {
+    /// The other replica of the pair.
+    pub fn other(self) -> Which
+        ensures { result ≡ other self }
+    {
+        match self {
+            Which::A => Which::B,
+            Which::B => Which::A,
+        }
+    }
+}
+
 /// A node of a running dataflow. Stages count from 1, partitions from 0.
 ///
 /// Nodes are ordered: ingress, then the pairs by stage and partition, in each pair replica A, replica
 /// B and the controller, and last egress.
 #[derive(Clone, Copy, Debug, PartialEq, Eq)]
 pub enum NodeId {
-    /// Where the trades come in.
+    /// Where the inputs come in.
     Ingress,
     /// A replica of the pair that runs this partition of this stage.
     Replica { stage: u32, part: u32, which: Which },
@@ -23,8 +37,24 @@ pub enum NodeId {
     Egress,
 }
 
-/// An edge of the dataflow. Its stage is its producer's: 0 is ingress, whose partition is 0, and an
-/// edge of the last stage goes to egress, whose partition is 0.
+impl NodeId {
+    /// The other replica of a replica's pair. Another node is its own partner.
+    pub fn partner(self) -> NodeId
+        ensures { result ≡ partner_node self }
+    {
+        match self {
+            NodeId::Replica { stage, part, which } => NodeId::Replica {
+                stage,
+                part,
+                which: which.other(),
+            },
+            NodeId::Ingress | NodeId::Control { .. } | NodeId::Egress => self,
+        }
+    }
+}
+
+/// An edge of the dataflow. Its stage is its producer's: 0 is ingress, whose partitions are its sources,
+/// and an edge of the last stage goes to egress, whose partition is 0.
 #[derive(Clone, Copy, Debug, PartialEq, Eq)]
 pub struct EdgeId {
     pub stage: u32,
