@@ -1,5 +1,5 @@
 // The buckets of a stage: where each stands, what is kept of it, and the answers so far.
-ghost use Rattle.std.specs.Prelude.{◌≡◌, ◌<◌, ◌≤◌, ◌++◌, ◌∷◌, [], List, All, IfOk, IsTrue, OnErr, OnOk, false, is_err, replicate, slice_set};
+ghost use Rattle.std.specs.Prelude.{◌≡◌, ◌<◌, ◌≤◌, ◌++◌, ◌∷◌, [], List, All, IfOk, IsOk, IsTrue, OnErr, OnOk, false, is_err, replicate, slice_set};
 ghost use Rattle.tuple_edge.specs.declared.row.Row.{Row};
 ghost use Rattle.stream_ops.specs.Answers.{answers};
 ghost use Rattle.stream_ops.specs.Spec.{IsSpec};
@@ -160,6 +160,7 @@ impl Buckets {
         ensures emitted { self.new.emitted ≡ self.old.emitted }
         ensures failed { self.new.failed ≡ false }
         ensures unchanged { OnErr result (self.new ≡ self.old) }
+        ensures done { IsOk result }
     {
         let from = self.table[bucket as usize];
         let unseen = OpState::new(self.alloc, self.stage.op);
