@@ -1,12 +1,9 @@
 -- What the threads leave, in one hand: the merged events lead to a state of the machine, and a core made of the nodes stands for a state with the
 -- same nodes, from which the drain may begin.
 use Rattle.std.proofs.Common.{◌≡◌, ◌∙◌, ℕ, zero, suc, List, [], ◌∷◌, Some, map, slice_get, refl, sym, ap, subst}
-use Rattle.std.specs.Prelude.{if◌then◌else◌}
 use Rattle.std.specs.Option.{option_map}
 use Rattle.tuple_edge.specs.Input.{Input}
 use Rattle.tuple_edge.specs.declared.event.Event.{Event}
-use Rattle.tuple_edge.specs.declared.event.History.{History}
-use Rattle.tuple_edge.specs.declared.event.Stamped.{Stamped}
 use Rattle.tuple_edge.specs.declared.node.NodeId.{NodeId}
 use Rattle.tuple_edge.specs.declared.node.NodeId.TheVariants as node
 use Rattle.tuple_edge.specs.declared.node.Which.{Which}
@@ -18,7 +15,6 @@ use Rattle.pair_machine.specs.Joint.{logged_events}
 use Rattle.pair_machine.specs.Links.{HasNode}
 use Rattle.pair_machine.specs.Lists.{Each}
 use Rattle.pair_machine.specs.Machine.{State}
-use Rattle.pair_machine.specs.Numbers.{is_node}
 use Rattle.pair_machine.specs.Sound.{IsSound}
 use Rattle.pair_machine.specs.declared.order.Order.{Order}
 use Rattle.pair_machine.proofs.DrainAfter.{sound_drains}
@@ -31,21 +27,16 @@ use Rattle.replica_node.specs.ReplicaView.{ReplicaView, node_of}
 use Rattle.replica_node.specs.StandsFor as replica
 use Rattle.run_journal.proofs.MergeFacts.{is_log}
 use Rattle.run_journal.specs.Logs.{AreMergeable, log_of_histories}
-use Rattle.run_journal.specs.Logs as journal
 use Rattle.flux_core.specs.CoreView.{CoreView, IngressIs, ReplicaIs, any_controller, any_log, any_replica, pair_place, replica_contents, replica_place}
 use Rattle.flux_core.specs.Opening.{bare_core}
 use Rattle.flux_core.specs.Stands.{ContentStands, IsGiven, PacketsStand, StandsFor}
 use Rattle.flux_core.proofs.Contents.{content_in}
 use Rattle.flux_core.proofs.Lists.{get-back, get-map}
-use Rattle.partition_runner.specs.Ran.{IsLegalRun, ReachesNodes, history_of}
+use Rattle.partition_runner.specs.Ran.{IsLegalRun, ReachesNodes}
 use Rattle.partition_runner.specs.declared.ran.Ran.{Ran}
 use Rattle.drained_run.proofs.Places.{control_there, replica_there}
 
 -- ---- one log
-
-same_history : (histories : List History) (n : NodeId) → journal.history_of histories n ≡ history_of histories n
-same_history [] n = refl
-same_history (h ∷ histories) n = ap (λ (rest : List Stamped). if is_node h.node n then h.entries.items else rest) (same_history histories n)
 
 pub mergeable : (plan : PlanView) (inputs : List Input) (script : List Order) (ran : Ran) → IsLegalRun plan inputs script ran → AreMergeable ran.histories.items
 mergeable plan inputs script ran run = record { distinct = run.distinct; rising = run.rising }
@@ -56,8 +47,7 @@ events_of ran = logged_events (log_of_histories ran.histories.items)
 
 pub reaches : (plan : PlanView) (inputs : List Input) (script : List Order) (ran : Ran) → IsLegalRun plan inputs script ran → ReachesNodes plan inputs script ran (log_of_histories ran.histories.items)
 reaches plan inputs script ran run =
-    let log = is_log ran.histories.items (mergeable plan inputs script ran run) in
-    run.joint (log_of_histories ran.histories.items) (record { in_order = log.in_order; whole = λ n. log.whole n ∙ same_history ran.histories.items n })
+    run.joint (log_of_histories ran.histories.items) (is_log ran.histories.items (mergeable plan inputs script ran run))
 
 -- ---- lists
 

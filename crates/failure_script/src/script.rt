@@ -9,7 +9,7 @@ ghost use Rattle.failure_script.specs.Orders.{IsOrdered, IsPartnerOrderedBack, a
 use pair_machine::Order;
 use std::alloc::Global;
 use std::marker::Model;
-use tuple_edge::{NodeId, OutOfMemory, Which};
+use tuple_edge::{NodeId, OutOfMemory};
 
 /// What a failure script asks for.
 ///
@@ -153,13 +153,7 @@ impl Script {
         ensures { option_map (λ order. order.now) result ≡ order_for_partner self.now node }
     {
         match node {
-            NodeId::Replica { stage, part, which } => {
-                let which = match which {
-                    Which::A => Which::B,
-                    Which::B => Which::A,
-                };
-                self.order_for(NodeId::Replica { stage, part, which })
-            }
+            NodeId::Replica { .. } => self.order_for(node.partner()),
             _ => None,
         }
     }

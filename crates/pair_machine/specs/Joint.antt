@@ -4,6 +4,7 @@ use Rattle.std.specs.Prelude.{◌≡◌, ◌<◌, ◌≤◌, ◌==◌, Bool, tru
 use Rattle.std.specs.Ordering.{is_le}
 use Rattle.tuple_edge.specs.Node.{node_cmp}
 use Rattle.tuple_edge.specs.declared.event.Event.{Event}
+use Rattle.tuple_edge.specs.declared.event.History.{History}
 use Rattle.tuple_edge.specs.declared.event.Stamped.{Stamped}
 use Rattle.tuple_edge.specs.declared.node.NodeId.{NodeId}
 use Rattle.tuple_edge.specs.declared.packet.Packet.{Packet}
@@ -108,6 +109,11 @@ pub record AreHistories (nodes : List NodeId) (history : NodeId → List Stamped
   pub distinct : AreDistinct nodes
   pub rising : (n : NodeId) → AreRising (history n)
   pub others : (n : NodeId) → (Among n nodes → ⊥) → history n ≡ []
+
+-- the history of a node among these; of a node that has none there, nothing happened
+abbrev pub history_of : List History → NodeId → List Stamped
+history_of [] n = []
+history_of (h ∷ histories) n = if is_node h.node n then h.entries.items else history_of histories n
 
 -- ---- what the law says
 

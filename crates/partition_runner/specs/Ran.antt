@@ -1,17 +1,16 @@
 -- What a run gives.
-use Rattle.std.specs.Prelude.{◌≡◌, List, [], ◌∷◌, map, if◌then◌else◌}
+use Rattle.std.specs.Prelude.{◌≡◌, List, map}
 use Rattle.tuple_edge.specs.Input.{Input}
 use Rattle.tuple_edge.specs.declared.event.History.{History}
-use Rattle.tuple_edge.specs.declared.event.Stamped.{Stamped}
 use Rattle.tuple_edge.specs.declared.node.NodeId.{NodeId}
 use Rattle.tuple_edge.specs.declared.node.NodeId.TheVariants as node
 use Rattle.plan_reader.specs.PlanView.{PlanView}
 use Rattle.pair_machine.specs.Counts.{flow_of}
 use Rattle.pair_machine.specs.Joint.{AreDistinct, AreRising, IsLog, Logged, logged_events}
+pub use Rattle.pair_machine.specs.Joint.{history_of}
 use Rattle.pair_machine.specs.Legal.{IsLegal}
 use Rattle.pair_machine.specs.Lists.{Each}
 use Rattle.pair_machine.specs.Machine.{State}
-use Rattle.pair_machine.specs.Numbers.{is_node}
 use Rattle.pair_machine.specs.Scripts.{AreWithin}
 use Rattle.pair_machine.specs.declared.order.Order.{Order}
 use Rattle.ingress_egress.specs.EgressStands as egress
@@ -21,11 +20,6 @@ use Rattle.replica_node.specs.ReplicaView.{node_of}
 use Rattle.replica_node.specs.StandsFor as replica
 use Rattle.partition_runner.specs.NodeOrder.{controls_of, nodes_of, replicas_of}
 use Rattle.partition_runner.specs.declared.ran.Ran.{Ran}
-
--- the history of a node among these; of a node that has none there, nothing happened
-abbrev pub history_of : List History → NodeId → List Stamped
-history_of [] n = []
-history_of (h ∷ histories) n = if is_node h.node n then h.entries.items else history_of histories n
 
 module _ (plan : PlanView) (inputs : List Input) (script : List Order) where
   -- each of the nodes stands for its numbers in a state of the machine

@@ -14,10 +14,7 @@ ghost use Rattle.tuple_edge.specs.Input.{Input};
 
 use crate::PairControl;
 use plan_reader::Plan;
-use tuple_edge::{Body, EdgeId, LinkId, NodeId};
-
-// Every incarnation, term and number of an item stays below this.
-const LIMIT: u64 = 1 << 62;
+use tuple_edge::{Body, EdgeId, LinkId, NUMBER_LIMIT, NodeId};
 
 impl PairControl {
     /// Whether a packet from this node may be given to `on`: the plan has the link, which carries such a
@@ -56,7 +53,7 @@ impl PairControl {
         ensures { IsTrue result ↔ IsCarried self.now body.now }
     {
         match *body {
-            Body::Report { edge, upto, .. } => self.has_edge(edge) && upto < LIMIT,
+            Body::Report { edge, upto, .. } => self.has_edge(edge) && upto < NUMBER_LIMIT,
             Body::Down { .. } | Body::AskStop { .. } | Body::AskBack | Body::Caught { .. } => true,
             _ => false,
         }
@@ -75,6 +72,6 @@ impl PairControl {
     fn may_rise(&self) -> bool
         ensures { IsTrue result ↔ MayRise self.now }
     {
-        self.a.inc < LIMIT - 1 && self.b.inc < LIMIT - 1 && self.term < LIMIT - 1
+        self.a.inc < NUMBER_LIMIT - 1 && self.b.inc < NUMBER_LIMIT - 1 && self.term < NUMBER_LIMIT - 1
     }
 }

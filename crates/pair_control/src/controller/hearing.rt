@@ -4,23 +4,13 @@ ghost use Rattle.pair_control.specs.ControllerView.{IsOneAway, numbers_of, parti
 ghost use Rattle.pair_control.specs.Packets.{IsDone, SendsAtMost, message_of};
 ghost use Rattle.pair_machine.specs.Controllers.{controller_hears, goes_down};
 ghost use Rattle.pair_machine.specs.Messages.{Caught};
-ghost use Rattle.pair_machine.specs.Numbers.{other, replica_at};
+ghost use Rattle.pair_machine.specs.Numbers.{replica_at};
 ghost use Rattle.std.specs.Prelude.{◌≡◌, ◌<◌, ◌≤◌, ◌+◌, ◌^◌, ◌++◌, ◌∷◌, ◌⊎◌, [], Some};
 ghost use Rattle.tuple_edge.specs.declared.packet.Body.TheVariants as body;
 ghost use Rattle.tuple_edge.specs.declared.status.Status.TheVariants as status;
 
 use crate::PairControl;
 use tuple_edge::{Body, NodeId, Outbox, Status, Which};
-
-// The other replica of a pair.
-pub(crate) fn partner_of(which: Which) -> Which
-    ensures { result ≡ other which }
-{
-    match which {
-        Which::A => Which::B,
-        Which::B => Which::A,
-    }
-}
 
 impl PairControl {
     // What the packet itself changes; what isn't carried to a controller changes nothing.
@@ -76,7 +66,7 @@ impl PairControl {
         ensures incs { (self.new.a.inc ≡ self.old.a.inc) × (self.new.b.inc ≡ self.old.b.inc) }
         ensures down { (watched_of self.new which).status ≡ status.Down }
     {
-        let partner = partner_of(which);
+        let partner = which.other();
         let led = self.leader == Some(which);
         let is_followed = self.status(partner) == Status::Up;
         match which {

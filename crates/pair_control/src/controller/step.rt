@@ -18,7 +18,6 @@ ghost use Rattle.tuple_edge.specs.Input.{Input};
 
 use crate::PairControl;
 use crate::acknowledgement::raise;
-use crate::controller::hearing::partner_of;
 use crate::watched::least_report;
 use tuple_edge::{Body, NodeId, Outbox, Status, Which};
 
@@ -90,7 +89,7 @@ impl PairControl {
         ensures quiet { IsOneCatching self.old → (out.new ≡ out.old) × IsOneCatching self.new }
         ensures back { (out.new ≡ out.old) ⊎ IsOneCatching self.new }
     {
-        let partner = partner_of(which);
+        let partner = which.other();
         let due = self.back_wanted(which) && self.status(which) == Status::Down;
         if due && self.status(partner) == Status::Up {
             match which {
@@ -109,7 +108,7 @@ impl PairControl {
             ∷ (replica_at p (other which), body.Serve (watched_of self.now (other which)).inc target) ∷ [] }
         ensures sends { SendsAtMost 2 out.old out.new }
     {
-        let partner = partner_of(which);
+        let partner = which.other();
         let target = self.inc(which);
         let inc = self.inc(partner);
         self.send(which, Body::Begin { inc: target }, out);
@@ -131,7 +130,7 @@ impl PairControl {
             → (out.new ≡ out.old) × (self.new.term ≡ self.old.term) × IsOneAway self.new }
         ensures granted { ((out.new ≡ out.old) × (self.new.term ≡ self.old.term)) ⊎ IsOneAway self.new }
     {
-        let partner = partner_of(which);
+        let partner = which.other();
         let wanted = self.stop_wanted(which) && self.status(which) == Status::Up;
         if wanted && self.status(partner) == Status::Up {
             let inc = self.inc(which);
