@@ -37,8 +37,8 @@ pub trait Takes<M, T>: Image {
 
 /// Values by key. While it is watched, what was kept when the watch began can be read too.
 ///
-/// A watch takes no memory. A key's value is put aside before it first changes under the watch, so
-/// a change costs two look-ups more.
+/// A watch takes no memory. A key's value is put aside before it first changes under the watch: the
+/// first change of a key costs three look-ups more, and each later one costs one.
 #[derive(Drop)]
 pub struct KeyedStore<K: Ord, V> {
     alloc: Global,
