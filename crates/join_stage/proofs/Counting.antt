@@ -12,7 +12,7 @@ use Rattle.std.specs.Option.{IfSome}
 use Rattle.std.specs.declared.cmp.Ordering.{Ordering}
 use Rattle.std.specs.declared.cmp.Ordering.TheVariants.{Less, Equal, Greater}
 use Rattle.circular_buffer.specs.Buffer.{Buffer, keep_last}
-use Rattle.join_stage.specs.Join.{AreSides, IsJoin, all_told, has_room, key_cmp, no_sides, pushed, run, sides_after, sides_with, told_sides}
+use Rattle.join_stage.specs.Join.{AreSides, IsJoin, all_told, has_room, key_cmp, no_sides, run, sides_after, sides_with, told_sides}
 use Rattle.join_stage.specs.Store.{IsSorted, StoreView}
 use Rattle.join_stage.specs.declared.rows.JoinKey.{JoinKey}
 use Rattle.join_stage.specs.declared.rows.SideRow.{SideRow}

@@ -5,8 +5,8 @@ use Rattle.std.proofs.lemmas.List.Elements.{filter-append}
 use Rattle.std.specs.List.{filter}
 use Rattle.std.specs.Option.{IfSome}
 use Rattle.std.specs.Ordering.{int_eq}
-use Rattle.circular_buffer.specs.Buffer.{Buffer, buffer, keep_last}
-use Rattle.join_stage.specs.Join.{AreSides, last_sides, no_sides, other_side, pair_of, pairs_with, rows_of_side, sides_after, sides_of, sides_with}
+use Rattle.circular_buffer.specs.Buffer.{buffer, keep_last}
+use Rattle.join_stage.specs.Join.{AreSides, last_sides, no_sides, other_side, pairs_with, rows_of_side, sides_after, sides_of, sides_with}
 use Rattle.join_stage.specs.declared.rows.Pair.{Pair}
 use Rattle.join_stage.specs.declared.rows.SideRow.{SideRow}
 use Rattle.join_stage.specs.declared.rows.SidedRow.{SidedRow}

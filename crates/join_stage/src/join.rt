@@ -1,5 +1,5 @@
 // The join: each row is paired with the last rows of the other side that lie in its window.
-ghost use Rattle.join_stage.specs.Join.{IsJoin, has_room, row_of_kept, IsShort, IsShortFirst, JoinView, all_told, bound_after, is_after, joined, kept_at, key_cmp, next_in, no_sides, or_else, same_key_after, same_key_before, other_side, pair_of, pairs_with, saturating_sum, sides_with};
+ghost use Rattle.join_stage.specs.Join.{IsJoin, has_room, row_of_kept, IsShort, IsShortFirst, JoinView, all_told, bound_after, is_after, joined, kept_at, key_cmp, next_in, no_sides, same_key_after, same_key_before, other_side, pair_of, pairs_with, saturating_sum, sides_with};
 ghost use Rattle.join_stage.specs.Store.{IsSorted, changed, first_from, first_where, old_first, old_value};
 ghost use Rattle.std.specs.BTreeMap.{insert_entry, is_at};
 ghost use Rattle.std.specs.Map.{lookup};
@@ -308,15 +308,6 @@ fn later_before(sides: &KeyedStore<JoinKey, Sides>, after: &Option<(JoinKey, u32
     }
 }
 
-fn either(first: Option<Kept>, second: Option<Kept>) -> Option<Kept>
-    ensures { result ≡ or_else first second }
-{
-    match first {
-        Some(kept) => Some(kept),
-        None => second,
-    }
-}
-
 impl JoinState {
     /// A join that has seen nothing.
     pub fn new(alloc: Global, rows: u32) -> JoinState
@@ -429,19 +420,19 @@ impl JoinState {
     pub fn entry_after(&self, after: Option<(JoinKey, u32)>) -> Option<Kept>
         ensures { result ≡ first_where (is_after after) (all_told self.now.sides.kept) }
     {
-        either(
-            here_after(&self.sides, &after),
-            later_after(&self.sides, &after),
-        )
+        match here_after(&self.sides, &after) {
+            Some(kept) => Some(kept),
+            None => later_after(&self.sides, &after),
+        }
     }
 
     /// The same of what was kept when the watch began. None also where there is no watch.
     pub fn old_after(&self, after: Option<(JoinKey, u32)>) -> Option<Kept>
         ensures { result ≡ option_and_then (first_where (is_after after)) (option_map all_told self.now.sides.old) }
     {
-        either(
-            here_before(&self.sides, &after),
-            later_before(&self.sides, &after),
-        )
+        match here_before(&self.sides, &after) {
+            Some(kept) => Some(kept),
+            None => later_before(&self.sides, &after),
+        }
     }
 }

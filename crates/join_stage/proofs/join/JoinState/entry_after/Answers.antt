@@ -1,6 +1,7 @@
 use Rattle.std.proofs.Common.{◌∙◌, ap, Option}
-use Rattle.join_stage.specs.Join.{JoinView, all_told, is_after, or_else, same_key_after}
-use Rattle.join_stage.specs.Store.{first_where}
+use Rattle.std.specs.Option.{option_and_then}
+use Rattle.join_stage.specs.Join.{JoinView, all_told, bound_after, is_after, key_cmp, next_in, or_else}
+use Rattle.join_stage.specs.Store.{first_from, first_where}
 use Rattle.join_stage.specs.declared.rows.Kept.{Kept}
 use Rattle.join_stage.proofs.JoinAfter.{next_told, short_first, short_lookup}
 use Rattle.join_stage.proofs.join.JoinState.entry_after.Goals as goal
@@ -11,9 +12,17 @@ here_after-requires c = short_lookup c.self.inside.rows c.self.inside.sides.kept
 pub later_after-requires : goal.later_after-requires
 later_after-requires c = short_first c.self.inside.rows c.self.inside.sides.kept c.self.invariant.0.1 c.self.invariant.0.2
 
-pub returns : goal.returns
-returns c =
-    c.either.ensures ∙ ap (λ (o : Option Kept). or_else o c.later_after.result) c.here_after.ensures
-    ∙ ap (or_else (same_key_after c.args.after c.self.inside.sides.kept)) c.later_after.ensures
+pub returns-in-Some : goal.returns-in-Some
+returns-in-Some c =
+    let later : Option Kept = option_and_then (λ e. next_in e.0 0 e.1) (first_from key_cmp (bound_after c.args.after) c.self.inside.sides.kept) in
+    ap (λ (o : Option Kept). or_else o later) c.in-Some.ensures
+    ∙ next_told c.self.inside.rows c.args.after c.self.inside.sides.kept c.self.invariant.0.2
+    ∙ ap (λ (s : JoinView). first_where (is_after c.args.after) (all_told s.sides.kept)) c.self.view_is
+
+pub returns-in-None : goal.returns-in-None
+returns-in-None c =
+    let later : Option Kept = option_and_then (λ e. next_in e.0 0 e.1) (first_from key_cmp (bound_after c.args.after) c.self.inside.sides.kept) in
+    c.later_after.ensures
+    ∙ ap (λ (o : Option Kept). or_else o later) c.in-None.ensures
     ∙ next_told c.self.inside.rows c.args.after c.self.inside.sides.kept c.self.invariant.0.2
     ∙ ap (λ (s : JoinView). first_where (is_after c.args.after) (all_told s.sides.kept)) c.self.view_is
