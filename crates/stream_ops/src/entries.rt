@@ -13,7 +13,7 @@ use std::ops::Bound;
 use tuple_edge::{Entry, Key, OutOfMemory};
 
 // The entry of sums at a slot of a key.
-pub(crate) fn entry_of(key: &Key, slot: u32, sums: &Sums, number: &i64) -> Entry
+pub(crate) fn sums_entry(key: &Key, slot: u32, sums: &Sums, number: &i64) -> Entry
     ensures { result ≡ sums_entry key.now slot sums.now number.now }
 {
     Entry::Keyed {
@@ -33,7 +33,7 @@ pub(crate) fn add_totals(
     ensures { OnOk result (out.new.items ≡ out.old.items ++ all_told told_total totals.now.kept) }
 {
     for (key, sums) in totals.iter() {
-        out.push(entry_of(key, 0, sums, &0))?;
+        out.push(sums_entry(key, 0, sums, &0))?;
     }
     Ok(())
 }
@@ -46,7 +46,7 @@ pub(crate) fn add_windows(
     ensures { OnOk result (out.new.items ≡ out.old.items ++ all_told told_window windows.now.kept) }
 {
     for (key, open) in windows.iter() {
-        out.push(entry_of(key, 0, &open.sums, &open.number))?;
+        out.push(sums_entry(key, 0, &open.sums, &open.number))?;
     }
     Ok(())
 }
@@ -61,7 +61,7 @@ fn add_slots(
 {
     let mut slot: u32 = 0;
     for sums in kept.iter() {
-        out.push(entry_of(key, slot, sums, &0))?;
+        out.push(sums_entry(key, slot, sums, &0))?;
         let Some(next) = slot.checked_add(1) else {
             return Err(OutOfMemory);
         };
@@ -101,7 +101,7 @@ pub(crate) fn total_after(
     ensures { result ≡ option_map (λ e. sums_entry e.0 0 e.1 (pos 0)) (old_first key_cmp (bound_after after.now) totals.now.old) }
 {
     match totals.old_first(bound_after(after)) {
-        Some((key, sums)) => Some(entry_of(key, 0, sums, &0)),
+        Some((key, sums)) => Some(sums_entry(key, 0, sums, &0)),
         None => None,
     }
 }
@@ -114,7 +114,7 @@ pub(crate) fn window_after(
     ensures { result ≡ option_map (λ e. sums_entry e.0 0 e.1.sums e.1.number) (old_first key_cmp (bound_after after.now) windows.now.old) }
 {
     match windows.old_first(bound_after(after)) {
-        Some((key, open)) => Some(entry_of(key, 0, &open.sums, &open.number)),
+        Some((key, open)) => Some(sums_entry(key, 0, &open.sums, &open.number)),
         None => None,
     }
 }
@@ -140,7 +140,7 @@ fn nth_entry(key: &Key, kept: &HeapCircularBuffer<Sums>, slot: u32) -> Option<En
     ensures { result ≡ next_slot key.now slot kept.now }
 {
     match kept.get(slot as usize + 1) {
-        Some(sums) => Some(entry_of(key, slot + 1, sums, &0)),
+        Some(sums) => Some(sums_entry(key, slot + 1, sums, &0)),
         None => None,
     }
 }
@@ -190,7 +190,7 @@ fn first_entry(key: &Key, kept: &HeapCircularBuffer<Sums>) -> Option<Entry>
     ensures { result ≡ first_slot key.now kept.now }
 {
     match kept.front() {
-        Some(sums) => Some(entry_of(key, 0, sums, &0)),
+        Some(sums) => Some(sums_entry(key, 0, sums, &0)),
         None => None,
     }
 }

@@ -29,11 +29,11 @@ fn join_key(key: &Key) -> JoinKey
 }
 
 // The row that tells of a pair.
-fn row_of(time: &i64, key: &Key, pair: &Pair) -> Row
-    ensures { result ≡ row_of_pair time.now key.now pair.now }
+fn row_of(time: i64, key: &Key, pair: &Pair) -> Row
+    ensures { result ≡ row_of_pair time key.now pair.now }
 {
     Row {
-        time: *time,
+        time,
         account: key.account,
         symbol: key.symbol,
         qty: pair.qty,
@@ -42,9 +42,9 @@ fn row_of(time: &i64, key: &Key, pair: &Pair) -> Row
 }
 
 // Appends a row for each pair, where there is room for them.
-fn add_pairs(out: &mut Vec<Row>, time: &i64, key: &Key, pairs: &Vec<Pair>)
+fn add_pairs(out: &mut Vec<Row>, time: i64, key: &Key, pairs: &Vec<Pair>)
     requires { vec_len out.old + length pairs.now.items ≤ vec_capacity out.old }
-    ensures { out.new.items ≡ out.old.items ++ map (row_of_pair time.now key.now) pairs.now.items }
+    ensures { out.new.items ≡ out.old.items ++ map (row_of_pair time key.now) pairs.now.items }
 {
     for pair in pairs.iter() {
         out.push_reserved(row_of(time, key, pair));
@@ -52,26 +52,26 @@ fn add_pairs(out: &mut Vec<Row>, time: &i64, key: &Key, pairs: &Vec<Pair>)
 }
 
 // Takes a row into a join, and appends a row for each of its pairs.
-pub(crate) fn pair(
+pub(crate) fn take_joined(
     alloc: Global,
     join: &mut JoinState,
     key: &Key,
     left: bool,
-    width: &i64,
+    width: i64,
     row: &Row,
     out: &mut Vec<Row>,
 ) -> Result<(), OutOfMemory>
-    requires width { pos 1 ≤ℤ width.now }
-    ensures answers { OnOk result (out.new.items ≡ out.old.items ++ map (row_of_pair row.now.time key.now) (pairs_with (side_row width.now row.now) (other_side left (lookup (is_at (key_cmp (join_key key.now))) join.old.sides.kept)))) }
+    requires width { pos 1 ≤ℤ width }
+    ensures answers { OnOk result (out.new.items ≡ out.old.items ++ map (row_of_pair row.now.time key.now) (pairs_with (side_row width row.now) (other_side left (lookup (is_at (key_cmp (join_key key.now))) join.old.sides.kept)))) }
     ensures few { OnOk result (length out.new.items ≤ length out.old.items + join.old.rows) }
-    ensures keeps { OnOk result (join.new ≡ joined join.old (join_key key.now) (record { left = left; row = side_row width.now row.now })) }
+    ensures keeps { OnOk result (join.new ≡ joined join.old (join_key key.now) (record { left = left; row = side_row width row.now })) }
     ensures err { OnErr result ((join.new ≡ join.old) × (out.new.items ≡ out.old.items)) }
 {
     let window = window_at(width, row);
     out.reserve(join.rows() as usize)?;
     let mut pairs = Vec::new(alloc);
     join.step(join_key(key), left, window, row.qty, row.value, &mut pairs)?;
-    add_pairs(out, &row.time, key, &pairs);
+    add_pairs(out, row.time, key, &pairs);
     Ok(())
 }
 
@@ -89,7 +89,7 @@ fn entry_of_kept(kept: &Kept) -> Entry
 }
 
 // The entry of a row that is kept, if there is one.
-fn entry_of(kept: &Option<Kept>) -> Option<Entry>
+fn entry_if_kept(kept: &Option<Kept>) -> Option<Entry>
     ensures { result ≡ option_map entry_of_kept kept.now }
 {
     match kept {
@@ -112,7 +112,7 @@ fn join_place(after: &Option<(Key, u32)>) -> Option<(JoinKey, u32)>
 pub(crate) fn joined_after(join: &JoinState, after: &Option<(Key, u32)>) -> Option<Entry>
     ensures { result ≡ option_and_then (first_where (is_after after.now)) (option_map (all_told told_sides) (keyed join.now.sides).old) }
 {
-    entry_of(&join.old_after(join_place(after)))
+    entry_if_kept(&join.old_after(join_place(after)))
 }
 
 // Appends an entry for each row of one side, oldest first, from this slot on.

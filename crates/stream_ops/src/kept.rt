@@ -49,8 +49,8 @@ pub(crate) fn sums_at(totals: &KeyedStore<Key, Sums>, key: &Key) -> Sums
     totals.get(key).copied().unwrap_or(Sums::none())
 }
 
-// Counts a row into the sums of its key, and gives them.
-pub(crate) fn count(
+// Adds a row to the sums of its key, and gives them.
+pub(crate) fn add_to_sums(
     totals: &mut KeyedStore<Key, Sums>,
     key: Key,
     row: &Row,
@@ -81,12 +81,12 @@ pub(crate) fn add_crossing(
     out: &mut Vec<Row>,
     before: &Sums,
     after: &Sums,
-    limit: &i64,
-    time: &i64,
+    limit: i64,
+    time: i64,
     key: &Key,
 )
     requires { vec_len out.old + 1 ≤ vec_capacity out.old }
-    ensures rows { out.new.items ≡ out.old.items ++ told_crossing limit.now key.now time.now before.now after.now }
+    ensures rows { out.new.items ≡ out.old.items ++ told_crossing limit key.now time before.now after.now }
     ensures few { length out.new.items ≤ length out.old.items + 1 }
 {
     if before.is_above(limit) != after.is_above(limit) {
@@ -105,17 +105,17 @@ pub(crate) fn add_window(out: &mut Vec<Row>, closed: &Option<OpenWindow>, key: &
     }
 }
 
-// Counts a row into the window of its key, and gives the one that it closes.
-pub(crate) fn note(
+// Adds a row to the window of its key, and gives the one that it closes.
+pub(crate) fn add_to_window(
     windows: &mut KeyedStore<Key, OpenWindow>,
     key: Key,
-    width: &i64,
+    width: i64,
     row: &Row,
 ) -> Result<Option<OpenWindow>, OutOfMemory>
     requires timely { IsTime row.now.time }
-    requires width { (pos 1 ≤ℤ width.now) × (width.now ≤ℤ max_window_seconds) }
-    ensures closed { IfOk result (λ closed. closed ≡ closed_by (lookup (is_key key) windows.old.kept) (opened_by width.now row.now)) }
-    ensures counts { OnOk result (windows.new ≡ changed windows.old (insert_entry key_cmp windows.old.kept key (window_with (lookup (is_key key) windows.old.kept) (opened_by width.now row.now) row.now))) }
+    requires width { (pos 1 ≤ℤ width) × (width ≤ℤ max_window_seconds) }
+    ensures closed { IfOk result (λ closed. closed ≡ closed_by (lookup (is_key key) windows.old.kept) (opened_by width row.now)) }
+    ensures counts { OnOk result (windows.new ≡ changed windows.old (insert_entry key_cmp windows.old.kept key (window_with (lookup (is_key key) windows.old.kept) (opened_by width row.now) row.now))) }
     ensures err { OnErr result (windows.new ≡ windows.old) }
 {
     let next = OpenWindow::at(width, row);
@@ -165,18 +165,18 @@ pub(crate) fn last_sums(last_rows: &KeyedStore<Key, HeapCircularBuffer<Sums>>, k
 }
 
 // Puts one more among the last ones of its key, and counts how many there are for all keys.
-pub(crate) fn push(
+pub(crate) fn add_last_row(
     alloc: Global,
     last_rows: &mut KeyedStore<Key, HeapCircularBuffer<Sums>>,
     total: &mut u64,
     key: Key,
-    rows: &u32,
+    rows: u32,
     more: &Sums,
 ) -> Result<(), OutOfMemory>
-    requires right { IsRight (AreLast rows.now) last_rows.old }
-    requires rows { 1 ≤ rows.now }
+    requires right { IsRight (AreLast rows) last_rows.old }
+    requires rows { 1 ≤ rows }
     requires total { total.old ≡ length (all_told told_last last_rows.old.kept) }
-    ensures pushes { OnOk result (last_rows.new ≡ changed last_rows.old (insert_entry key_cmp last_rows.old.kept key (last_added rows.now (lookup (is_key key) last_rows.old.kept) more.now))) }
+    ensures pushes { OnOk result (last_rows.new ≡ changed last_rows.old (insert_entry key_cmp last_rows.old.kept key (last_added rows (lookup (is_key key) last_rows.old.kept) more.now))) }
     ensures total { total.new ≡ length (all_told told_last last_rows.new.kept) }
     ensures err { OnErr result ((last_rows.new ≡ last_rows.old) × (total.new ≡ total.old)) }
 {
@@ -187,11 +187,11 @@ pub(crate) fn push(
 }
 
 // Whether the last rows of the key get one longer by one more.
-fn has_room(last_rows: &KeyedStore<Key, HeapCircularBuffer<Sums>>, key: &Key, rows: &u32) -> bool
-    ensures { result ≡ has_room rows.now (lookup (is_key key.now) last_rows.now.kept) }
+fn has_room(last_rows: &KeyedStore<Key, HeapCircularBuffer<Sums>>, key: &Key, rows: u32) -> bool
+    ensures { result ≡ has_room rows (lookup (is_key key.now) last_rows.now.kept) }
 {
     match last_rows.get(key) {
-        Some(kept) => kept.len() < *rows as usize,
+        Some(kept) => kept.len() < rows as usize,
         None => true,
     }
 }
@@ -214,16 +214,16 @@ fn put_last(
     alloc: Global,
     last_rows: &mut KeyedStore<Key, HeapCircularBuffer<Sums>>,
     key: Key,
-    rows: &u32,
+    rows: u32,
     more: &Sums,
 ) -> Result<(), OutOfMemory>
-    ensures pushes { OnOk result (last_rows.new ≡ changed last_rows.old (insert_entry key_cmp last_rows.old.kept key (last_added rows.now (lookup (is_key key) last_rows.old.kept) more.now))) }
+    ensures pushes { OnOk result (last_rows.new ≡ changed last_rows.old (insert_entry key_cmp last_rows.old.kept key (last_added rows (lookup (is_key key) last_rows.old.kept) more.now))) }
     ensures err { OnErr result (last_rows.new ≡ last_rows.old) }
 {
     if last_rows.change(&key, *more)?.is_some() {
         return Ok(());
     }
-    let mut kept = HeapCircularBuffer::with_capacity(alloc, *rows as usize)?;
+    let mut kept = HeapCircularBuffer::with_capacity(alloc, rows as usize)?;
     kept.push_back(*more);
     last_rows.insert(key, kept)?;
     Ok(())

@@ -20,6 +20,7 @@ mod operator;
 mod spec;
 mod state;
 mod sums;
+mod taking;
 mod window;
 
 pub use spec::{

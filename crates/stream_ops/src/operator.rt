@@ -15,10 +15,9 @@ ghost use Rattle.tuple_edge.specs.declared.item.Item.{Item};
 use crate::entries::{
     add_last_rows, add_totals, add_windows, last_after, total_after, window_after,
 };
-use crate::joined::{add_joined, joined_after, pair, put_joined};
-use crate::kept::{
-    add_crossing, add_row, add_window, count, last_sums, note, push, sums_at, write_windows,
-};
+use crate::joined::{add_joined, joined_after, put_joined, take_joined};
+use crate::kept::{add_last_row, write_windows};
+use crate::taking::{take_crossing, take_last, take_passing, take_total, take_window};
 use crate::{By, Compare, OpSpec, OpenWindow, Sums};
 use circular_buffer::HeapCircularBuffer;
 use join_stage::{JoinState, KeyedStore};
@@ -190,54 +189,24 @@ impl Operator {
                 compare,
                 limit,
                 ..
-            } => {
-                if compare.holds(row.get(column), limit) {
-                    out.push(*row)?;
-                }
-                Ok(())
-            }
-            Operator::Total { by, ref mut totals } => {
-                let key = by.key(row);
-                out.reserve(1)?;
-                let sums = count(totals, key, row)?;
-                add_row(out, sums.row(&row.time, &key));
-                Ok(())
-            }
+            } => take_passing(column, compare, limit, row, out),
+            Operator::Total { by, ref mut totals } => take_total(totals, by.key(row), row, out),
             Operator::Last {
                 by,
                 rows,
                 ref mut last_rows,
                 ref mut count,
-            } => {
-                let key = by.key(row);
-                out.reserve(1)?;
-                push(alloc, last_rows, count, key, &rows, &Sums::of(row))?;
-                add_row(out, last_sums(last_rows, &key).row(&row.time, &key));
-                Ok(())
-            }
+            } => take_last(alloc, last_rows, count, by.key(row), rows, row, out),
             Operator::Window {
                 by,
                 width,
                 ref mut windows,
-            } => {
-                let key = by.key(row);
-                out.reserve(1)?;
-                let closed = note(windows, key, &width, row)?;
-                add_window(out, &closed, &key);
-                Ok(())
-            }
+            } => take_window(windows, by.key(row), width, row, out),
             Operator::Crossing {
                 by,
                 limit,
                 ref mut totals,
-            } => {
-                let key = by.key(row);
-                out.reserve(1)?;
-                let before = sums_at(totals, &key);
-                let after = count(totals, key, row)?;
-                add_crossing(out, &before, &after, &limit, &row.time, &key);
-                Ok(())
-            }
+            } => take_crossing(totals, by.key(row), limit, row, out),
             Operator::Join {
                 by,
                 width,
@@ -246,10 +215,8 @@ impl Operator {
                 limit,
                 ref mut join,
             } => {
-                let key = by.key(row);
                 let left = compare.holds(row.get(column), limit);
-                pair(alloc, join, &key, left, &width, row, out)?;
-                Ok(())
+                take_joined(alloc, join, &by.key(row), left, width, row, out)
             }
         }
     }
@@ -309,26 +276,11 @@ impl Operator {
     {
         match self {
             Operator::Keep { .. } => Ok(()),
-            Operator::Total { totals, .. } => {
-                add_totals(totals, out)?;
-                Ok(())
-            }
-            Operator::Last { last_rows, .. } => {
-                add_last_rows(last_rows, out)?;
-                Ok(())
-            }
-            Operator::Window { windows, .. } => {
-                add_windows(windows, out)?;
-                Ok(())
-            }
-            Operator::Crossing { totals, .. } => {
-                add_totals(totals, out)?;
-                Ok(())
-            }
-            Operator::Join { join, .. } => {
-                add_joined(join, out)?;
-                Ok(())
-            }
+            Operator::Total { totals, .. } => add_totals(totals, out),
+            Operator::Last { last_rows, .. } => add_last_rows(last_rows, out),
+            Operator::Window { windows, .. } => add_windows(windows, out),
+            Operator::Crossing { totals, .. } => add_totals(totals, out),
+            Operator::Join { join, .. } => add_joined(join, out),
         }
     }
 
@@ -373,7 +325,7 @@ impl Operator {
                 ref mut count,
                 ..
             } => {
-                push(alloc, last_rows, count, *key, &rows, &sums)?;
+                add_last_row(alloc, last_rows, count, *key, rows, &sums)?;
                 Ok(())
             }
             Operator::Window {
@@ -381,7 +333,7 @@ impl Operator {
                 ref mut windows,
                 ..
             } => {
-                let Some(window) = OpenWindow::numbered(c, &width, &sums) else {
+                let Some(window) = OpenWindow::numbered(c, width, &sums) else {
                     return Ok(());
                 };
                 windows.insert(*key, window)?;

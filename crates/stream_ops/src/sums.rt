@@ -53,11 +53,11 @@ impl Sums {
     }
 
     // The row that tells a key's sums at a time.
-    pub(crate) fn row(&self, time: &i64, key: &Key) -> Row
-        ensures { result ≡ sums_row time.now key.now self.now }
+    pub(crate) fn row(&self, time: i64, key: &Key) -> Row
+        ensures { result ≡ sums_row time key.now self.now }
     {
         Row {
-            time: *time,
+            time,
             account: key.account,
             symbol: key.symbol,
             qty: self.qty,
@@ -66,9 +66,9 @@ impl Sums {
     }
 
     // Whether the size of the value is above a limit.
-    pub(crate) fn is_above(&self, limit: &i64) -> bool
-        ensures { result ≡ is_above limit.now self.now.value }
+    pub(crate) fn is_above(&self, limit: i64) -> bool
+        ensures { result ≡ is_above limit self.now.value }
     {
-        i128::from(*limit) < i128::from(self.value.unsigned_abs())
+        i128::from(limit) < i128::from(self.value.unsigned_abs())
     }
 }

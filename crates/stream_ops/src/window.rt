@@ -17,19 +17,19 @@ pub struct OpenWindow {
 }
 
 // The number of the window that a row's time lies in.
-pub(crate) fn window_at(width: &i64, row: &Row) -> i64
-    requires { pos 1 ≤ℤ width.now }
-    ensures { result ≡ window_of width.now row.now }
+pub(crate) fn window_at(width: i64, row: &Row) -> i64
+    requires { pos 1 ≤ℤ width }
+    ensures { result ≡ window_of width row.now }
 {
-    row.time.div_euclid(*width)
+    row.time.div_euclid(width)
 }
 
 // The time at which a window starts.
-fn start_of(number: &i64, width: &i64) -> i64
-    requires { FitsSigned w64 (number.now *ℤ width.now) }
-    ensures { result ≡ number.now *ℤ width.now }
+fn start_of(number: i64, width: i64) -> i64
+    requires { FitsSigned w64 (number *ℤ width) }
+    ensures { result ≡ number *ℤ width }
 {
-    *number * *width
+    number * width
 }
 
 impl OpenWindow {
@@ -39,36 +39,36 @@ impl OpenWindow {
     ghost use Rattle.stream_ops.specs.Limits.{max_window_seconds};
 
     // The window that a row opens.
-    pub(crate) fn at(width: &i64, row: &Row) -> OpenWindow
+    pub(crate) fn at(width: i64, row: &Row) -> OpenWindow
         requires timely { IsTime row.now.time }
-        requires width { (pos 1 ≤ℤ width.now) × (width.now ≤ℤ max_window_seconds) }
-        ensures { result ≡ opened_by width.now row.now }
+        requires width { (pos 1 ≤ℤ width) × (width ≤ℤ max_window_seconds) }
+        ensures { result ≡ opened_by width row.now }
     {
         let number = window_at(width, row);
         OpenWindow::starting(
-            &number,
-            &start_of(&number, width),
+            number,
+            start_of(number, width),
             &Sums::none().with(&Sums::of(row)),
         )
     }
 
     // The window of this number, with these sums. None exactly where its start doesn't fit into 64
     // bits.
-    pub(crate) fn numbered(number: &i64, width: &i64, sums: &Sums) -> Option<OpenWindow>
-        ensures { SomeIff result (FitsSigned w64 (number.now *ℤ width.now)) (record { number = number.now; start = number.now *ℤ width.now; sums = sums.now }) }
+    pub(crate) fn numbered(number: &i64, width: i64, sums: &Sums) -> Option<OpenWindow>
+        ensures { SomeIff result (FitsSigned w64 (number.now *ℤ width)) (record { number = number.now; start = number.now *ℤ width; sums = sums.now }) }
     {
-        match number.checked_mul(*width) {
-            Some(start) => Some(OpenWindow::starting(number, &start, sums)),
+        match number.checked_mul(width) {
+            Some(start) => Some(OpenWindow::starting(*number, start, sums)),
             None => None,
         }
     }
 
-    fn starting(number: &i64, start: &i64, sums: &Sums) -> OpenWindow
-        ensures { result ≡ record { number = number.now; start = start.now; sums = sums.now } }
+    fn starting(number: i64, start: i64, sums: &Sums) -> OpenWindow
+        ensures { result ≡ record { number = number; start = start; sums = sums.now } }
     {
         OpenWindow {
-            number: *number,
-            start: *start,
+            number,
+            start,
             sums: *sums,
         }
     }
@@ -121,6 +121,6 @@ impl OpenWindow {
     pub(crate) fn row(&self, key: &Key) -> Row
         ensures { result ≡ told_window_row key.now self.now }
     {
-        self.sums.row(&self.start, key)
+        self.sums.row(self.start, key)
     }
 }

@@ -10,7 +10,7 @@ use Rattle.stream_ops.proofs.joined.joined_after.Goals as goal
 
 pub returns : goal.returns
 returns c =
-    c.entry_of.ensures
+    c.entry_if_kept.ensures
     ∙ ap (λ (o : Option Kept). option_map entry_of_kept o) c.old_after.ensures
     ∙ ap (λ (at : Option (JoinKey × ℕ)). option_map entry_of_kept (option_and_then (first_where (join.is_after at)) (option_map join.all_told c.args.join.now.sides.old))) c.join_place.ensures
     ∙ old_told c.args.after.now c.args.join.now.sides.old

@@ -47,26 +47,26 @@ returns-in_ok-insert-in-Crossing-clause-entries c = λ given.
     ∙ put_total c.in-Crossing.by c.in-Crossing.totals.kept c.in-Keyed.key c.in-Keyed.slot c.in-Keyed.a c.in-Keyed.b c.in-Keyed.c next.0 next.1 sound.1.0 next.3
     ∙ ap (λ (o : Operator). entries_of o ++ en ∷ []) (sym c.in-Crossing.is) ∙ ap (λ (e : Entry). entries_of c.args.self.now ++ e ∷ []) (sym c.in-Keyed.is)
 
-pub returns-in_ok-push-in-Last-clause-entries : goal.returns-in_ok-push-in-Last-clause-entries
-returns-in_ok-push-in-Last-clause-entries c = λ given.
+pub returns-in_ok-add_last_row-in-Last-clause-entries : goal.returns-in_ok-add_last_row-in-Last-clause-entries
+returns-in_ok-add_last_row-in-Last-clause-entries c = λ given.
     let en : Entry = entry.Keyed c.in-Keyed.key c.in-Keyed.slot c.in-Keyed.a c.in-Keyed.b c.in-Keyed.c in
     let o : Operator = operator.Last c.in-Last.by c.in-Last.rows c.in-Last.last_rows c.in-Last.count in
     let sound : IsSound o = subst (λ (o : Operator). IsSound o) c.in-Last.is c.requires.sound in
     let next : IsNextEntry (spec_of o) (entries_of o) en =
     subst (λ (o : Operator). IsNextEntry (spec_of o) (entries_of o) en) c.in-Last.is (subst (λ (e : Entry). IsNextEntry (spec_of c.args.self.now) (entries_of c.args.self.now) e) c.in-Keyed.is given) in
-    ap (λ (s : StoreView Key (Buffer Sums)). all_told told_last s.kept) c.in_ok-push-in-Last.ensures.pushes
+    ap (λ (s : StoreView Key (Buffer Sums)). all_told told_last s.kept) c.in_ok-add_last_row-in-Last.ensures.pushes
     ∙ ap (λ (s : Sums). all_told told_last (insert_entry key_cmp c.in-Last.last_rows.kept c.in-Keyed.key (last_added c.in-Last.rows (lookup (is_key c.in-Keyed.key) c.in-Last.last_rows.kept) s))) c.told-sums.ensures
     ∙ put_last_rows c.in-Last.by c.in-Last.rows c.in-Last.last_rows.kept c.in-Keyed.key c.in-Keyed.slot c.in-Keyed.a c.in-Keyed.b c.in-Keyed.c next.0 next.1 sound.0.0 sound.1.0 next.3
     ∙ ap (λ (o : Operator). entries_of o ++ en ∷ []) (sym c.in-Last.is) ∙ ap (λ (e : Entry). entries_of c.args.self.now ++ e ∷ []) (sym c.in-Keyed.is)
 
-pub returns-in_ok-push-in-Last-clause-sound : goal.returns-in_ok-push-in-Last-clause-sound
-returns-in_ok-push-in-Last-clause-sound c =
+pub returns-in_ok-add_last_row-in-Last-clause-sound : goal.returns-in_ok-add_last_row-in-Last-clause-sound
+returns-in_ok-add_last_row-in-Last-clause-sound c =
     let sound : IsSound (operator.Last c.in-Last.by c.in-Last.rows c.in-Last.last_rows c.in-Last.count) = subst (λ (o : Operator). IsSound o) c.in-Last.is c.requires.sound in
     let sums : Sums = c.told-sums.result in (
       sound.0,
-      right-changed (AreLast c.in-Last.rows) c.in-Last.last_rows c.push.new.last_rows c.in-Keyed.key (last_added c.in-Last.rows (lookup (is_key c.in-Keyed.key) c.in-Last.last_rows.kept) sums) sound.1 c.in_ok-push-in-Last.ensures.pushes
+      right-changed (AreLast c.in-Last.rows) c.in-Last.last_rows c.add_last_row.new.last_rows c.in-Keyed.key (last_added c.in-Last.rows (lookup (is_key c.in-Keyed.key) c.in-Last.last_rows.kept) sums) sound.1 c.in_ok-add_last_row-in-Last.ensures.pushes
           (last_right c.in-Last.rows sound.0.0 (lookup (is_key c.in-Keyed.key) c.in-Last.last_rows.kept) sums (right-found (AreLast c.in-Last.rows) c.in-Keyed.key c.in-Last.last_rows.kept sound.1.0)),
-      c.in_ok-push-in-Last.ensures.total,
+      c.in_ok-add_last_row-in-Last.ensures.total,
     )
 
 pub returns-in_ok-insert-in-Window-clause-entries : goal.returns-in_ok-insert-in-Window-clause-entries
