@@ -7,10 +7,14 @@
 //!
 //! An operator is added in these places. Its settings: [`OpSpec`], and their limits in specs/Spec.
 //! What it answers, on the rows before: specs/Answers; what it keeps of a key, as entries:
-//! specs/Entries. The code: a variant of `Operator` with a store by key, and a line in each `match`
-//! there. The link between them: a line for it in each definition of specs/View, a lemma on what is
-//! kept with one row more, and a case in proofs/Standing, PutBack, After and Rising. `OpState`, and
-//! all that stands above it, stay as they are.
+//! specs/Entries. The code: a variant of `Operator` with a store by key, a line in each `match`
+//! there, and how it takes a row in src/taking. The link between them: a line for it in each
+//! definition of specs/View, a lemma on what is kept with one row more, and a case in
+//! proofs/Standing, PutBack, After and Rising. `OpState` stays as it is.
+//!
+//! Crates above need cases too: plan_reader, whose plans name the operators, and bucket_move, which
+//! says of each whether what it keeps can be split by the column that routes its rows. So do lemmas
+//! in proofs/ of catch_up, evaluation, move_command and replica_node.
 #![tactic(auto)]
 
 mod entries;
