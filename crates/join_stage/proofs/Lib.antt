@@ -4,3 +4,4 @@ pub mod LastSides
 pub mod Copied
 pub mod Pairs
 pub mod JoinAfter
+pub mod Pinned

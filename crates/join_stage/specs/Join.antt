@@ -10,6 +10,7 @@ use Rattle.std.specs.Map.{lookup, values_of}
 use Rattle.std.specs.Ordering.{int_cmp, int_eq, is_gt, nat_cmp, ordering_then}
 use Rattle.std.specs.declared.cmp.Ordering.{Ordering}
 use Rattle.circular_buffer.specs.Buffer.{Buffer, buffer, keep_last}
+use Rattle.join_stage.specs.Limits.{first_right_slot, max_join_rows}
 use Rattle.join_stage.specs.Store.{IsSorted, StoreView, changed, first_from, old_value}
 use Rattle.join_stage.specs.declared.rows.JoinKey.{JoinKey}
 use Rattle.join_stage.specs.declared.rows.Kept.{Kept}
@@ -89,16 +90,16 @@ abbrev pub run : JoinKey → ℕ → List SideRow → List Kept
 run k slot [] = []
 run k slot (r ∷ rows) = kept_at k slot r ∷ run k (slot + 1) rows
 
--- what is kept of a key: its last left rows from slot 0 on, and its last right rows from slot 4 on
+-- what is kept of a key: its last left rows from slot 0 on, and its last right rows from the first right slot on
 abbrev pub told_sides : JoinKey → Sides → List Kept
-told_sides k s = run k 0 s.left.items ++ run k 4 s.right.items
+told_sides k s = run k 0 s.left.items ++ run k first_right_slot s.right.items
 
 abbrev pub all_told : List (JoinKey × Sides) → List Kept
 all_told kept = flat_map (λ e. told_sides e.0 e.1) kept
 
--- a kept row as it was taken: of the left side below slot 4
+-- a kept row as it was taken: of the left side below the first right slot
 abbrev pub row_of_kept : Kept → SidedRow
-row_of_kept x = record { left = nat_lt x.slot 4; row = record { qty = x.qty; value = x.value; window = x.window } }
+row_of_kept x = record { left = nat_lt x.slot first_right_slot; row = record { qty = x.qty; value = x.value; window = x.window } }
 
 -- whether a kept row's key and slot are above these
 abbrev pub is_after : Option (JoinKey × ℕ) → Kept → Bool
@@ -116,9 +117,9 @@ pub record AreSides (n : ℕ) (s : Sides) : Type 0 where
 abbrev pub AreRight : ℕ → List (JoinKey × Sides) → Type 0
 AreRight n es = IsSorted key_cmp es × All (AreSides n) (values_of es)
 
--- no side of a key has more than four rows
+-- no side of a key has more rows than a join keeps at most
 abbrev pub IsShort : Sides → Type 0
-IsShort s = (length s.left.items ≤ 4) × (length s.right.items ≤ 4)
+IsShort s = (length s.left.items ≤ max_join_rows) × (length s.right.items ≤ max_join_rows)
 
 abbrev pub IsShortFirst : Option (JoinKey × Sides) → Type 0
 IsShortFirst None = Unit {0}
@@ -126,7 +127,7 @@ IsShortFirst (Some e) = IsShort e.1
 
 -- what is always true of a join
 abbrev pub IsJoin : ℕ → StoreView JoinKey Sides → Type 0
-IsJoin n s = (1 ≤ n) × (n ≤ 4) × AreRight n s.kept × IfSome s.old (AreRight n)
+IsJoin n s = (1 ≤ n) × (n ≤ max_join_rows) × AreRight n s.kept × IfSome s.old (AreRight n)
 
 -- the first kept row of a key at a slot or above it
 abbrev pub or_else : {X : Type 0} → Option X → Option X → Option X
@@ -134,7 +135,7 @@ or_else None o = o
 or_else (Some x) o = Some x
 
 abbrev pub next_in : JoinKey → ℕ → Sides → Option Kept
-next_in k from s = or_else (option_map (kept_at k from) (slice_get s.left.items from)) (option_map (kept_at k (from - 4 + 4)) (slice_get s.right.items (from - 4)))
+next_in k from s = or_else (option_map (kept_at k from) (slice_get s.left.items from)) (option_map (kept_at k (from - first_right_slot + first_right_slot)) (slice_get s.right.items (from - first_right_slot)))
 
 abbrev pub bound_after : Option (JoinKey × ℕ) → Bound JoinKey
 bound_after None = Unbounded

@@ -1,5 +1,6 @@
 // The join: each row is paired with the last rows of the other side that lie in its window.
 ghost use Rattle.join_stage.specs.Join.{IsJoin, has_room, row_of_kept, IsShort, IsShortFirst, JoinView, all_told, bound_after, is_after, joined, kept_at, key_cmp, next_in, no_sides, same_key_after, same_key_before, other_side, pair_of, pairs_with, saturating_sum, sides_with};
+ghost use Rattle.join_stage.specs.Limits.{first_right_slot, max_join_rows};
 ghost use Rattle.join_stage.specs.Store.{IsSorted, changed, first_from, first_where, old_first, old_value};
 ghost use Rattle.std.specs.BTreeMap.{insert_entry, is_at};
 ghost use Rattle.std.specs.Map.{lookup};
@@ -11,7 +12,7 @@ ghost use Rattle.std.specs.declared.ops.Bound.{Bound};
 ghost use Rattle.join_stage.specs.declared.rows.JoinKey.{JoinKey};
 ghost use Rattle.std.specs.Prelude.{◌≡◌, ◌≤◌, ◌++◌, [], ◌∷◌, Some, None, IfOk, if◌then◌else◌, OnOk, OnErr, ◌+◌, length, slice_get};
 
-use crate::rows::{JoinKey, Kept, Pair, SideRow, SidedRow, Sides};
+use crate::rows::{FIRST_RIGHT_SLOT, JoinKey, Kept, Pair, SideRow, SidedRow, Sides};
 use crate::store::{KeyedStore, OutOfMemory};
 use circular_buffer::HeapCircularBuffer;
 use std::alloc::{AllocError, Global};
@@ -120,7 +121,7 @@ fn row_of_kept(kept: &Kept) -> SidedRow
     ensures { result ≡ row_of_kept kept.now }
 {
     SidedRow {
-        left: kept.slot < 4,
+        left: kept.slot < FIRST_RIGHT_SLOT,
         row: SideRow {
             qty: kept.qty,
             value: kept.value,
@@ -215,21 +216,21 @@ fn kept_at(key: &JoinKey, slot: u32, row: &SideRow) -> Kept
 
 // The first kept row of a key at a slot or above it.
 fn next_in(key: &JoinKey, from: usize, sides: &Sides) -> Option<Kept>
-    requires { (length sides.now.left.items ≤ 4) × (length sides.now.right.items ≤ 4) }
+    requires { (length sides.now.left.items ≤ max_join_rows) × (length sides.now.right.items ≤ max_join_rows) }
     ensures { result ≡ next_in key.now from sides.now }
 {
     match sides.left.get(from) {
         Some(row) => Some(kept_at(key, from as u32, row)),
-        None => next_right(key, from.saturating_sub(4), sides),
+        None => next_right(key, from.saturating_sub(FIRST_RIGHT_SLOT as usize), sides),
     }
 }
 
 fn next_right(key: &JoinKey, nth: usize, sides: &Sides) -> Option<Kept>
-    requires { length sides.now.right.items ≤ 4 }
-    ensures { result ≡ option_map (kept_at key.now (nth + 4)) (slice_get sides.now.right.items nth) }
+    requires { length sides.now.right.items ≤ max_join_rows }
+    ensures { result ≡ option_map (kept_at key.now (nth + first_right_slot)) (slice_get sides.now.right.items nth) }
 {
     match sides.right.get(nth) {
-        Some(row) => Some(kept_at(key, nth as u32 + 4, row)),
+        Some(row) => Some(kept_at(key, nth as u32 + FIRST_RIGHT_SLOT, row)),
         None => None,
     }
 }
@@ -311,7 +312,7 @@ fn later_before(sides: &KeyedStore<JoinKey, Sides>, after: &Option<(JoinKey, u32
 impl JoinState {
     /// A join that has seen nothing.
     pub fn new(alloc: Global, rows: u32) -> JoinState
-        requires { (1 ≤ rows) × (rows ≤ 4) }
+        requires { (1 ≤ rows) × (rows ≤ max_join_rows) }
         ensures { result ≡ record { rows = rows; sides = record { kept = []; old = None } } }
     {
         JoinState {
@@ -322,7 +323,7 @@ impl JoinState {
         }
     }
 
-    /// How many rows of each side of a key it keeps: 1 to 4.
+    /// How many rows of each side of a key it keeps: 1 to [`MAX_JOIN_ROWS`](crate::MAX_JOIN_ROWS).
     pub fn rows(&self) -> u32
         ensures { result ≡ self.now.rows }
     {

@@ -11,5 +11,5 @@ mod rows;
 mod store;
 
 pub use join::JoinState;
-pub use rows::{JoinKey, Kept, Pair, SideRow, SidedRow, Sides};
+pub use rows::{FIRST_RIGHT_SLOT, JoinKey, Kept, MAX_JOIN_ROWS, Pair, SideRow, SidedRow, Sides};
 pub use store::{Image, KeyedStore, OutOfMemory, Takes};

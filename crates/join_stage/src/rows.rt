@@ -3,6 +3,12 @@ use crate::store::{Image, OutOfMemory, Takes};
 use circular_buffer::HeapCircularBuffer;
 use std::alloc::Global;
 
+/// The greatest number of rows that a join keeps of each side of a key.
+pub const MAX_JOIN_ROWS: u32 = 4;
+
+/// The slot of the first right row of a key; the left ones have the slots before it.
+pub const FIRST_RIGHT_SLOT: u32 = 4;
+
 /// What rows have in common that are joined: keys are ordered by account, then symbol.
 #[derive(Clone, Copy, Debug, PartialEq, Eq, PartialOrd, Ord)]
 pub struct JoinKey {
@@ -18,7 +24,7 @@ pub struct Pair {
 }
 
 /// One row that is kept, with the slot of its place among the last rows of its key: from 0 the
-/// left ones, from 4 the right ones, oldest first.
+/// left ones, from [`FIRST_RIGHT_SLOT`] the right ones, oldest first.
 #[derive(Clone, Copy, Debug, PartialEq, Eq)]
 pub struct Kept {
     pub key: JoinKey,
