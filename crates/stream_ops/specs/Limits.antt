@@ -1,17 +1,10 @@
--- The limits of operators' settings and of times.
+-- The limits of operators' settings and of times; those of a join are stated where the join is.
 use Rattle.std.specs.Prelude.{ℕ, ℤ, pos}
+pub use Rattle.join_stage.specs.Limits.{first_right_slot, max_join_rows}
 
 -- how many rows a `last` keeps for a key, at most
 abbrev pub max_last_rows : ℕ
 max_last_rows = 64
-
--- how many rows a join keeps of each side of a key, at most
-abbrev pub max_join_rows : ℕ
-max_join_rows = 4
-
--- the slot of the first right row of a key that a join keeps; the left ones have the slots before it
-abbrev pub first_right_slot : ℕ
-first_right_slot = 4
 
 -- the greatest width of a window, in seconds
 abbrev pub max_window_seconds : ℤ

@@ -11,12 +11,9 @@ ghost use Rattle.stream_ops.specs.Joins.{entry_of_kept, join_key, kept_row, key_
 use crate::Sums;
 use crate::window::window_at;
 use circular_buffer::HeapCircularBuffer;
-use join_stage::{JoinKey, JoinState, Kept, Pair, SideRow, Sides};
+use join_stage::{FIRST_RIGHT_SLOT, JoinKey, JoinState, Kept, Pair, SideRow, Sides};
 use std::alloc::Global;
 use tuple_edge::{Entry, Key, OutOfMemory, Row};
-
-// The slot of the first right row of a key.
-const FIRST_RIGHT_SLOT: u32 = 4;
 
 // A key in the words of the crate below.
 fn join_key(key: &Key) -> JoinKey

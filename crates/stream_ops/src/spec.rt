@@ -4,13 +4,11 @@ ghost use Rattle.stream_ops.specs.Compares.{holds};
 ghost use Rattle.stream_ops.specs.Keys.{key_of};
 ghost use Rattle.stream_ops.specs.Spec.{is_join, most_rows};
 
+pub use join_stage::MAX_JOIN_ROWS;
 use tuple_edge::{Column, Key, Row};
 
 /// The greatest number of rows that a `last` keeps for a key.
 pub const MAX_LAST_ROWS: u32 = 64;
-
-/// The greatest number of rows that a `join` keeps of each side of a key.
-pub const MAX_JOIN_ROWS: u32 = 4;
 
 /// The greatest width of a window, in seconds.
 pub const MAX_WINDOW_SECONDS: i64 = 1_000_000;
