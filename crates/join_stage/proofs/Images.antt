@@ -55,7 +55,7 @@ was-aside {K} {X} {cmp} total k all f g none same aside (e ∷ es) found =
     ap (λ front. front ++ was_by g es) (was-aside_by total k all f g none same e (is_at (cmp k) e.0) refl (aside e.0) (All-head (λ e. lookup (is_at (cmp e.0)) all ≡ Some e.1) e es found))
     ∙ ap (λ rest. was e (f e.0) ++ rest) (was-aside total k all f g none same aside es (All-tail (λ e. lookup (is_at (cmp e.0)) all ≡ Some e.1) e es found))
 
-none_there : {K X : Type 0} (test : K → Bool) (es : List (K × X)) → NonePasses test es → IsSome (lookup test es) → ⊥
+pub none_there : {K X : Type 0} (test : K → Bool) (es : List (K × X)) → NonePasses test es → IsSome (lookup test es) → ⊥
 none_there test es none had =
     let h : false ≡ true = rw (lookup-none test es none) at had in
     cc

@@ -35,10 +35,10 @@ same_key a b same =
     ap (λ (p : ℤ × ℤ). let k : JoinKey = record { account = p.0; symbol = p.1 } in k)
     (exact_pairs int_cmp int_cmp exact_signed exact_signed (a.account, a.symbol) (b.account, b.symbol) same)
 
-slot_above : (s m : ℕ) → m < s → is_gt (nat_cmp s m) ≡ true
+pub slot_above : (s m : ℕ) → m < s → is_gt (nat_cmp s m) ≡ true
 slot_above s m above = grind (arith, nat_tests)
 
-slot_within : (s m : ℕ) → s ≤ m → is_gt (nat_cmp s m) ≡ false
+pub slot_within : (s m : ℕ) → s ≤ m → is_gt (nat_cmp s m) ≡ false
 slot_within s m within = grind (arith, nat_tests)
 
 place : (at : JoinKey × ℕ) (k : JoinKey) (slot : ℕ) (o : Ordering) → key_cmp at.0 k ≡ o → is_gt (ordering_then (key_cmp k at.0) (nat_cmp slot at.1)) ≡ is_gt (ordering_then (ordering_reverse o) (nat_cmp slot at.1))
@@ -49,7 +49,7 @@ first_cond : {X : Type 0} (test : X → Bool) (x : X) (xs ys : List X) (t : Bool
 first_cond test x xs ys true later = refl
 first_cond test x xs ys false later = later
 
-first_append : {X : Type 0} (test : X → Bool) (xs ys : List X) → first_where test (xs ++ ys) ≡ or_else (first_where test xs) (first_where test ys)
+pub first_append : {X : Type 0} (test : X → Bool) (xs ys : List X) → first_where test (xs ++ ys) ≡ or_else (first_where test xs) (first_where test ys)
 first_append test [] ys = refl
 first_append test (x ∷ xs) ys = first_cond test x xs ys (test x) (first_append test xs ys)
 

@@ -66,12 +66,11 @@ other_last n false [] = sym (drop-none (0 - n))
 other_last n true (m ∷ rows) = refl
 other_last n false (m ∷ rows) = refl
 
--- a row has at most as many pairs as rows are kept of the other side
-length-filter : (test : SideRow → Bool) (rows : List SideRow) → length (filter test rows) ≤ length rows
+pub length-filter : {X : Type 0} (test : X → Bool) (xs : List X) → length (filter test xs) ≤ length xs
 length-filter test [] = omega arith
-length-filter test (r ∷ rows) = by_test (test r) (length-filter test rows)
+length-filter test (x ∷ xs) = by_test (test x) (length-filter test xs)
   where
-    by_test : (t : Bool) → length (filter test rows) ≤ length rows → length (cond t (r ∷ filter test rows) (filter test rows)) ≤ suc (length rows)
+    by_test : (t : Bool) → length (filter test xs) ≤ length xs → length (cond t (x ∷ filter test xs) (filter test xs)) ≤ suc (length xs)
     by_test true later = omega arith
     by_test false later = omega arith
 
@@ -80,6 +79,7 @@ other_few n left None sides = omega arith
 other_few n true (Some s) sides = sides.right_fits
 other_few n false (Some s) sides = sides.left_fits
 
+-- a row has at most as many pairs as rows are kept of the other side
 pub length-pairs : (n : ℕ) (left : Bool) (o : Option Sides) (r : SideRow) → IfSome o (AreSides n) → length (pairs_with r (other_side left o)) ≤ n
 length-pairs n left o r sides =
     let few : length (other_side left o) ≤ n = other_few n left o sides in

@@ -13,10 +13,12 @@ use Rattle.std.specs.declared.cmp.Ordering.{Ordering}
 use Rattle.std.specs.declared.cmp.Ordering.TheVariants.{Less, Equal, Greater}
 use Rattle.std.specs.declared.ops.Bound.TheVariants.{Excluded, Unbounded}
 use Rattle.circular_buffer.specs.Buffer.{Buffer}
+use Rattle.join_stage.specs.Join.{or_else}
 use Rattle.join_stage.specs.Store.{first_from, first_where, old_first, old_value}
+use Rattle.join_stage.proofs.JoinAfter.{first_append, slot_above, slot_within}
 use Rattle.tuple_edge.specs.declared.packet.Entry.{Entry}
 use Rattle.tuple_edge.specs.declared.row.Key.{Key}
-use Rattle.stream_ops.specs.Entries.{all_told, bound_after, first_slot, is_after, last_after, next_slot, or_else, slots, sums_entry, told_last, told_total, told_window}
+use Rattle.stream_ops.specs.Entries.{all_told, bound_after, first_slot, is_after, last_after, next_slot, slots, sums_entry, told_last, told_total, told_window}
 use Rattle.stream_ops.specs.Keys.{is_key, key_cmp}
 use Rattle.stream_ops.specs.View.{AreLast, AreRight}
 use Rattle.stream_ops.specs.declared.sums.Sums.{Sums}
@@ -27,12 +29,6 @@ use Rattle.stream_ops.proofs.Standing.{right-found}
 
 not_above_zero : (n : ℕ) → is_gt (nat_cmp 0 n) ≡ false
 not_above_zero n = grind (arith, nat_tests)
-
-slot_above : (s m : ℕ) → m < s → is_gt (nat_cmp s m) ≡ true
-slot_above s m above = grind (arith, nat_tests)
-
-slot_within : (s m : ℕ) → s ≤ m → is_gt (nat_cmp s m) ≡ false
-slot_within s m within = grind (arith, nat_tests)
 
 -- an entry's place, by the order of its key
 place : (at : Key × ℕ) (k : Key) (slot : ℕ) (o : Ordering) → key_cmp at.0 k ≡ o → is_gt (ordering_then (key_cmp k at.0) (nat_cmp slot at.1)) ≡ is_gt (ordering_then (ordering_reverse o) (nat_cmp slot at.1))
@@ -75,14 +71,6 @@ window_old None (Some es) = sym (single_first (λ e. sums_entry e.0 0 e.1.sums e
 window_old (Some at) (Some es) = sym (single_after (λ e. sums_entry e.0 0 e.1.sums e.1.number) at (λ e. first_above at e.0) es)
 
 -- an entry for each of a key's last rows
-first_append : {X : Type 0} (test : X → Bool) (xs ys : List X) → first_where test (xs ++ ys) ≡ or_else (first_where test xs) (first_where test ys)
-first_append test [] ys = refl
-first_append {X} test (x ∷ xs) ys = by_test (test x) (first_append test xs ys)
-  where
-    by_test : (t : Bool) → first_where test (xs ++ ys) ≡ or_else (first_where test xs) (first_where test ys) → cond t (Some x) (first_where test (xs ++ ys)) ≡ or_else (cond t (Some x) (first_where test xs)) (first_where test ys)
-    by_test true later = refl
-    by_test false later = later
-
 slots_below : (at : Key × ℕ) (k : Key) (s : ℕ) (xs : List Sums) → key_cmp at.0 k ≡ Greater → first_where (is_after (Some at)) (slots k s xs) ≡ None
 slots_below at k s [] is = refl
 slots_below at k s (x ∷ xs) is = rw (place at k s Greater is) (slots_below at k (s + 1) xs is)

@@ -1,5 +1,5 @@
 -- Laws of the answers: their times, and how many there are.
-use Rattle.std.proofs.Common.{ℕ, ℤ, ◌≡◌, ◌≤◌, ◌+◌, ◌-◌, ◌*◌, suc, ◌≤ℤ◌, ◌*ℤ◌, pos, negsuc, Bool, true, false, cond, List, [], ◌∷◌, ◌++◌, length, map, int_lt, refl, sym, ap, subst, arith, length-append, length-drop, append_assoc}
+use Rattle.std.proofs.Common.{ℕ, ℤ, ◌≡◌, ◌≤◌, ◌+◌, ◌-◌, ◌*◌, ◌≤ℤ◌, ◌*ℤ◌, pos, negsuc, Bool, true, false, cond, List, [], ◌∷◌, ◌++◌, length, map, int_lt, refl, sym, ap, subst, arith, length-append, length-drop, append_assoc}
 use Rattle.std.specs.Int.{int_max, int_div_euclid}
 use Rattle.std.specs.List.{All, filter}
 use Rattle.std.specs.Ordering.{int_eq}
@@ -8,6 +8,7 @@ use Rattle.std.proofs.lemmas.List.{append-nil, length-map}
 use Rattle.std.proofs.lemmas.List.Elements.{All-cons, All-filter, All-head, All-map, All-nil, All-tail}
 use Rattle.std.proofs.lemmas.Nat.{div-add-mod'}
 use Rattle.circular_buffer.specs.Buffer.{keep_last}
+use Rattle.join_stage.proofs.LastSides.{length-filter}
 use Rattle.tuple_edge.specs.Row.{column_of}
 use Rattle.tuple_edge.specs.declared.item.Item.{Item}
 use Rattle.tuple_edge.specs.declared.item.Item.TheVariants as item
@@ -126,14 +127,6 @@ length-window width k [] r = omega arith
 length-window width k (x ∷ rows) r = length-if (int_lt (level width (x ∷ rows)) (level width (x ∷ rows ++ r ∷ []))) (window_row width k (x ∷ rows))
 
 -- a join keeps at most so many rows of a side
-length-filter : (test : Row → Bool) (rows : List Row) → length (filter test rows) ≤ length rows
-length-filter test [] = omega arith
-length-filter test (r ∷ rows) = by_test (test r) (length-filter test rows)
-  where
-    by_test : (t : Bool) → length (filter test rows) ≤ length rows → length (cond t (r ∷ filter test rows) (filter test rows)) ≤ suc (length rows)
-    by_test true later = omega arith
-    by_test false later = omega arith
-
 length-join : (width : ℤ) (n : ℕ) (left : Row → Bool) (k : Key) (rows : List Row) (r : Row) → length (join_answer width n left k rows r) ≤ n
 length-join width n left k rows r =
     let across : List Row = rows_across left r rows in

@@ -9,10 +9,10 @@ use Rattle.std.specs.Map.{keys_of, lookup}
 use Rattle.std.specs.Option.{IsSome}
 use Rattle.std.specs.Ordering.{int_cmp}
 use Rattle.std.proofs.lemmas.Cmp.{int_cmp_total, on_total, then_total}
-use Rattle.std.proofs.lemmas.Map.{NonePasses, lookup-none}
 use Rattle.std.proofs.lemmas.Map.Entries.{none_below_head}
 use Rattle.std.proofs.lemmas.Map.Keys.{sorted_tail}
 use Rattle.std.proofs.lemmas.Map.Lookups.{exact_signed, exact_pairs}
+use Rattle.join_stage.proofs.Images.{none_there}
 use Rattle.tuple_edge.specs.declared.row.Key.{Key}
 use Rattle.stream_ops.specs.Keys.{is_key, key_cmp}
 use Rattle.stream_ops.specs.Rows.{with_key}
@@ -38,11 +38,6 @@ keys-insert [] k v = refl
 keys-insert (e ∷ es) k v = keys-insert_by e es k v (key_cmp k e.0) refl (keys-insert es k v)
 
 -- a key that is there stays
-none_there : {X : Type 0} (test : Key → Bool) (es : List (Key × X)) → NonePasses test es → IsSome (lookup test es) → ⊥
-none_there test es none had =
-    let h : false ≡ true = rw (lookup-none test es none) at had in
-    cc
-
 keys-had_by : {X : Type 0} (e : Key × X) (es : List (Key × X)) (k : Key) (o : Ordering) → key_cmp k e.0 ≡ o
     → IsStrictlySortedBy key_cmp (keys_of (e ∷ es)) → IsSome (lookup (is_at (key_cmp k)) (e ∷ es))
     → (IsSome (lookup (is_at (key_cmp k)) es) → with_key k (keys_of es) ≡ keys_of es)

@@ -1,8 +1,9 @@
 -- Sums with one more row, and the sums of the last rows.
-use Rattle.std.proofs.Common.{ℕ, ◌≡◌, ◌+◌, ◌-◌, ℤ, pos, List, [], ◌∷◌, ◌++◌, map, fold, length, drop, refl, sym, ap, ◌∙◌, Some, unwrap_or, arith, length-append, length-drop}
-use Rattle.std.proofs.lemmas.List.{map-append, drop-drop, drop-append-le, drop-map, length-map}
+use Rattle.std.proofs.Common.{ℕ, ◌≡◌, ◌-◌, ℤ, pos, List, [], ◌∷◌, ◌++◌, map, fold, length, drop, refl, sym, ap, ◌∙◌, Some, unwrap_or}
+use Rattle.std.proofs.lemmas.List.{map-append, drop-map, length-map}
 use Rattle.std.proofs.lemmas.List.Sums.{fold-append}
 use Rattle.circular_buffer.specs.Buffer.{Buffer, buffer, keep_last}
+use Rattle.join_stage.proofs.LastSides.{keep_last-push}
 use Rattle.tuple_edge.specs.Sum.{saturating_sum, total_of}
 use Rattle.tuple_edge.specs.declared.row.Row.{Row}
 use Rattle.stream_ops.specs.Kept.{last_of_rows, total_of_rows}
@@ -29,18 +30,6 @@ total-push (x ∷ rows) r = ap Some (sums_of-push (x ∷ rows) r)
 pub sums_had : (rows : List Row) → unwrap_or (total_of_rows rows) no_sums ≡ sums_of rows
 sums_had [] = refl
 sums_had (x ∷ rows) = refl
-
--- the last n of the last n and one more
-pub keep_last-push : {X : Type 0} (n : ℕ) (xs : List X) (x : X) → keep_last n (keep_last n xs ++ x ∷ []) ≡ keep_last n (xs ++ x ∷ [])
-keep_last-push n xs x =
-    let front : keep_last n xs ++ x ∷ [] ≡ drop (length xs - n) (xs ++ x ∷ []) = sym (drop-append-le (length xs - n) xs (x ∷ []) (omega arith)) in
-    let size : length (drop (length xs - n) (xs ++ x ∷ [])) ≡ (length xs + 1) - (length xs - n) = simp (length-drop, length-append) refl in
-    let all : length (xs ++ x ∷ []) ≡ length xs + 1 = simp length-append refl in
-    ap (keep_last n) front
-    ∙ ap (λ m. drop (m - n) (drop (length xs - n) (xs ++ x ∷ []))) size
-    ∙ drop-drop ((length xs + 1) - (length xs - n) - n) (length xs - n) (xs ++ x ∷ [])
-    ∙ ap (λ m. drop m (xs ++ x ∷ [])) (let e : (length xs - n) + ((length xs + 1) - (length xs - n) - n) ≡ (length xs + 1) - n = omega arith in e)
-    ∙ ap (λ m. drop (m - n) (xs ++ x ∷ [])) (sym all)
 
 pub last_with-push : (n : ℕ) (rows : List Row) (r : Row) → last_with n (last_of_rows n rows) r ≡ buffer (keep_last n (map amounts (rows ++ r ∷ []))) n
 last_with-push n [] r = refl

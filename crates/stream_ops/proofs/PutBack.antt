@@ -1,5 +1,5 @@
 -- What each operator keeps once the next entry is put back.
-use Rattle.std.proofs.Common.{◌≡◌, ℕ, ℤ, ◌*ℤ◌, ◌+◌, ◌-◌, ◌<◌, ◌≤◌, ◌≤ℤ◌, pos, List, [], ◌∷◌, ◌++◌, length, drop, map, refl, sym, ap, ◌∙◌, subst, Option, Some, None, Bool, true, false, nat_lt, append_assoc, arith, length-append, FitsSigned, w64}
+use Rattle.std.proofs.Common.{◌≡◌, ℕ, ℤ, ◌*ℤ◌, ◌+◌, ◌<◌, ◌≤◌, ◌≤ℤ◌, pos, List, [], ◌∷◌, ◌++◌, length, map, refl, sym, ap, ◌∙◌, subst, Option, Some, None, Bool, true, false, nat_lt, append_assoc, arith, length-append, FitsSigned, w64}
 use Rattle.std.proofs.lemmas.Bool.Decides.{nat_tests}
 use Rattle.std.proofs.lemmas.List.{append-nil}
 use Rattle.std.proofs.lemmas.Int.{ints}
@@ -13,6 +13,7 @@ use Rattle.join_stage.specs.Store.{StoreView}
 use Rattle.join_stage.specs.declared.rows.SideRow.{SideRow}
 use Rattle.join_stage.specs.declared.rows.SidedRow.{SidedRow}
 use Rattle.join_stage.specs.declared.rows.Sides.{Sides}
+use Rattle.join_stage.proofs.Copied.{keep_last-fits}
 use Rattle.join_stage.proofs.JoinAfter.{sides_right}
 use Rattle.tuple_edge.specs.declared.item.Item.{Item}
 use Rattle.tuple_edge.specs.declared.packet.Entry.{Entry}
@@ -145,9 +146,6 @@ slots_push k n (x ∷ xs) s =
     let e : (n + 1) + length xs ≡ n + length (x ∷ xs) = omega arith in
     ap (λ es. sums_entry k n x (pos 0) ∷ es) (slots_push k (n + 1) xs s ∙ ap (λ m. slots k (n + 1) xs ++ sums_entry k m s (pos 0) ∷ []) e)
 
-keep_all : {X : Type 0} (n : ℕ) (xs : List X) → length xs ≤ n → keep_last n xs ≡ xs
-keep_all n xs fits = let none : length xs - n ≡ 0 = omega arith in ap (λ m. drop m xs) none
-
 abbrev items_of : Option (Buffer Sums) → List Sums
 items_of None = []
 items_of (Some b) = b.items
@@ -157,11 +155,11 @@ last_told k None = refl
 last_told k (Some b) = refl
 
 added_items : (n : ℕ) (had : Option (Buffer Sums)) (s : Sums) → IfSome had (AreLast n) → length (items_of had) < n → (last_added n had s).items ≡ items_of had ++ s ∷ []
-added_items n None s right less = keep_all n (s ∷ []) (omega arith)
+added_items n None s right less = keep_last-fits n (s ∷ []) (omega arith)
 added_items n (Some b) s right less =
     let size : length (b.items ++ s ∷ []) ≡ length b.items + 1 = simp length-append refl in
     let capacity : b.capacity ≡ n = right.0 in
-    keep_all b.capacity (b.items ++ s ∷ []) (omega arith)
+    keep_last-fits b.capacity (b.items ++ s ∷ []) (omega arith)
 
 within : (n : ℕ) (o : Option (Buffer Sums)) → IfSome o (AreLast n) → length (items_of o) ≤ n
 within n None right = omega arith
@@ -231,19 +229,19 @@ side_next P k s (x ∷ xs) (y ∷ ys) us vs slot a b c rest fits fits_too is of_
 
 with_left : (n : ℕ) (k : Key) (o : Option Sides) (r : SideRow) → 1 ≤ n → IfSome o (AreSides n) → length (lefts o) < n
     → told_sides k (sides_with n o (record { left = true; row = r })) ≡ told_side k 0 (lefts o ++ r ∷ []) ++ told_side k 4 (rights o)
-with_left n k None r some sides room = ap (λ rs. told_side k 0 rs ++ []) (keep_all n (r ∷ []) (omega arith))
+with_left n k None r some sides room = ap (λ rs. told_side k 0 rs ++ []) (keep_last-fits n (r ∷ []) (omega arith))
 with_left n k (Some s) r some sides room =
     let size : length (s.left.items ++ r ∷ []) ≡ length s.left.items + 1 = simp length-append refl in
     let capacity : s.left.capacity ≡ n = sides.left_room in
-    ap (λ rs. told_side k 0 rs ++ told_side k 4 s.right.items) (keep_all s.left.capacity (s.left.items ++ r ∷ []) (omega arith))
+    ap (λ rs. told_side k 0 rs ++ told_side k 4 s.right.items) (keep_last-fits s.left.capacity (s.left.items ++ r ∷ []) (omega arith))
 
 with_right : (n : ℕ) (k : Key) (o : Option Sides) (r : SideRow) → 1 ≤ n → IfSome o (AreSides n) → length (rights o) < n
     → told_sides k (sides_with n o (record { left = false; row = r })) ≡ told_side k 0 (lefts o) ++ told_side k 4 (rights o ++ r ∷ [])
-with_right n k None r some sides room = ap (λ rs. told_side k 4 rs) (keep_all n (r ∷ []) (omega arith))
+with_right n k None r some sides room = ap (λ rs. told_side k 4 rs) (keep_last-fits n (r ∷ []) (omega arith))
 with_right n k (Some s) r some sides room =
     let size : length (s.right.items ++ r ∷ []) ≡ length s.right.items + 1 = simp length-append refl in
     let capacity : s.right.capacity ≡ n = sides.right_room in
-    ap (λ rs. told_side k 0 s.left.items ++ told_side k 4 rs) (keep_all s.right.capacity (s.right.items ++ r ∷ []) (omega arith))
+    ap (λ rs. told_side k 0 s.left.items ++ told_side k 4 rs) (keep_last-fits s.right.capacity (s.right.items ++ r ∷ []) (omega arith))
 
 sides_within : (n : ℕ) (o : Option Sides) → IfSome o (AreSides n) → (length (lefts o) ≤ n) × (length (rights o) ≤ n)
 sides_within n None sides = (omega arith, omega arith)

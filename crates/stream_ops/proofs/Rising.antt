@@ -1,6 +1,5 @@
 -- An operator's entries rise by key and slot, so what stands after a place is known by its number.
 use Rattle.std.proofs.Common.{◌≡◌, ℕ, ℤ, zero, suc, ◌+◌, ◌<◌, ◌≤◌, Bool, true, false, cond, List, [], ◌∷◌, ◌++◌, length, refl, sym, ap, ◌∙◌, subst, Option, Some, None, slice_get, arith}
-use Rattle.std.proofs.lemmas.Bool.Decides.{nat_tests}
 use Rattle.std.proofs.lemmas.Cmp.{nat_cmp_total, on_total, then_total}
 use Rattle.std.proofs.lemmas.List.Elements.{All-head, All-tail}
 use Rattle.std.proofs.lemmas.Map.Keys.{sorted_head, sorted_tail}
@@ -14,6 +13,7 @@ use Rattle.std.specs.declared.cmp.Ordering.TheVariants.{Less, Equal, Greater}
 use Rattle.join_stage.specs.Join.{AreSides}
 use Rattle.join_stage.specs.Store.{first_where}
 use Rattle.join_stage.specs.declared.rows.SideRow.{SideRow}
+use Rattle.join_stage.proofs.JoinAfter.{slot_above}
 use Rattle.tuple_edge.specs.declared.packet.Entry.{Entry}
 use Rattle.tuple_edge.specs.declared.packet.Entry.TheVariants as entry
 use Rattle.tuple_edge.specs.declared.row.Key.{Key}
@@ -170,11 +170,8 @@ module _ {X : Type 0} {told : Key → X → List Entry} {right : X → Type 0} (
   old_rises None sound = tt
   old_rises (Some es) sound = told_rises es sound
 
-slot_above : (s t : ℕ) → s < t → is_gt (nat_cmp t s) ≡ true
-slot_above s t above = grind (arith, nat_tests)
-
 same_place : (k : Key) (s t : ℕ) → s < t → is_gt (ordering_then (key_cmp k k) (nat_cmp t s)) ≡ true
-same_place k s t above = rw (equal_of (key_cmp k k) (key_cmp_total.antisymm k k)) (slot_above s t above)
+same_place k s t above = rw (equal_of (key_cmp k k) (key_cmp_total.antisymm k k)) (slot_above t s above)
   where
     equal_of : (o : Ordering) → o ≡ ordering_reverse o → o ≡ Equal
     equal_of Less same = cc

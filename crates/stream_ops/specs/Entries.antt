@@ -1,6 +1,7 @@
 -- The entries by which an operator's state goes to another replica: what it keeps of each key, as numbers.
 use Rattle.std.specs.Prelude.{ℕ, ℤ, pos, zero, suc, ◌≡◌, ◌+◌, Bool, true, false, List, [], ◌∷◌, ◌++◌, Option, Some, None, flat_map, map, slice_get}
 use Rattle.std.specs.Option.{IsSome, option_and_then, option_map}
+use Rattle.join_stage.specs.Join.{or_else}
 use Rattle.join_stage.specs.Store.{old_first, old_value}
 use Rattle.std.specs.Ordering.{is_gt, nat_cmp, ordering_then}
 use Rattle.std.specs.declared.ops.Bound.{Bound}
@@ -93,10 +94,6 @@ next_slot k slot b = option_map (λ s. sums_entry k (slot + 1) s (pos 0)) (slice
 abbrev pub same_key_after : Option (Key × ℕ) → Option (List (Key × Buffer Sums)) → Option Entry
 same_key_after None old = None
 same_key_after (Some at) old = option_and_then (next_slot at.0 at.1) (old_value key_cmp at.0 old)
-
-abbrev pub or_else : {X : Type 0} → Option X → Option X → Option X
-or_else None o = o
-or_else (Some x) o = Some x
 
 abbrev pub last_after : Option (Key × ℕ) → Option (List (Key × Buffer Sums)) → Option Entry
 last_after after old = or_else (same_key_after after old) (option_and_then (λ e. first_slot e.0 e.1) (old_first key_cmp (bound_after after) old))
