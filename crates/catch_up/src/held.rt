@@ -2,14 +2,14 @@
 ghost use Rattle.catch_up.specs.Fold.{IsRising};
 ghost use Rattle.catch_up.specs.NewcomerView.{held_at, with_held};
 ghost use Rattle.std.specs.Map.{keys_of};
-ghost use Rattle.std.specs.Map.Iter.{ShowsInOrder, deref_pair};
+ghost use Rattle.std.specs.Map.Iter.{ShowsInOrder, deref, deref_pair};
 ghost use Rattle.std.specs.Option.{is_some};
 ghost use Rattle.tuple_edge.specs.declared.item.Item.{Item};
-ghost use Rattle.std.specs.Prelude.{ℕ, ◌≡◌, [], OnErr, OnOk, slice_get};
+ghost use Rattle.std.specs.Prelude.{ℕ, ◌≡◌, [], OnErr, OnOk};
 
 use std::alloc::Global;
 use std::collections::BTreeMap;
-use std::collections::btree_map::Iter;
+use std::collections::btree_map::{Iter, Keys};
 use std::marker::Model;
 use tuple_edge::{Item, OutOfMemory};
 
@@ -67,10 +67,12 @@ impl Held {
         self.items.iter()
     }
 
-    /// The number at a place, in rising order, from 0.
-    pub(crate) fn nth(&self, nth: usize) -> Option<u64>
-        ensures { result ≡ slice_get (keys_of self.now) nth }
+    /// The numbers, in rising order.
+    pub(crate) fn numbers(&self) -> Keys<'_, u64, Item>
+        ensures rest { result ≡ keys_of self.now }
+        ensures rising { IsRising self.now }
+        ensures runs { ShowsInOrder (deref {X = ℕ}) }
     {
-        self.items.keys().nth(nth).copied()
+        self.items.keys()
     }
 }

@@ -1,6 +1,6 @@
 // The newcomer: what it took of the move, and what it holds meanwhile.
 ghost use Rattle.catch_up.specs.Caught.{CatchesUp};
-ghost use Rattle.catch_up.specs.Fold.{AllRising};
+ghost use Rattle.catch_up.specs.Fold.{AllRising, IsRising};
 ghost use Rattle.catch_up.specs.NewcomerView.{after_chunk, after_hold, begun, entry_at, held_of, hold_of, is_held, took_of};
 ghost use Rattle.catch_up.specs.Rebuild.{AllNext, buffers_in, folded, keyed_in, merge_in};
 ghost use Rattle.flux_consumer.specs.ConsumerView.{over};
@@ -9,13 +9,15 @@ ghost use Rattle.flux_producer.specs.ProducerView.{contents_of, over_buffers};
 ghost use Rattle.stream_ops.specs.Spec.{IsSpec};
 ghost use Rattle.stream_ops.specs.State.{rebuilt};
 ghost use Rattle.std.specs.Map.{keys_of};
-ghost use Rattle.std.specs.Prelude.{◌≡◌, ◌≤◌, ◌<◌, ◌+◌, [], ◌↔◌, false, None, IfOk, IfNone, IfSome, IsSome, IsTrue, OnErr, OnOk, length, replicate, slice_get};
+ghost use Rattle.std.specs.Map.Iter.{ShowsInOrder, deref};
+ghost use Rattle.std.specs.Prelude.{ℕ, ◌≡◌, ◌≤◌, ◌<◌, ◌+◌, [], ◌↔◌, false, None, IfOk, IfNone, IfSome, IsSome, IsTrue, OnErr, OnOk, length, replicate};
 
 use crate::held::Held;
 use crate::rebuild::{buffers_of, fold_in, lows_in, merge_of, state_of};
 use flux_consumer::Consumer;
 use flux_producer::Producer;
 use std::alloc::Global;
+use std::collections::btree_map::Keys;
 use std::marker::Model;
 use stream_ops::{OpSpec, OpState};
 use tuple_edge::{Entry, Item, OutOfMemory};
@@ -253,13 +255,15 @@ impl Newcomer {
         lows_in(&self.taken)
     }
 
-    /// The number at a place, from 0, of those that are held of an in-edge, in rising order. None
-    /// exactly past the last.
-    pub fn held(&self, edge: u32, nth: u64) -> Option<u64>
+    /// The numbers that are held of an in-edge, in rising order. To walk over them takes a step for
+    /// each, and no memory.
+    pub fn held(&self, edge: u32) -> Keys<'_, u64, Item>
         requires { edge < length self.now.held }
-        ensures { result ≡ slice_get (keys_of (held_of self.now edge)) nth }
+        ensures rest { result ≡ keys_of (held_of self.now edge) }
+        ensures rising { IsRising (held_of self.now edge) }
+        ensures runs { ShowsInOrder (deref {X = ℕ}) }
     {
-        self.held[edge as usize].nth(nth as usize)
+        self.held[edge as usize].numbers()
     }
 
     /// The entry that was taken under a number, from 1. None exactly where the number is 0 or above

@@ -21,19 +21,16 @@ fn push_held(text: &mut String, newcomer: &Newcomer, edge: u32) -> Result<(), Ou
     requires { edge < length newcomer.now.held }
     ensures { OnOk result (string_bytes text.new ≡ string_bytes text.old ++ held_text (held_numbers newcomer.now edge)) }
 {
-    let Some(first) = newcomer.held(edge, 0) else {
+    let mut numbers = newcomer.held(edge);
+    let Some(first) = numbers.next() else {
         text.push_str("-")?;
         return Ok(());
     };
     write!(text, "{first}")?;
-    for nth in 1..u64::MAX {
-        let Some(number) = newcomer.held(edge, nth) else {
-            return Ok(());
-        };
+    for number in numbers {
         write!(text, ",{number}")?;
     }
-    // No memory holds so many.
-    Err(OutOfMemory)
+    Ok(())
 }
 
 // Appends the line of an in-edge of a newcomer.
