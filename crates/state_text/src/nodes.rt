@@ -24,6 +24,7 @@ pub(crate) fn parts_of(core: &Core, stage: u32) -> u32
     ensures { result ≡ sources_of core.now.plan (stage + 1) }
 {
     let plan = core.plan();
+    // Asked only for what its contract says: a plan has few stages, so there is a number after this one's.
     let _stages = plan.stages();
     plan.sources(stage + 1)
 }

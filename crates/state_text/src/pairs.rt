@@ -71,20 +71,11 @@ fn push_pair(
     ensures { OnOk result ((s : State) → StandsFor core.now s
         → string_bytes text.new ≡ string_bytes text.old ++ pair_text (flow_in core.now) s (partition stage part)) }
 {
-    let edges = sources_of(core, stage, part);
+    let edges = core.plan().sources(stage);
     push_control(text, alloc, core, stage, part, edges)?;
     push_member(text, alloc, core, stage, part, Which::A, edges)?;
     push_member(text, alloc, core, stage, part, Which::B, edges)?;
     Ok(())
-}
-
-// How many in-edges a pair has.
-fn sources_of(core: &Core, stage: u32, part: u32) -> u32
-    requires { IsTrue (has_pair core.now.plan stage part) }
-    ensures { result ≡ sources_of core.now.plan stage }
-{
-    let _part = part;
-    core.plan().sources(stage)
 }
 
 // Appends the lines of the pairs of a stage.

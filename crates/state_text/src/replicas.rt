@@ -170,6 +170,7 @@ pub(crate) fn push_replica(
     ensures lines { OnOk result (string_bytes text.new ≡ string_bytes text.old ++ replica_shown name.now replica.now) }
     ensures moving { (r : Running) → running_in replica.now.phase ≡ Some r → IsMoving r.mover r.state.old }
 {
+    // Asked only for what its contract says of a move under way, which `moving` hands on.
     let _mover = replica.mover();
     match replica.mode() {
         Mode::Running => push_running(text, name, replica),

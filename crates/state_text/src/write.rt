@@ -35,6 +35,7 @@ fn push_egress_of(text: &mut String, core: &Core) -> Result<(), OutOfMemory>
 {
     core.known();
     let egress = core.egress();
+    // Asked only for what its contract says: when the end was merged, by the machine's numbers.
     let _done = egress.done();
     push_egress(text, egress)?;
     Ok(())
