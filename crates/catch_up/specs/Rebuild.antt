@@ -66,6 +66,16 @@ buffers_step bs (entry.Keyed k slot a b c) = bs
 abbrev pub buffers_in : List Entry → List BufferView
 buffers_in es = fold buffers_step [] es
 
+-- the edges whose lows were moved, in order: each begins the next buffer
+abbrev pub lows_in : List Entry → List ℕ
+lows_in [] = []
+lows_in (entry.Mark q upto ∷ es) = lows_in es
+lows_in (entry.Count count ∷ es) = lows_in es
+lows_in (entry.Head q number item ∷ es) = lows_in es
+lows_in (entry.Low t low produced ∷ es) = t ∷ lows_in es
+lows_in (entry.Kept t number item ∷ es) = lows_in es
+lows_in (entry.Keyed k slot a b c ∷ es) = lows_in es
+
 -- ---- the operator's state
 
 abbrev pub keyed_step : List Entry → Entry → List Entry

@@ -2,18 +2,19 @@
 ghost use Rattle.catch_up.specs.Caught.{CatchesUp};
 ghost use Rattle.catch_up.specs.Fold.{AllRising, IsRising};
 ghost use Rattle.catch_up.specs.NewcomerView.{after_chunk, after_hold, begun, entry_at, held_of, hold_of, is_held, took_of};
-ghost use Rattle.catch_up.specs.Rebuild.{AllNext, buffers_in, folded, keyed_in, merge_in};
+ghost use Rattle.catch_up.specs.Rebuild.{AllNext, buffers_in, folded, keyed_in, lows_in, merge_in};
 ghost use Rattle.flux_consumer.specs.ConsumerView.{over};
 ghost use Rattle.flux_producer.specs.Limits.{max_copies};
 ghost use Rattle.flux_producer.specs.ProducerView.{contents_of, over_buffers};
 ghost use Rattle.stream_ops.specs.Spec.{IsSpec};
 ghost use Rattle.stream_ops.specs.State.{rebuilt};
+ghost use Rattle.std.specs.List.{range_with_len};
 ghost use Rattle.std.specs.Map.{keys_of};
 ghost use Rattle.std.specs.Map.Iter.{ShowsInOrder, deref};
 ghost use Rattle.std.specs.Prelude.{ℕ, ◌≡◌, ◌≤◌, ◌<◌, ◌+◌, [], ◌↔◌, false, None, IfOk, IfNone, IfSome, IsSome, IsTrue, OnErr, OnOk, length, replicate};
 
 use crate::held::Held;
-use crate::rebuild::{buffers_of, fold_in, lows_in, merge_of, state_of};
+use crate::rebuild::{buffers_of, fold_in, merge_of, state_of, tell_lows};
 use flux_consumer::Consumer;
 use flux_producer::Producer;
 use std::alloc::Global;
@@ -248,11 +249,12 @@ impl Newcomer {
         self.taken.len() as u64
     }
 
-    /// Of how many out-edges the entries taken tell. It takes a step for each entry, and no memory.
-    pub fn lows(&self) -> u64
-        ensures { result ≡ length (buffers_in self.now.taken) }
+    /// Whether the lows that the entries taken tell are those of the out-edges 0 to `edges` - 1, in order.
+    /// It takes a step for each entry, and no memory.
+    pub fn tells_lows(&self, edges: u32) -> bool
+        ensures { IsTrue result ↔ (lows_in self.now.taken ≡ range_with_len 0 edges) }
     {
-        lows_in(&self.taken)
+        tell_lows(&self.taken, edges)
     }
 
     /// The numbers that are held of an in-edge, in rising order. To walk over them takes a step for

@@ -1,10 +1,11 @@
 // What the entries of a move make: the merge, the buffers and the operator's state.
 ghost use Rattle.ack_buffer.specs.Buffer.{produced_on, starting_at};
 ghost use Rattle.catch_up.specs.Fold.{AllRising, IsRising};
-ghost use Rattle.catch_up.specs.Rebuild.{AllNext, IsNextOf, all_offered, buffer_of, buffers_in, buffers_step, count_in, count_step, folded_below, heads_step, keyed_in, keyed_step, marks_in, marks_step, merge_in, without_spare};
+ghost use Rattle.catch_up.specs.Rebuild.{AllNext, IsNextOf, all_offered, buffer_of, buffers_in, buffers_step, count_in, count_step, folded_below, heads_step, keyed_in, keyed_step, lows_in, marks_in, marks_step, merge_in, without_spare};
 ghost use Rattle.stream_ops.specs.Spec.{IsSpec};
 ghost use Rattle.stream_ops.specs.State.{rebuilt};
-ghost use Rattle.std.specs.Prelude.{◌≡◌, ◌≤◌, ◌<◌, ◌-◌, ◌++◌, ◌∷◌, [], None, IfOk, OnOk, fold, length, map, min, slice_index_or, slice_set};
+ghost use Rattle.std.specs.List.{range_with_len};
+ghost use Rattle.std.specs.Prelude.{◌≡◌, ◌≤◌, ◌<◌, ◌-◌, ◌++◌, ◌∷◌, ◌↔◌, [], None, IfOk, IsTrue, OnOk, fold, length, map, min, slice_index_or, slice_set};
 
 use crate::held::Held;
 use ack_buffer::AckBuffer;
@@ -184,18 +185,21 @@ pub(crate) fn buffers_of(alloc: Global, entries: &[Entry]) -> Result<Vec<AckBuff
     Ok(buffers)
 }
 
-/// How many out-edges entries tell of.
-pub(crate) fn lows_in(entries: &[Entry]) -> u64
-    ensures { result ≡ length (buffers_in entries.now) }
+/// Whether the lows that entries tell are those of the out-edges 0 to `edges` - 1, in order.
+pub(crate) fn tell_lows(entries: &[Entry], edges: u32) -> bool
+    ensures { IsTrue result ↔ (lows_in entries.now ≡ range_with_len 0 edges) }
 {
-    let mut lows = 0;
+    let mut told = 0;
     for entry in entries {
-        let Entry::Low { .. } = *entry else {
+        let Entry::Low { edge, .. } = *entry else {
             continue;
         };
-        lows += 1;
+        if u64::from(edge) != told {
+            return false;
+        }
+        told += 1;
     }
-    lows
+    told == u64::from(edges)
 }
 
 // Puts an entry of the operator back.

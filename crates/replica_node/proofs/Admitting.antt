@@ -1,8 +1,9 @@
 -- What a sound machine has sent to a replica is admitted there.
 use Rattle.std.proofs.Common.{◌≡◌, ◌<◌, ◌≤◌, ◌+◌, ◌-◌, ◌∙◌, ℕ, zero, suc, List, [], ◌∷◌, ◌++◌, Option, None, Some, IsTrue, length, take, drop, refl, sym, ap, subst, arith}
 use Rattle.std.specs.Prelude.{All, slice_get}
+use Rattle.std.specs.List.{range_with_len}
 use Rattle.std.specs.Option.{IsSome}
-use Rattle.std.proofs.lemmas.List.{take_all}
+use Rattle.std.proofs.lemmas.List.{append-nil, length-take, take_all}
 use Rattle.std.proofs.lemmas.Option.{slice_get_past}
 use Rattle.std.proofs.lemmas.List.Elements.{All-drop, All-take}
 use Rattle.tuple_edge.specs.Limits.{number_limit}
@@ -36,13 +37,13 @@ use Rattle.pair_machine.specs.Replicas.{size}
 use Rattle.pair_machine.specs.Small.{EachOfMessage, EachOfNumbers}
 use Rattle.pair_machine.specs.Sound.{IsSound}
 use Rattle.pair_machine.proofs.EdgeLaws.{get_of, times_stay}
-use Rattle.pair_machine.proofs.Lists.{each_all, each_append, each_at}
+use Rattle.pair_machine.proofs.Lists.{each_append, each_at}
 use Rattle.pair_machine.proofs.MachineLaws.{taken_asks}
 use Rattle.pair_machine.proofs.MoveSize.{have_their_size}
 use Rattle.pair_machine.proofs.PlanNodes.{links_named}
-use Rattle.catch_up.specs.Rebuild.{buffers_in}
+use Rattle.catch_up.specs.Rebuild.{lows_in}
 use Rattle.catch_up.proofs.KeyedEntries.{entries_keyed}
-use Rattle.catch_up.proofs.Lows.{lows, lows_made}
+use Rattle.catch_up.proofs.Lows.{one_more}
 use Rattle.catch_up.proofs.Steps.{AllKeyed}
 use Rattle.replica_node.specs.Admitted.{IsAdmitted, IsController, IsEntryHere, IsWholeAt}
 use Rattle.replica_node.specs.Course.{AreTimely}
@@ -71,9 +72,16 @@ below_each : (P : Entry → Type 0) (n : ℕ) (g : ℕ → List Entry) → ((q :
 below_each P zero g all = tt
 below_each P (suc n) g all = each_append P (each_below n g) (g n) (below_each P n g (λ q l. all q (omega arith))) (all n (omega arith))
 
-numbered_each : (P : Entry → Type 0) (Q : Item → Type 0) (g : ℕ → Item → Entry) → ((n : ℕ) (x : Item) → Q x → P (g n x)) → (n : ℕ) (xs : List Item) → Each Q xs → Each P (numbered g n xs)
-numbered_each P Q g one n [] all = tt
-numbered_each P Q g one n (x ∷ xs) all = (one (n + 1) x all.0, numbered_each P Q g one (n + 1) xs all.1)
+-- the numbers end at the greatest one, where there are no more items than are left to it
+numbered_each : (P : Entry → Type 0) (Q : Item → Type 0) (g : ℕ → Item → Entry) (most : ℕ) → ((n : ℕ) (x : Item) → n ≤ most → Q x → P (g n x)) → (n : ℕ) (xs : List Item) → length xs ≤ most - n → Each Q xs
+    → Each P (numbered g n xs)
+numbered_each P Q g most one n [] few all = tt
+numbered_each P Q g most one n (x ∷ xs) few all =
+    let left : suc (length xs) ≤ most - n = few in
+    (one (n + 1) x (omega (arith, left)) all.0, numbered_each P Q g most one (n + 1) xs (omega (arith, left)) all.1)
+
+few_between : (low upto : ℕ) (items : List Item) → length (between low upto items) ≤ upto - low
+few_between low upto items = omega (arith, length-take (upto - low) (drop low items))
 
 -- ---- what an operator keeps
 
@@ -90,18 +98,25 @@ keyed_here role (entry.Head q n x ∷ es) keyed = let no = keyed.0 in let z : �
 keyed_here role (entry.Low t low produced ∷ es) keyed = let no = keyed.0 in let z : ⊥ = cc no in absurd z
 keyed_here role (entry.Kept t n x ∷ es) keyed = let no = keyed.0 in let z : ⊥ = cc no in absurd z
 
--- ---- how many entries tell of an out-edge
+-- ---- the lows that entries tell
 
-lows_append : (xs ys : List Entry) → lows (xs ++ ys) ≡ lows xs + lows ys
-lows_append [] ys = omega arith
+lows_append : (xs ys : List Entry) → lows_in (xs ++ ys) ≡ lows_in xs ++ lows_in ys
+lows_append [] ys = refl
 lows_append (entry.Keyed k slot a b c ∷ xs) ys = lows_append xs ys
 lows_append (entry.Mark q upto ∷ xs) ys = lows_append xs ys
 lows_append (entry.Count count ∷ xs) ys = lows_append xs ys
 lows_append (entry.Head q n x ∷ xs) ys = lows_append xs ys
-lows_append (entry.Low t low produced ∷ xs) ys = omega (arith, lows_append xs ys)
+lows_append (entry.Low t low produced ∷ xs) ys = ap (λ ts. t ∷ ts) (lows_append xs ys)
 lows_append (entry.Kept t n x ∷ xs) ys = lows_append xs ys
 
-lows_keyed : (es : List Entry) → AllKeyed es → lows es ≡ 0
+-- entries without a low may stand before others, or after them
+none_before : (xs ys : List Entry) → lows_in xs ≡ [] → lows_in (xs ++ ys) ≡ lows_in ys
+none_before xs ys none = lows_append xs ys ∙ ap (λ ts. ts ++ lows_in ys) none
+
+none_after : (xs ys : List Entry) → lows_in ys ≡ [] → lows_in (xs ++ ys) ≡ lows_in xs
+none_after xs ys none = lows_append xs ys ∙ ap (λ ts. lows_in xs ++ ts) none ∙ append-nil (lows_in xs)
+
+lows_keyed : (es : List Entry) → AllKeyed es → lows_in es ≡ []
 lows_keyed [] keyed = refl
 lows_keyed (entry.Keyed k slot a b c ∷ es) keyed = lows_keyed es keyed.1
 lows_keyed (entry.Mark q upto ∷ es) keyed = let no = keyed.0 in let z : ⊥ = cc no in absurd z
@@ -110,25 +125,26 @@ lows_keyed (entry.Head q n x ∷ es) keyed = let no = keyed.0 in let z : ⊥ = c
 lows_keyed (entry.Low t low produced ∷ es) keyed = let no = keyed.0 in let z : ⊥ = cc no in absurd z
 lows_keyed (entry.Kept t n x ∷ es) keyed = let no = keyed.0 in let z : ⊥ = cc no in absurd z
 
-lows_below : (n : ℕ) (g : ℕ → List Entry) → ((q : ℕ) → lows (g q) ≡ 0) → lows (each_below n g) ≡ 0
+lows_below : (n : ℕ) (g : ℕ → List Entry) → ((q : ℕ) → lows_in (g q) ≡ []) → lows_in (each_below n g) ≡ []
 lows_below zero g none = refl
-lows_below (suc n) g none = omega (arith, lows_append (each_below n g) (g n), lows_below n g none, none n)
+lows_below (suc n) g none = none_after (each_below n g) (g n) (none n) ∙ lows_below n g none
 
-lows_of_lows : (n : ℕ) (low made : ℕ → ℕ) → lows (each_below n (λ t. entry.Low t (low t) (made t) ∷ [])) ≡ n
+lows_of_lows : (n : ℕ) (low made : ℕ → ℕ) → lows_in (each_below n (λ t. entry.Low t (low t) (made t) ∷ [])) ≡ range_with_len 0 n
 lows_of_lows zero low made = refl
 lows_of_lows (suc n) low made =
-    omega (arith, lows_append (each_below n (λ t. entry.Low t (low t) (made t) ∷ [])) (entry.Low n (low n) (made n) ∷ []), lows_of_lows n low made)
+    lows_append (each_below n (λ t. entry.Low t (low t) (made t) ∷ [])) (entry.Low n (low n) (made n) ∷ [])
+    ∙ ap (λ ts. ts ++ n ∷ []) (lows_of_lows n low made) ∙ sym (one_more 0 n n (omega arith))
 
-lows_of_heads : (q n : ℕ) (xs : List Item) → lows (numbered (λ k x. entry.Head q k x) n xs) ≡ 0
+lows_of_heads : (q n : ℕ) (xs : List Item) → lows_in (numbered (λ k x. entry.Head q k x) n xs) ≡ []
 lows_of_heads q n [] = refl
 lows_of_heads q n (x ∷ xs) = lows_of_heads q (n + 1) xs
 
-lows_of_kept : (t n : ℕ) (xs : List Item) → lows (numbered (λ k x. entry.Kept t k x) n xs) ≡ 0
+lows_of_kept : (t n : ℕ) (xs : List Item) → lows_in (numbered (λ k x. entry.Kept t k x) n xs) ≡ []
 lows_of_kept t n [] = refl
 lows_of_kept t n (x ∷ xs) = lows_of_kept t (n + 1) xs
 
--- the list of a move tells of each out-edge once
-lows_moved : (plan : PlanView) (rows : List Input) (p : Partition) (m : MoveNumbers) → lows (move_list plan rows p m) ≡ parts_of plan (p.stage + 1)
+-- the list of a move tells the lows of the out-edges, each once and in their order
+lows_moved : (plan : PlanView) (rows : List Input) (p : Partition) (m : MoveNumbers) → lows_in (move_list plan rows p m) ≡ range_with_len 0 (parts_of plan (p.stage + 1))
 lows_moved plan rows p m =
     let sources = sources_of plan p.stage in
     let targets = parts_of plan (p.stage + 1) in
@@ -138,19 +154,15 @@ lows_moved plan rows p m =
     let count = entry.Count m.count ∷ [] in
     let told = each_below targets (λ t. entry.Low t (m.lows t) (made_on plan rows (out_edge p t) m.count) ∷ []) in
     let keyed = entries_after plan rows p m.count in
-    omega (
-      arith,
-      lows_append (marks ++ count ++ each_below sources waits ++ told ++ each_below targets keeps) keyed,
-      lows_append (marks ++ count ++ each_below sources waits ++ told) (each_below targets keeps),
-      lows_append (marks ++ count ++ each_below sources waits) told,
-      lows_append (marks ++ count) (each_below sources waits),
-      lows_append marks count,
-      lows_below sources (λ q. entry.Mark q (m.marks q) ∷ []) (λ q. refl),
-      lows_below sources waits (λ q. lows_of_heads q (used_of plan rows p q m.count) (waiting plan rows p m.count q (m.marks q))),
-      lows_of_lows targets m.lows (λ t. made_on plan rows (out_edge p t) m.count),
-      lows_below targets keeps (λ t. lows_of_kept t (m.lows t) (kept plan rows p m.count t (m.lows t))),
-      lows_keyed keyed (kept_keyed (slice_get plan.stages (p.stage - 1)) _),
-    )
+    let before : lows_in (marks ++ count ++ each_below sources waits) ≡ [] =
+    none_after (marks ++ count) (each_below sources waits)
+    (lows_below sources waits (λ q. lows_of_heads q (used_of plan rows p q m.count) (waiting plan rows p m.count q (m.marks q))))
+    ∙ none_after marks count refl ∙ lows_below sources (λ q. entry.Mark q (m.marks q) ∷ []) (λ q. refl) in
+    none_after (marks ++ count ++ each_below sources waits ++ told ++ each_below targets keeps) keyed (lows_keyed keyed (kept_keyed (slice_get plan.stages (p.stage - 1)) _))
+    ∙ none_after (marks ++ count ++ each_below sources waits ++ told) (each_below targets keeps)
+    (lows_below targets keeps (λ t. lows_of_kept t (m.lows t) (kept plan rows p m.count t (m.lows t))))
+    ∙ none_before (marks ++ count ++ each_below sources waits) told before
+    ∙ lows_of_lows targets m.lows (λ t. made_on plan rows (out_edge p t) m.count)
 
 -- ---- entries of a move
 
@@ -171,40 +183,42 @@ module _ (plan : PlanView) (rows : List Input) (is : IsPlan plan) (times : AreTi
       let keyed = entries_after plan rows p m.count in
       let timely : (q : ℕ) → Each IsTimely (waiting plan rows p m.count q (m.marks q)) = λ q.
       each_between (used_of plan rows p q m.count) (m.marks q) (items_on plan rows (in_edge p q)) ((times_stay plan rows is times).edges (in_edge p q).stage (in_edge p q).from (in_edge p q).to) in
+      let timely_kept : (t : ℕ) → Each IsTimely (kept plan rows p m.count t (m.lows t)) = λ t.
+      each_between (m.lows t) (made_on plan rows (out_edge p t) m.count) (items_on plan rows (out_edge p t)) ((times_stay plan rows is times).edges (out_edge p t).stage (out_edge p t).from (out_edge p t).to) in
       let with_marks : Each P marks = below_each P sources (λ q. entry.Mark q (m.marks q) ∷ []) (λ q l. ((source q l, small.marks q), tt)) in
-      let with_count : Each P (marks ++ count) = each_append P marks count with_marks (tt, tt) in
+      let with_count : Each P (marks ++ count) = each_append P marks count with_marks (small.count, tt) in
       let with_waits : Each P (marks ++ count ++ each_below sources waits) =
       each_append P (marks ++ count) (each_below sources waits) with_count (below_each P sources waits (λ q l.
-      numbered_each P IsTimely (λ n x. entry.Head q n x) (λ n x i. (source q l, i)) (used_of plan rows p q m.count) (waiting plan rows p m.count q (m.marks q)) (timely q))) in
+      let fits : (n : ℕ) → n ≤ m.marks q → n < number_limit = λ n most. omega (arith, most, small.marks q) in
+      numbered_each P IsTimely (λ n x. entry.Head q n x) (m.marks q) (λ n x most i. (source q l, fits n most, i)) (used_of plan rows p q m.count) (waiting plan rows p m.count q (m.marks q))
+      (few_between (used_of plan rows p q m.count) (m.marks q) (items_on plan rows (in_edge p q))) (timely q))) in
       let with_told : Each P (marks ++ count ++ each_below sources waits ++ told) =
       each_append P (marks ++ count ++ each_below sources waits) told with_waits
-      (below_each P targets (λ t. entry.Low t (m.lows t) (made_on plan rows (out_edge p t) m.count) ∷ []) (λ t l. (target t l, tt))) in
+      (below_each P targets (λ t. entry.Low t (m.lows t) (made_on plan rows (out_edge p t) m.count) ∷ []) (λ t l. ((target t l, small.lows t), tt))) in
       let with_keeps : Each P (marks ++ count ++ each_below sources waits ++ told ++ each_below targets keeps) =
       each_append P (marks ++ count ++ each_below sources waits ++ told) (each_below targets keeps) with_told (below_each P targets keeps (λ t l.
-      numbered_each P (λ x. Unit {0}) (λ n x. entry.Kept t n x) (λ n x i. target t l) (m.lows t) (kept plan rows p m.count t (m.lows t))
-      (each_all (λ x. Unit {0}) (λ x. tt) (kept plan rows p m.count t (m.lows t))))) in
+      numbered_each P IsTimely (λ n x. entry.Kept t n x) (made_on plan rows (out_edge p t) m.count) (λ n x most i. (target t l, i)) (m.lows t) (kept plan rows p m.count t (m.lows t))
+      (few_between (m.lows t) (made_on plan rows (out_edge p t) m.count) (items_on plan rows (out_edge p t))) (timely_kept t))) in
       each_append P (marks ++ count ++ each_below sources waits ++ told ++ each_below targets keeps) keyed with_keeps
       (keyed_here role keyed (kept_keyed (slice_get plan.stages (p.stage - 1)) _))
 
   -- ---- the end of a move
 
-  -- the entries taken are the whole list, which tells of each out-edge once
+  -- the entries taken are the whole list, which tells the lows of the out-edges
   whole_at : (taken : List Entry) (count : ℕ) (m : MoveNumbers) → IsOfStage (flow_of plan rows) (partition_of role) → MoveBound (flow_of plan rows) (partition_of role) m
-      → taken ≡ take count (move_list plan rows (partition_of role) m) → count ≡ size (flow_of plan rows) (partition_of role) m → length (buffers_in taken) ≡ targets_of role.next
+      → taken ≡ take count (move_list plan rows (partition_of role) m) → count ≡ size (flow_of plan rows) (partition_of role) m → lows_in taken ≡ range_with_len 0 (targets_of role.next)
   whole_at taken count m stage bound same all =
       let es = move_list plan rows (partition_of role) m in
       let sized : length es ≡ size (flow_of plan rows) (partition_of role) m = have_their_size plan rows is (partition_of role) m stage bound in
       let whole : take count es ≡ es = take_all count es (subst (λ n. length es ≤ n) (sym all) (subst (λ n. length es ≤ n) sized (omega arith))) in
-      let begun : length (buffers_in es) ≡ 0 + lows es = lows_made [] es in
-      let told : lows es ≡ targets_of role.next = lows_moved plan rows (partition_of role) m ∙ targets_are plan role here in
-      ap (λ z. length (buffers_in z)) (same ∙ whole) ∙ omega (arith, begun, told)
+      ap lows_in (same ∙ whole) ∙ lows_moved plan rows (partition_of role) m ∙ ap (range_with_len 0) (targets_are plan role here)
 
   size_some : (m : MoveNumbers) → size (flow_of plan rows) (partition_of role) m ≡ 0 → ⊥
   size_some m e = omega arith
 
   module _ (stage : IsOfStage (flow_of plan rows) (partition_of role)) (m : MoveNumbers) (bound : MoveBound (flow_of plan rows) (partition_of role) m) where
     taken_whole : (taken : List Entry) (count : ℕ) (moved : Option MoveNumbers) → TakenStands plan rows (partition_of role) taken count moved → length taken ≡ count
-        → ((t : MoveNumbers) → moved ≡ Some t → m ≡ t) → count ≡ size (flow_of plan rows) (partition_of role) m → length (buffers_in taken) ≡ targets_of role.next
+        → ((t : MoveNumbers) → moved ≡ Some t → m ≡ t) → count ≡ size (flow_of plan rows) (partition_of role) m → lows_in taken ≡ range_with_len 0 (targets_of role.next)
     taken_whole taken count None none many same all = absurd (size_some m (sym all ∙ sym many ∙ ap length none))
     taken_whole taken count (Some t) first many same all =
         whole_at taken count m stage bound (first ∙ ap (λ z. take count (move_list plan rows (partition_of role) z)) (sym (same t refl))) all
@@ -342,9 +356,9 @@ module _ (plan : PlanView) (rows : List Input) (is : IsPlan plan) (times : AreTi
   to_replica n stands from (body.Tuple edge number i) (Tuple named at) asks st small = tuple_admitted from asks.sender edge named number at i asks.carried st.0 st.1 st.2 small
   to_replica n stands from (body.Ack edge k) (Ack named upto) asks st small = ack_admitted from asks.sender edge named k upto asks.carried st.0 st.1 small
   to_replica n stands from (body.Want edge k) (Want named number) asks st small = want_admitted from asks.sender edge named k number asks.carried st.0
-  to_replica n stands from (body.Lead i t) (Lead inc term) asks st small = is_controller from asks.carried
-  to_replica n stands from (body.Serve i t) (Serve inc target) asks st small = is_controller from asks.carried
-  to_replica n stands from (body.Begin i) (Begin inc) asks st small = is_controller from asks.carried
+  to_replica n stands from (body.Lead i t) (Lead inc term) asks st small = (is_controller from asks.carried, omega (arith, st.1, small.1))
+  to_replica n stands from (body.Serve i t) (Serve inc target) asks st small = (is_controller from asks.carried, omega (arith, st.1, small.1))
+  to_replica n stands from (body.Begin i) (Begin inc) asks st small = (is_controller from asks.carried, omega (arith, st, small))
   to_replica n stands from (body.Stop i) (Stop inc) asks st small = is_controller from asks.carried
   to_replica n stands from (body.Chunk i k e) (Chunk inc number m) asks st small = chunk_admitted from i k inc number e m asks.carried st small.2
   to_replica n stands from (body.ChunkEnd i c) (ChunkEnd inc count m) asks st small = end_admitted n stands from i c inc count m asks st.0 st.1

@@ -54,16 +54,16 @@ module _ (P : Item → Type 0) where
   all_folded (suc n) m held items all =
       all_folded_on n (folded_below n m held) (slice_index_or held n []) (all_at (λ (h : ℕ × Item). P h.1) held n items) (all_folded n m held items all)
 
-  -- an item that an entry moves
-  abbrev pub OfHead : Entry → Type 0
-  OfHead (entry.Head q number i) = P i
-  OfHead (entry.Mark q upto) = Unit {0}
-  OfHead (entry.Count count) = Unit {0}
-  OfHead (entry.Low t low produced) = Unit {0}
-  OfHead (entry.Kept t number i) = Unit {0}
-  OfHead (entry.Keyed k slot a b c) = Unit {0}
+  -- of an item that an entry moves
+  abbrev pub OfEntry : Entry → Type 0
+  OfEntry (entry.Head q number i) = P i
+  OfEntry (entry.Mark q upto) = Unit {0}
+  OfEntry (entry.Count count) = Unit {0}
+  OfEntry (entry.Low t low produced) = Unit {0}
+  OfEntry (entry.Kept t number i) = P i
+  OfEntry (entry.Keyed k slot a b c) = Unit {0}
 
-  all_step : (m : MergeView) (e : Entry) → OfHead e → All (All P) m.waiting → All (All P) (heads_step m e).waiting
+  all_step : (m : MergeView) (e : Entry) → OfEntry e → All (All P) m.waiting → All (All P) (heads_step m e).waiting
   all_step m (entry.Head q number i) here all = all_offer m q number i here all
   all_step m (entry.Mark q upto) here all = all
   all_step m (entry.Count count) here all = all
@@ -71,12 +71,12 @@ module _ (P : Item → Type 0) where
   all_step m (entry.Kept t number i) here all = all
   all_step m (entry.Keyed k slot a b c) here all = all
 
-  all_heads : (es : List Entry) (m : MergeView) → All OfHead es → All (All P) m.waiting → All (All P) (fold heads_step m es).waiting
+  all_heads : (es : List Entry) (m : MergeView) → All OfEntry es → All (All P) m.waiting → All (All P) (fold heads_step m es).waiting
   all_heads [] m heads all = all
-  all_heads (e ∷ es) m heads all = all_heads es (heads_step m e) (All-tail OfHead e es heads) (all_step m e (All-head OfHead e es heads) all)
+  all_heads (e ∷ es) m heads all = all_heads es (heads_step m e) (All-tail OfEntry e es heads) (all_step m e (All-head OfEntry e es heads) all)
 
   -- a merge that was rebuilt, with what was held folded in
-  pub all_rebuilt : (edges : ℕ) (es : List Entry) (held : List (List (ℕ × Item))) → All OfHead es → All (All (λ (h : ℕ × Item). P h.1)) held
+  pub all_rebuilt : (edges : ℕ) (es : List Entry) (held : List (List (ℕ × Item))) → All OfEntry es → All (All (λ (h : ℕ × Item). P h.1)) held
       → All (All P) (folded (merge_in edges es) held).waiting
   all_rebuilt edges es held heads items =
       all_folded (length held) (merge_in edges es) held items

@@ -1,10 +1,11 @@
 -- Each rule keeps what is always true of a replica.
 use Rattle.std.proofs.Common.{◌≡◌, ℕ, zero, suc, ◌+◌, Bool, true, false, if◌then◌else◌, List, [], ◌∷◌, Option, Result, Ok, Err, fold, length, map, refl, sym, ap, ◌∙◌, subst, slice_index_or, slice_set, arith}
 use Rattle.std.specs.Prelude.{◌==◌, ◌&&◌, OnErr, OnOk, nat_lt, replicate}
-use Rattle.std.specs.List.{All}
+use Rattle.std.specs.List.{All, range_with_len}
 use Rattle.std.proofs.Math.ListN.{length-set}
 use Rattle.std.proofs.lemmas.Bool.{eq-eqb, eqb-true}
 use Rattle.std.proofs.lemmas.List.{length-map, length-replicate}
+use Rattle.std.proofs.lemmas.List.FromFn.{length-range_with_len}
 use Rattle.std.proofs.lemmas.List.Elements.{All-append, All-cons, All-nil, All-set}
 use Rattle.tuple_edge.specs.declared.item.Item.{Item}
 use Rattle.tuple_edge.specs.declared.node.NodeId.{NodeId}
@@ -22,7 +23,8 @@ use Rattle.state_mover.specs.MoverView as mover
 use Rattle.catch_up.specs.NewcomerView.{NewcomerView, begun, held_of, is_held, taken_by, took_of, with_held}
 use Rattle.catch_up.specs.declared.newcomer.Took.{Took}
 use Rattle.catch_up.specs.declared.newcomer.Took.TheVariants as took
-use Rattle.catch_up.specs.Rebuild.{all_offered, buffers_in, folded, folded_below, heads_step, marks_in, marks_step, merge_in, count_in}
+use Rattle.catch_up.specs.Rebuild.{all_offered, buffers_in, folded, folded_below, heads_step, lows_in, marks_in, marks_step, merge_in, count_in}
+use Rattle.catch_up.proofs.Lows.{lows_begin}
 use Rattle.replica_node.specs.Admitted.{IsEntryHere, IsWholeAt}
 use Rattle.replica_node.specs.IsReplica.{IsGathering, IsMoving, IsPhase, IsRunning, IsTimelyEntry}
 use Rattle.replica_node.specs.Phases.{ack_taken, begin_taken, chunk_taken, inc_in, lead_taken, serve_taken, serving, stop_taken, tuple_taken, want_taken}
@@ -200,11 +202,11 @@ module _ (role : Role) where
       by_test false = is
 
   timely_entry : (e : Entry) → IsEntryHere role e → IsTimelyEntry e
-  timely_entry (entry.Head q number i) here = here.1
+  timely_entry (entry.Head q number i) here = here.2
   timely_entry (entry.Mark q upto) here = tt
   timely_entry (entry.Count count) here = tt
   timely_entry (entry.Low t low produced) here = tt
-  timely_entry (entry.Kept t number i) here = tt
+  timely_entry (entry.Kept t number i) here = here.1
   timely_entry (entry.Keyed k slot a b c) here = tt
 
   pub keeps_chunk : (inc number : ℕ) (e : Entry) (p : Phase) → IsEntryHere role e → IsPhase role p → IsPhase role (chunk_taken inc number e p)
@@ -222,8 +224,8 @@ module _ (role : Role) where
       by_took took.OtherInc = is
   keeps_chunk inc number e (phase.Gone own) here is = tt
 
-  -- one that has caught up, where the entries taken told of each out-edge
-  pub keeps_end : (g : NewcomerView) (r : Running) → HasCaughtUp role g r → length (buffers_in g.taken) ≡ targets_of role.next → IsGathering role g → IsRunning role r
+  -- one that has caught up, where the lows taken were those of the out-edges
+  pub keeps_end : (g : NewcomerView) (r : Running) → HasCaughtUp role g r → lows_in g.taken ≡ range_with_len 0 (targets_of role.next) → IsGathering role g → IsRunning role r
   keeps_end g r caught whole is = record {
     sources = ap (λ (c : ConsumerView). length c.merge.marks) caught.merges ∙ rebuilt_marks (length g.held) g.taken g.held ∙ is.sources;
     stage = ap (λ (y : ProducerView). y.stage) caught.sends;
@@ -231,7 +233,8 @@ module _ (role : Role) where
     copies = ap (λ (y : ProducerView). y.copies) caught.sends;
     targets =
         sym (length-map r.producer.edges without_room) ∙ ap (λ (y : ProducerView). length y.edges) caught.sends
-        ∙ length-map (map over (buffers_in g.taken)) without_room ∙ length-map (buffers_in g.taken) over ∙ whole;
+        ∙ length-map (map over (buffers_in g.taken)) without_room ∙ length-map (buffers_in g.taken) over
+        ∙ lows_begin g.taken ∙ ap length whole ∙ length-range_with_len 0 (targets_of role.next);
     op = caught.spec;
     timely = subst (λ (c : ConsumerView). All (All IsTimely) c.merge.waiting) (sym caught.merges) (all_rebuilt IsTimely (length g.held) g.taken g.held is.taken is.held);
     moving = subst (λ (m : Option MoverView). IsMoving m r.state.old) (sym caught.move) caught.unwatched;

@@ -1,5 +1,6 @@
 -- Which packets a replica may be given.
 use Rattle.std.specs.Prelude.{◌≡◌, ◌<◌, ◌+◌, ℕ, IsTrue, None, length}
+use Rattle.std.specs.List.{range_with_len}
 use Rattle.std.specs.Option.{IsSome}
 use Rattle.tuple_edge.specs.declared.node.EdgeId.{EdgeId}
 use Rattle.tuple_edge.specs.declared.node.NodeId.{NodeId}
@@ -10,7 +11,7 @@ use Rattle.tuple_edge.specs.declared.packet.Entry.{Entry}
 use Rattle.tuple_edge.specs.declared.packet.Entry.TheVariants as entry
 use Rattle.tuple_edge.specs.Limits.{number_limit}
 use Rattle.stream_ops.specs.Times.{IsTimely}
-use Rattle.catch_up.specs.Rebuild.{buffers_in}
+use Rattle.catch_up.specs.Rebuild.{lows_in}
 use Rattle.merge_order.specs.MergeView.{all_wait, mark_of}
 use Rattle.pair_machine.specs.Numbers.{other}
 use Rattle.replica_node.specs.ReplicaView.{ReplicaView, targets_of}
@@ -59,31 +60,32 @@ IsPartner role from = ⊥
 
 -- ---- entries of a move
 
--- a mark or a waiting item is of an in-edge, a low or a kept item of an out-edge; marks and times are within their limits
+-- a mark or a waiting item is of an in-edge, a low or a kept item of an out-edge; the count, each mark, each low, the number of an item that
+-- waits and the time of an item are within their limits
 abbrev pub IsEntryHere : Role → Entry → Type 0
 IsEntryHere role (entry.Mark q upto) = (q < role.sources) × (upto < number_limit)
-IsEntryHere role (entry.Count count) = Unit {0}
-IsEntryHere role (entry.Head q number i) = (q < role.sources) × IsTimely i
-IsEntryHere role (entry.Low t low produced) = t < targets_of role.next
-IsEntryHere role (entry.Kept t number i) = t < targets_of role.next
+IsEntryHere role (entry.Count count) = count < number_limit
+IsEntryHere role (entry.Head q number i) = (q < role.sources) × (number < number_limit) × IsTimely i
+IsEntryHere role (entry.Low t low produced) = (t < targets_of role.next) × (low < number_limit)
+IsEntryHere role (entry.Kept t number i) = (t < targets_of role.next) × IsTimely i
 IsEntryHere role (entry.Keyed k slot a b c) = Unit {0}
 
--- where the move ends, the entries taken tell of each out-edge
+-- where the move ends, the lows taken are those of the out-edges, each once and in their order
 abbrev pub IsWholeAt : Role → Phase → (inc count : ℕ) → Type 0
 IsWholeAt role (phase.Running r) inc count = Unit {0}
-IsWholeAt role (phase.Gathering g) inc count = inc ≡ g.inc → count ≡ length g.taken → length (buffers_in g.taken) ≡ targets_of role.next
+IsWholeAt role (phase.Gathering g) inc count = inc ≡ g.inc → count ≡ length g.taken → lows_in g.taken ≡ range_with_len 0 (targets_of role.next)
 IsWholeAt role (phase.Gone own) inc count = Unit {0}
 
 -- ---- packets
 
--- all that is asked of a packet and its sender
+-- all that is asked of a packet and its sender; each number that it may raise is within the limit
 abbrev pub IsAdmitted : ReplicaView → NodeId → Body → Type 0
 IsAdmitted v from (body.Tuple e number i) = SendsItems e from × IsIntoHere v.role e × (number < number_limit) × IsTimely i
 IsAdmitted v from (body.Ack e upto) = SendsAcks v.role e from × IsFromHere v.role e × (upto < number_limit)
 IsAdmitted v from (body.Want e number) = SendsWants v.role e from × IsFromHere v.role e
-IsAdmitted v from (body.Lead inc term) = IsController v.role from
-IsAdmitted v from (body.Serve inc target) = IsController v.role from
-IsAdmitted v from (body.Begin inc) = IsController v.role from
+IsAdmitted v from (body.Lead inc term) = IsController v.role from × (term < number_limit)
+IsAdmitted v from (body.Serve inc target) = IsController v.role from × (target < number_limit)
+IsAdmitted v from (body.Begin inc) = IsController v.role from × (inc < number_limit)
 IsAdmitted v from (body.Stop inc) = IsController v.role from
 IsAdmitted v from (body.Chunk inc number e) = IsPartner v.role from × IsEntryHere v.role e
 IsAdmitted v from (body.ChunkEnd inc count) = IsPartner v.role from × IsWholeAt v.role v.phase inc count

@@ -30,7 +30,7 @@ IsTimelyEntry (entry.Head q number i) = IsTimely i
 IsTimelyEntry (entry.Mark q upto) = Unit {0}
 IsTimelyEntry (entry.Count count) = Unit {0}
 IsTimelyEntry (entry.Low t low produced) = Unit {0}
-IsTimelyEntry (entry.Kept t number i) = Unit {0}
+IsTimelyEntry (entry.Kept t number i) = IsTimely i
 IsTimelyEntry (entry.Keyed k slot a b c) = Unit {0}
 
 -- while it moves its state the operator is watched, the mover goes by what was kept then, and has something to give; else it isn't

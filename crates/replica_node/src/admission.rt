@@ -113,21 +113,25 @@ impl Role {
         }
     }
 
-    // Whether an entry of a move is one of this partition.
+    // Whether an entry of a move is one of this partition, its numbers and time within their limits.
     fn has_entry(&self, entry: &Entry) -> bool
         ensures { IsTrue result ↔ IsEntryHere self.now entry.now }
     {
         match *entry {
             Entry::Mark { edge, upto } => edge < self.sources && upto < LIMIT,
-            Entry::Head { edge, item, .. } => edge < self.sources && is_timely(&item),
-            Entry::Low { edge, .. } | Entry::Kept { edge, .. } => edge < self.targets(),
-            Entry::Count { .. } | Entry::Keyed { .. } => true,
+            Entry::Count { count } => count < LIMIT,
+            Entry::Head { edge, number, item } => {
+                edge < self.sources && number < LIMIT && is_timely(&item)
+            }
+            Entry::Low { edge, upto, .. } => edge < self.targets() && upto < LIMIT,
+            Entry::Kept { edge, item, .. } => edge < self.targets() && is_timely(&item),
+            Entry::Keyed { .. } => true,
         }
     }
 }
 
 impl Phase {
-    // Whether, where a move ends here, the entries taken tell of each out-edge.
+    // Whether, where a move ends here, the lows taken are those of the out-edges, in order.
     fn is_whole(&self, role: &Role, inc: u64, count: u64) -> bool
         ensures { IsTrue result ↔ IsWholeAt role.now self.now inc count }
     {
@@ -135,7 +139,7 @@ impl Phase {
             Phase::Gathering(newcomer) => {
                 inc != newcomer.inc()
                     || count != newcomer.taken()
-                    || newcomer.lows() == u64::from(role.targets())
+                    || newcomer.tells_lows(role.targets())
             }
             Phase::Running(_) | Phase::Gone { .. } => true,
         }
@@ -144,9 +148,9 @@ impl Phase {
 
 impl Replica {
     /// Whether a packet from this node may be given to `on`: the plan has the link, which carries such a
-    /// packet; it names an edge between the two; its number and times are within their limits; an entry
-    /// of a move is one of this partition, and where a move ends, the entries taken tell of each out-edge.
-    /// It takes no memory.
+    /// packet; it names an edge between the two; each number that it may raise, and the time of its row,
+    /// is within its limit; an entry of a move is one of this partition, and where a move ends, the lows
+    /// taken are those of the out-edges, each once and in their order. It takes no memory.
     pub fn admits(&self, plan: &Plan, from: NodeId, body: &Body) -> bool
         ensures exact { IsTrue result ↔ (IsTrue (has_link plan.now (link from (node_of self.now.role)))
             × IsAdmitted self.now from body.now) }
@@ -175,9 +179,10 @@ impl Replica {
                 role.sends_acks(edge, from) && role.is_from(edge) && upto < LIMIT
             }
             Body::Want { edge, .. } => role.sends_wants(edge, from) && role.is_from(edge),
-            Body::Lead { .. } | Body::Serve { .. } | Body::Begin { .. } | Body::Stop { .. } => {
-                role.is_controller(from)
-            }
+            Body::Lead { term, .. } => role.is_controller(from) && term < LIMIT,
+            Body::Serve { target, .. } => role.is_controller(from) && target < LIMIT,
+            Body::Begin { inc } => role.is_controller(from) && inc < LIMIT,
+            Body::Stop { .. } => role.is_controller(from),
             Body::Chunk { entry, .. } => role.is_partner(from) && role.has_entry(&entry),
             Body::ChunkEnd { inc, count } => {
                 role.is_partner(from) && phase.is_whole(role, inc, count)
