@@ -11,7 +11,8 @@ ghost use Rattle.pair_machine.specs.Machine.{new_node};
 ghost use Rattle.pair_machine.specs.Receivers.{GoOverLinks, appended};
 ghost use Rattle.pair_machine.specs.Replicas.{which_of};
 ghost use Rattle.plan_reader.specs.PlanView.{IsPlan, PlanView};
-ghost use Rattle.std.specs.Prelude.{◌≡◌, ◌<◌, ◌≤◌, ◌+◌, ◌++◌, ◌∷◌, [], List, None, Some, IfNone, IfOk, IfSome, OnErr, OnOk, is_some, length, slice_get, slice_set};
+ghost use Rattle.stream_ops.specs.Times.{IsTime};
+ghost use Rattle.std.specs.Prelude.{◌≡◌, ◌<◌, ◌≤◌, ◌+◌, ◌++◌, ◌∷◌, [], All, List, None, Some, IfNone, IfOk, IfSome, OnErr, OnOk, is_some, length, slice_get, slice_set};
 ghost use Rattle.tuple_edge.specs.Input.{Input};
 ghost use Rattle.tuple_edge.specs.declared.event.Worked.TheVariants.{Idle};
 ghost use Rattle.tuple_edge.specs.declared.node.NodeId.TheVariants as node;
@@ -41,17 +42,20 @@ impl Model for Ingress {
     ghost use Rattle.ingress_egress.specs.IngressView.{AreWide, HaveMadeAtMost, IngressView};
     ghost use Rattle.trade_text.specs.Limits.{max_inputs};
     ghost use Rattle.trade_text.specs.TradesView.{paired};
+    ghost use Rattle.tuple_edge.specs.Input.{Input};
     ghost use Rattle.tuple_edge.specs.Limits.{edge_limit};
-    ghost use Rattle.std.specs.Prelude.{◌≤◌, ◌<◌, ◌+◌, ◌*◌, length};
+    ghost use Rattle.stream_ops.specs.Times.{IsTime};
+    ghost use Rattle.std.specs.Prelude.{◌≤◌, ◌<◌, ◌+◌, ◌*◌, All, length};
 
     ghost Value = { IngressView };
 
     ghost view = { λ i. record { inputs = paired i.rows.items i.sources.items; first = i.first; mark = i.mark; makes = i.makes; producers = i.producers.items } };
 
     // There are few inputs, and a make gives at most two items to an edge, so no number of an item ever
-    // passes its limit.
+    // passes its limit. The time of each is within its limits, as it is in the trades.
     ghost invariant = { λ i. (1 ≤ i.first.parts) × (1 ≤ i.mark) × (length i.rows.items ≤ max_inputs) × (i.makes ≤ length i.rows.items + 1)
-        × (length i.producers.items < edge_limit) × AreWide i.first.parts i.producers.items × HaveMadeAtMost (2 * i.makes) i.producers.items };
+        × (length i.producers.items < edge_limit) × AreWide i.first.parts i.producers.items × HaveMadeAtMost (2 * i.makes) i.producers.items
+        × All (λ (input : Input). IsTime input.row.time) (paired i.rows.items i.sources.items) };
 }
 
 // The first stage of a plan.
@@ -244,9 +248,10 @@ impl Ingress {
         self.first.parts
     }
 
-    /// How many inputs, or the end, were made into items.
+    /// How many inputs, or the end, were made into items. The time of each input is within its limits.
     pub fn makes(&self) -> u64
-        ensures { result ≡ self.now.makes }
+        ensures value { result ≡ self.now.makes }
+        ensures times { All (λ (input : Input). IsTime input.row.time) self.now.inputs }
     {
         self.makes
     }

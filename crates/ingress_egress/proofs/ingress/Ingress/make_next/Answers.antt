@@ -37,4 +37,4 @@ invariant_of-self c =
     let len = c.in_err-make_with_room.ensures.len in
     let kept = contents_kept c.self.inside.first.parts (2 * c.self.inside.makes) c.self.inside.producers.items c.make_with_room.new.producers.items
     c.in_err-make_with_room.ensures.contents len (record { wide = inv.5; made = inv.6 }) in
-    (inv.0, inv.1, inv.2, inv.3, let few = inv.4 in omega arith, kept.wide, kept.made)
+    (inv.0, inv.1, inv.2, inv.3, let few = inv.4 in omega arith, kept.wide, kept.made, inv.7)
