@@ -38,7 +38,7 @@ use Rattle.pair_machine.proofs.CountLaws.{in_order}
 use Rattle.pair_machine.proofs.Tests.{nat_not}
 use Rattle.node_edges.proofs.Consumers as consumers
 use Rattle.ingress_egress.specs.EgressStands.{IsOfPlan, StandsFor}
-use Rattle.ingress_egress.specs.EgressView.{EgressView, IsFrontOf, has_end, merging_or_reporting, reporting, taking, working}
+use Rattle.ingress_egress.specs.EgressView.{EgressView, IsFrontOf, has_end, merging_or_reporting, reporting, working}
 
 -- ---- the same plan
 

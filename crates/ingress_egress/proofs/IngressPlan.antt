@@ -1,6 +1,6 @@
 -- What a runner asks of ingress: it stays a node of its plan and sends over its links alone; and no edge has had more than two items for
 -- each make.
-use Rattle.std.proofs.Common.{◌≡◌, ◌<◌, ◌≤◌, ◌+◌, ◌*◌, ◌⊎◌, inl, inr, ℕ, zero, suc, Bool, true, false, IsTrue, List, [], ◌∷◌, ◌++◌, Option, None, Some, Result, Ok, Err, length, map, refl, sym, ap, ◌∙◌, subst, arith}
+use Rattle.std.proofs.Common.{◌≡◌, ◌<◌, ◌≤◌, ◌+◌, inl, inr, ℕ, zero, suc, Bool, true, false, IsTrue, List, [], ◌∷◌, ◌++◌, Option, None, Some, Result, Ok, Err, length, map, refl, sym, ap, ◌∙◌, subst, arith}
 use Rattle.std.specs.Prelude.{◌%◌, ◌==◌, IfOk, OnErr, ◌-◌, if◌then◌else◌, is_some, nat_le, slice_get, replicate, slice_index_or, slice_set}
 use Rattle.std.proofs.Math.ListN.{length-set}
 use Rattle.std.proofs.lemmas.Bool.{eqb-true, eq-eqb, le-leb, lt-ltb, true≢false}
@@ -15,7 +15,7 @@ use Rattle.tuple_edge.specs.declared.packet.Body.{Body}
 use Rattle.tuple_edge.specs.declared.packet.Body.TheVariants as body
 use Rattle.tuple_edge.specs.Limits.{number_limit}
 use Rattle.tuple_edge.specs.Input.{Input}
-use Rattle.ack_buffer.specs.Buffer.{item_at, produced_on}
+use Rattle.ack_buffer.specs.Buffer.{item_at}
 use Rattle.flux_producer.specs.Due.{due_of, due_to, soonest_below}
 use Rattle.flux_producer.specs.OutEdge.{OutEdgeView, acknowledged, sent, unused, wanted, with_item}
 use Rattle.flux_producer.specs.ProducerView.{ProducerView, acked, buffer_at, contents_of, edge_at, sent_on, wanted_from, with_edge}
@@ -33,7 +33,7 @@ use Rattle.pair_machine.proofs.EdgeLaws.{parts_at}
 use Rattle.pair_machine.proofs.Found.{FoundIn, first_found}
 use Rattle.node_edges.specs.OutEdges.{HasMade, which_at, with_items}
 use Rattle.ingress_egress.specs.IngressStands.{IsMade, IsOfPlan}
-use Rattle.ingress_egress.specs.IngressView.{AreWide, HasMadeAtMost, HasMadeNext, HaveMadeAtMost, IngressView, MayMake, contents_in, new_producer, new_producers, producer_at, producer_in, sending_due, sending_first, source_due, taking, tuples_of, with_producer, working}
+use Rattle.ingress_egress.specs.IngressView.{AreWide, HasMadeAtMost, HaveMadeAtMost, IngressView, MayMake, contents_in, new_producers, producer_at, producer_in, sending_due, sending_first, source_due, taking, tuples_of, with_producer, working}
 use Rattle.ingress_egress.specs.declared.making.Made.{Made}
 use Rattle.ingress_egress.specs.declared.making.Made.TheVariants as made
 use Rattle.ingress_egress.proofs.EachSource.{alike, at_set, edges_alike, edges_many, wide_alike}

@@ -1,4 +1,4 @@
-use Rattle.std.proofs.Common.{◌≡◌, ◌<◌, ◌∙◌, [], ◌∷◌, Some, ap, arith, length, subst, sym}
+use Rattle.std.proofs.Common.{◌<◌, ◌∙◌, [], ◌∷◌, Some, ap, arith, length, subst, sym}
 use Rattle.tuple_edge.specs.Row.{route_of}
 use Rattle.tuple_edge.specs.declared.item.Item.TheVariants as item
 use Rattle.flux_producer.specs.OutEdge.{OutEdgeView}

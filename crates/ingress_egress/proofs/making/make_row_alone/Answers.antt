@@ -1,7 +1,7 @@
 use Rattle.std.proofs.Common.{◌∙◌, arith}
 use Rattle.std.proofs.lemmas.List.{get_or_default}
 use Rattle.ingress_egress.specs.IngressView.{input_of}
-use Rattle.ingress_egress.proofs.EachSource.{none_sends, one_sends}
+use Rattle.ingress_egress.proofs.EachSource.{one_sends}
 use Rattle.ingress_egress.proofs.EgressSteps.{when_ok}
 use Rattle.ingress_egress.proofs.making.make_row_alone.Goals as goal
 

@@ -1,4 +1,4 @@
-use Rattle.std.proofs.Common.{◌≡◌, ◌≤◌, ◌+◌, ◌∙◌, [], ap, arith, length, subst, sym}
+use Rattle.std.proofs.Common.{◌∙◌, [], ap, arith, length, subst, sym}
 use Rattle.std.proofs.lemmas.List.{append-nil}
 use Rattle.tuple_edge.specs.Outbox.{OutboxView}
 use Rattle.tuple_edge.specs.declared.node.NodeId.TheVariants as node
