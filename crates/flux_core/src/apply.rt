@@ -59,7 +59,8 @@ fn node_of(event: &Event) -> NodeId
 
 impl Core {
     /// Applies an event of the plan. A core made of nodes alone, whose state need not be sound, may be given
-    /// only events that take no packet. After a refusal, and where memory is wanting, all is as it was.
+    /// any event that takes no packet; one that takes a packet only where its state is sound. After a refusal,
+    /// and where memory is wanting, all is as it was.
     pub fn apply(&mut self, event: Event) -> Result<(), ApplyError>
         requires named { IsTrue (names_event self.old.plan event) }
         requires may { MayApply self.old event }
