@@ -115,14 +115,14 @@ pub record IsOpened (core : CoreView) (given : PlanView) (rows : List Input) : T
   pub inputs : inputs_of core ≡ rows
 
 pub opened : (plan : PlanView) (rows : List Input) (copy : PlanView) (i : IngressView) (rs : List ReplicaView) (cs : List ControllerView) (e : EgressView) (li : Log) (lr lc : List Log) (le : Log)
-    → copy ≡ plan → IsPlan plan → AreTimely rows → ingress.StandsFor plan rows i (new_node node.Ingress) → HasPairsBefore plan rs cs (length plan.stages + 1) 0
+    → copy ≡ plan → IsPlan plan → AreTimely i.inputs → ingress.StandsFor plan rows i (new_node node.Ingress) → HasPairsBefore plan rs cs (length plan.stages + 1) 0
     → ((rows : List Input) → egress.StandsFor plan rows e (new_node node.Egress)) → li ≡ [] → AreEmpty lr (length rs) → AreEmpty lc (length cs) → le ≡ []
     → IsOpened (core_of copy true i rs cs e li lr lc le) plan rows
 opened plan rows copy i rs cs e li lr lc le same limits times ingress_opens pairs egress_opens ei er ec ee =
     let inputs : i.inputs ≡ rows = ingress_opens.inputs in
     let stands = opens plan true i rs cs e (subst (λ I. ingress.StandsFor plan I i (new_node node.Ingress)) (sym inputs) ingress_opens) pairs egress_opens in
     let bare : IsOpened (Bare plan true i rs cs e) plan rows = record {
-      is = bare_known plan true i rs cs e limits (subst AreTimely (sym inputs) times) (record {
+      is = bare_known plan true i rs cs e limits times (record {
         events = [];
         state = opening;
         legal = record { there = tt; leads = refl };

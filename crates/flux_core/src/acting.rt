@@ -1,4 +1,5 @@
-// An event at its node, whichever it is.
+// An event at its node, whichever it is. The task says all that is to be done; the event is there for the contracts,
+// which say whose task it is.
 ghost use Rattle.flux_core.specs.Acts.{IsTimelyTask};
 ghost use Rattle.flux_core.specs.CoreView.{flow_in};
 ghost use Rattle.flux_core.specs.Refusals.{IsRefusal};
@@ -18,18 +19,17 @@ use tuple_edge::{Event, Which};
 
 impl Core {
     // Ingress does what an event asks of it.
-    pub(crate) fn act_at_ingress(&mut self, event: &Event, task: &Task) -> Result<(), ApplyError>
-        requires here { at_node event.now ≡ name.Ingress }
-        requires named { IsTrue (names_event self.old.plan event.now) }
-        requires may { MayApply self.old event.now }
-        requires asked { IsTaskOf self.old event.now task.now }
+    pub(crate) fn act_at_ingress(&mut self, _event: &Event, task: &Task) -> Result<(), ApplyError>
+        requires here { at_node _event.now ≡ name.Ingress }
+        requires named { IsTrue (names_event self.old.plan _event.now) }
+        requires may { MayApply self.old _event.now }
+        requires asked { IsTaskOf self.old _event.now task.now }
         requires timely { IsTimelyTask task.now }
-        ensures applied { OnOk result (IsApplied self.old self.new event.now) }
-        ensures refused { IfErr result (λ e. (s : State) → StandsFor self.old s → IsRefusal (step (flow_in self.old) s event.now) e) }
+        ensures applied { OnOk result (IsApplied self.old self.new _event.now) }
+        ensures refused { IfErr result (λ e. (s : State) → StandsFor self.old s → IsRefusal (step (flow_in self.old) s _event.now) e) }
         ensures unchanged { OnErr result (self.new ≡ self.old) }
         ensures core { IsCore self.new }
     {
-        let _event = event;
         ingress_notes(&mut self.ingress, &mut self.sent.ingress, &self.plan, task)
     }
 
@@ -39,20 +39,19 @@ impl Core {
         stage: u32,
         part: u32,
         which: Which,
-        event: &Event,
+        _event: &Event,
         task: &Task,
     ) -> Result<(), ApplyError>
-        requires here { at_node event.now ≡ name.Replica stage part which }
-        requires named { IsTrue (names_event self.old.plan event.now) }
-        requires may { MayApply self.old event.now }
-        requires asked { IsTaskOf self.old event.now task.now }
+        requires here { at_node _event.now ≡ name.Replica stage part which }
+        requires named { IsTrue (names_event self.old.plan _event.now) }
+        requires may { MayApply self.old _event.now }
+        requires asked { IsTaskOf self.old _event.now task.now }
         requires timely { IsTimelyTask task.now }
-        ensures applied { OnOk result (IsApplied self.old self.new event.now) }
-        ensures refused { IfErr result (λ e. (s : State) → StandsFor self.old s → IsRefusal (step (flow_in self.old) s event.now) e) }
+        ensures applied { OnOk result (IsApplied self.old self.new _event.now) }
+        ensures refused { IfErr result (λ e. (s : State) → StandsFor self.old s → IsRefusal (step (flow_in self.old) s _event.now) e) }
         ensures unchanged { OnErr result (self.new ≡ self.old) }
         ensures core { IsCore self.new }
     {
-        let _event = event;
         let place = replica_place(&self.plan, stage, part, which);
         let (replicas, logs) = (&mut self.replicas, &mut self.sent.replicas);
         replica_at_notes(replicas, logs, place, &self.plan, task)
@@ -63,38 +62,36 @@ impl Core {
         &mut self,
         stage: u32,
         part: u32,
-        event: &Event,
+        _event: &Event,
         task: &Task,
     ) -> Result<(), ApplyError>
-        requires here { at_node event.now ≡ name.Control stage part }
-        requires named { IsTrue (names_event self.old.plan event.now) }
-        requires may { MayApply self.old event.now }
-        requires asked { IsTaskOf self.old event.now task.now }
+        requires here { at_node _event.now ≡ name.Control stage part }
+        requires named { IsTrue (names_event self.old.plan _event.now) }
+        requires may { MayApply self.old _event.now }
+        requires asked { IsTaskOf self.old _event.now task.now }
         requires timely { IsTimelyTask task.now }
-        ensures applied { OnOk result (IsApplied self.old self.new event.now) }
-        ensures refused { IfErr result (λ e. (s : State) → StandsFor self.old s → IsRefusal (step (flow_in self.old) s event.now) e) }
+        ensures applied { OnOk result (IsApplied self.old self.new _event.now) }
+        ensures refused { IfErr result (λ e. (s : State) → StandsFor self.old s → IsRefusal (step (flow_in self.old) s _event.now) e) }
         ensures unchanged { OnErr result (self.new ≡ self.old) }
         ensures core { IsCore self.new }
     {
-        let _event = event;
         let place = pair_place(&self.plan, stage, part);
         let (controls, logs) = (&mut self.controls, &mut self.sent.controls);
         control_at_notes(controls, logs, place, &self.plan, task)
     }
 
     // Egress does what an event asks of it.
-    pub(crate) fn act_at_egress(&mut self, event: &Event, task: &Task) -> Result<(), ApplyError>
-        requires here { at_node event.now ≡ name.Egress }
-        requires named { IsTrue (names_event self.old.plan event.now) }
-        requires may { MayApply self.old event.now }
-        requires asked { IsTaskOf self.old event.now task.now }
+    pub(crate) fn act_at_egress(&mut self, _event: &Event, task: &Task) -> Result<(), ApplyError>
+        requires here { at_node _event.now ≡ name.Egress }
+        requires named { IsTrue (names_event self.old.plan _event.now) }
+        requires may { MayApply self.old _event.now }
+        requires asked { IsTaskOf self.old _event.now task.now }
         requires timely { IsTimelyTask task.now }
-        ensures applied { OnOk result (IsApplied self.old self.new event.now) }
-        ensures refused { IfErr result (λ e. (s : State) → StandsFor self.old s → IsRefusal (step (flow_in self.old) s event.now) e) }
+        ensures applied { OnOk result (IsApplied self.old self.new _event.now) }
+        ensures refused { IfErr result (λ e. (s : State) → StandsFor self.old s → IsRefusal (step (flow_in self.old) s _event.now) e) }
         ensures unchanged { OnErr result (self.new ≡ self.old) }
         ensures core { IsCore self.new }
     {
-        let _event = event;
         egress_notes(&mut self.egress, &mut self.sent.egress, &self.plan, task)
     }
 }

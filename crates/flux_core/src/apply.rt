@@ -76,10 +76,8 @@ impl Core {
         ensures owed { HoldsWhatIsOwed self.new }
     {
         self.known();
-        match self.task_of(&event) {
-            Err(stop) => Err(stop),
-            Ok(task) => self.act(&event, &task),
-        }
+        let task = self.task_of(&event)?;
+        self.act(&event, &task)
     }
 
     /// Applies events of the plan one after another, up to the first one that is no step: those before it stay

@@ -103,10 +103,7 @@ pub(crate) fn replica_at_notes(
     ensures unchanged { OnErr result ((map replica_contents replicas.new.items ≡ map replica_contents replicas.old.items)
         × (logs.new.items ≡ logs.old.items)) }
 {
-    match replica_notes(&mut replicas[place], &mut logs[place], plan, task) {
-        Ok(()) => Ok(()),
-        Err(stop) => Err(stop),
-    }
+    replica_notes(&mut replicas[place], &mut logs[place], plan, task)
 }
 
 // The controller at a place does what an event asks.
@@ -124,8 +121,5 @@ pub(crate) fn control_at_notes(
         → IsRefusedSo plan.now (control.node_of v) task.now (ControllerIs v) e) }
     ensures unchanged { OnErr result ((controls.new.items ≡ controls.old.items) × (logs.new.items ≡ logs.old.items)) }
 {
-    match control_notes(&mut controls[place], &mut logs[place], plan, task) {
-        Ok(()) => Ok(()),
-        Err(stop) => Err(stop),
-    }
+    control_notes(&mut controls[place], &mut logs[place], plan, task)
 }

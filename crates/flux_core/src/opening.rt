@@ -2,13 +2,11 @@
 ghost use Rattle.flux_core.specs.CoreView.{inputs_of};
 ghost use Rattle.flux_core.specs.Opening.{AreEmpty, HasPairsBefore, bare_core};
 ghost use Rattle.flux_core.specs.Stands.{IsGiven, StandsFor};
-ghost use Rattle.ingress_egress.specs.IngressStands as ingress;
-ghost use Rattle.pair_machine.specs.Machine.{new_node, opening};
+ghost use Rattle.pair_machine.specs.Machine.{opening};
 ghost use Rattle.plan_reader.specs.Nodes.{has_pair};
 ghost use Rattle.plan_reader.specs.PlanView.{IsPlan};
 ghost use Rattle.replica_node.specs.Course.{AreTimely};
 ghost use Rattle.std.specs.Prelude.{◌≡◌, ◌≤◌, ◌+◌, [], true, IfOk, IsTrue, OnOk, length};
-ghost use Rattle.tuple_edge.specs.declared.node.NodeId.TheVariants as node;
 ghost use Rattle.trade_text.specs.TradesView.{inputs_in};
 
 use crate::logs::Logs;
@@ -110,17 +108,9 @@ fn copy_of(alloc: Global, plan: &Plan) -> Result<Plan, OutOfMemory>
     ensures copy { IfOk result (λ copy. copy ≡ plan.now) }
     ensures limits { IsPlan plan.now }
 {
-    let _ = plan.stages();
+    // This call's clause says that a plan is within the limits.
+    let _stages = plan.stages();
     plan.copied(alloc)
-}
-
-// Ingress of a plan and its trades, all of whose times are within the limits.
-fn ingress_of(alloc: Global, plan: &Plan, trades: &Trades) -> Result<Ingress, OutOfMemory>
-    ensures opens { IfOk result (λ i. ingress.StandsFor plan.now (inputs_in trades.now) i (new_node node.Ingress)) }
-    ensures times { AreTimely (inputs_in trades.now) }
-{
-    let _ = trades.rows();
-    Ingress::new(alloc, plan, trades)
 }
 
 impl Core {
@@ -131,7 +121,9 @@ impl Core {
         ensures inputs { IfOk result (λ core. inputs_of core ≡ inputs_in trades.now) }
         ensures whole { IfOk result (λ core. core.whole ≡ true) }
     {
-        let ingress = ingress_of(alloc, plan, trades)?;
+        let ingress = Ingress::new(alloc, plan, trades)?;
+        // This call's clause says that the times of the inputs are within their limits.
+        let _makes = ingress.makes();
         let pairs = Pairs::new(alloc, plan)?;
         let egress = Egress::new(alloc, plan)?;
         let sent = Logs::new(alloc, pairs.replicas.len(), pairs.controls.len())?;

@@ -3,16 +3,16 @@ use Rattle.flux_core.proofs.Done.{ingress_outcome}
 use Rattle.flux_core.proofs.nodes.Core.act_at_ingress.Goals as goal
 
 pub invariant_of-self : goal.invariant_of-self
-invariant_of-self c = let o = ingress_outcome c.self.inside.plan c.self.inside.whole c.self.inside.ingress c.ingress_notes.new.node c.self.inside.replicas.items c.self.inside.controls.items c.self.inside.egress c.self.inside.sent.ingress c.ingress_notes.new.sent c.self.inside.sent.replicas.items c.self.inside.sent.controls.items c.self.inside.sent.egress (appended c.self.inside.sent.ingress c.ingress_notes.new.sent) c.args.self.now c.args.event.now c.args.task.now c.ingress_notes.result c.self.view_is c.self.invariant c.requires.here c.requires.named c.requires.may c.requires.asked c.ingress_notes.ensures.acts c.ingress_notes.ensures.noted c.ingress_notes.ensures.inputs c.ingress_notes.ensures.refused c.ingress_notes.ensures.unchanged in o.core
+invariant_of-self c = let o = ingress_outcome c.self.inside.plan c.self.inside.whole c.self.inside.ingress c.ingress_notes.new.node c.self.inside.replicas.items c.self.inside.controls.items c.self.inside.egress c.self.inside.sent.ingress c.ingress_notes.new.sent c.self.inside.sent.replicas.items c.self.inside.sent.controls.items c.self.inside.sent.egress (appended c.self.inside.sent.ingress c.ingress_notes.new.sent) c.args.self.now c.args._event.now c.args.task.now c.ingress_notes.result c.self.view_is c.self.invariant c.requires.here c.requires.named c.requires.may c.requires.asked c.ingress_notes.ensures.acts c.ingress_notes.ensures.noted c.ingress_notes.ensures.inputs c.ingress_notes.ensures.refused c.ingress_notes.ensures.unchanged in o.core
 
 pub returns-clause-applied : goal.returns-clause-applied
-returns-clause-applied c = let o = ingress_outcome c.self.inside.plan c.self.inside.whole c.self.inside.ingress c.ingress_notes.new.node c.self.inside.replicas.items c.self.inside.controls.items c.self.inside.egress c.self.inside.sent.ingress c.ingress_notes.new.sent c.self.inside.sent.replicas.items c.self.inside.sent.controls.items c.self.inside.sent.egress (appended c.self.inside.sent.ingress c.ingress_notes.new.sent) c.args.self.now c.args.event.now c.args.task.now c.ingress_notes.result c.self.view_is c.self.invariant c.requires.here c.requires.named c.requires.may c.requires.asked c.ingress_notes.ensures.acts c.ingress_notes.ensures.noted c.ingress_notes.ensures.inputs c.ingress_notes.ensures.refused c.ingress_notes.ensures.unchanged in o.applied
+returns-clause-applied c = let o = ingress_outcome c.self.inside.plan c.self.inside.whole c.self.inside.ingress c.ingress_notes.new.node c.self.inside.replicas.items c.self.inside.controls.items c.self.inside.egress c.self.inside.sent.ingress c.ingress_notes.new.sent c.self.inside.sent.replicas.items c.self.inside.sent.controls.items c.self.inside.sent.egress (appended c.self.inside.sent.ingress c.ingress_notes.new.sent) c.args.self.now c.args._event.now c.args.task.now c.ingress_notes.result c.self.view_is c.self.invariant c.requires.here c.requires.named c.requires.may c.requires.asked c.ingress_notes.ensures.acts c.ingress_notes.ensures.noted c.ingress_notes.ensures.inputs c.ingress_notes.ensures.refused c.ingress_notes.ensures.unchanged in o.applied
 
 pub returns-clause-refused : goal.returns-clause-refused
-returns-clause-refused c = let o = ingress_outcome c.self.inside.plan c.self.inside.whole c.self.inside.ingress c.ingress_notes.new.node c.self.inside.replicas.items c.self.inside.controls.items c.self.inside.egress c.self.inside.sent.ingress c.ingress_notes.new.sent c.self.inside.sent.replicas.items c.self.inside.sent.controls.items c.self.inside.sent.egress (appended c.self.inside.sent.ingress c.ingress_notes.new.sent) c.args.self.now c.args.event.now c.args.task.now c.ingress_notes.result c.self.view_is c.self.invariant c.requires.here c.requires.named c.requires.may c.requires.asked c.ingress_notes.ensures.acts c.ingress_notes.ensures.noted c.ingress_notes.ensures.inputs c.ingress_notes.ensures.refused c.ingress_notes.ensures.unchanged in o.refused
+returns-clause-refused c = let o = ingress_outcome c.self.inside.plan c.self.inside.whole c.self.inside.ingress c.ingress_notes.new.node c.self.inside.replicas.items c.self.inside.controls.items c.self.inside.egress c.self.inside.sent.ingress c.ingress_notes.new.sent c.self.inside.sent.replicas.items c.self.inside.sent.controls.items c.self.inside.sent.egress (appended c.self.inside.sent.ingress c.ingress_notes.new.sent) c.args.self.now c.args._event.now c.args.task.now c.ingress_notes.result c.self.view_is c.self.invariant c.requires.here c.requires.named c.requires.may c.requires.asked c.ingress_notes.ensures.acts c.ingress_notes.ensures.noted c.ingress_notes.ensures.inputs c.ingress_notes.ensures.refused c.ingress_notes.ensures.unchanged in o.refused
 
 pub returns-clause-unchanged : goal.returns-clause-unchanged
-returns-clause-unchanged c = let o = ingress_outcome c.self.inside.plan c.self.inside.whole c.self.inside.ingress c.ingress_notes.new.node c.self.inside.replicas.items c.self.inside.controls.items c.self.inside.egress c.self.inside.sent.ingress c.ingress_notes.new.sent c.self.inside.sent.replicas.items c.self.inside.sent.controls.items c.self.inside.sent.egress (appended c.self.inside.sent.ingress c.ingress_notes.new.sent) c.args.self.now c.args.event.now c.args.task.now c.ingress_notes.result c.self.view_is c.self.invariant c.requires.here c.requires.named c.requires.may c.requires.asked c.ingress_notes.ensures.acts c.ingress_notes.ensures.noted c.ingress_notes.ensures.inputs c.ingress_notes.ensures.refused c.ingress_notes.ensures.unchanged in o.unchanged
+returns-clause-unchanged c = let o = ingress_outcome c.self.inside.plan c.self.inside.whole c.self.inside.ingress c.ingress_notes.new.node c.self.inside.replicas.items c.self.inside.controls.items c.self.inside.egress c.self.inside.sent.ingress c.ingress_notes.new.sent c.self.inside.sent.replicas.items c.self.inside.sent.controls.items c.self.inside.sent.egress (appended c.self.inside.sent.ingress c.ingress_notes.new.sent) c.args.self.now c.args._event.now c.args.task.now c.ingress_notes.result c.self.view_is c.self.invariant c.requires.here c.requires.named c.requires.may c.requires.asked c.ingress_notes.ensures.acts c.ingress_notes.ensures.noted c.ingress_notes.ensures.inputs c.ingress_notes.ensures.refused c.ingress_notes.ensures.unchanged in o.unchanged
 
 pub returns-clause-core : goal.returns-clause-core
-returns-clause-core c = let o = ingress_outcome c.self.inside.plan c.self.inside.whole c.self.inside.ingress c.ingress_notes.new.node c.self.inside.replicas.items c.self.inside.controls.items c.self.inside.egress c.self.inside.sent.ingress c.ingress_notes.new.sent c.self.inside.sent.replicas.items c.self.inside.sent.controls.items c.self.inside.sent.egress (appended c.self.inside.sent.ingress c.ingress_notes.new.sent) c.args.self.now c.args.event.now c.args.task.now c.ingress_notes.result c.self.view_is c.self.invariant c.requires.here c.requires.named c.requires.may c.requires.asked c.ingress_notes.ensures.acts c.ingress_notes.ensures.noted c.ingress_notes.ensures.inputs c.ingress_notes.ensures.refused c.ingress_notes.ensures.unchanged in o.core
+returns-clause-core c = let o = ingress_outcome c.self.inside.plan c.self.inside.whole c.self.inside.ingress c.ingress_notes.new.node c.self.inside.replicas.items c.self.inside.controls.items c.self.inside.egress c.self.inside.sent.ingress c.ingress_notes.new.sent c.self.inside.sent.replicas.items c.self.inside.sent.controls.items c.self.inside.sent.egress (appended c.self.inside.sent.ingress c.ingress_notes.new.sent) c.args.self.now c.args._event.now c.args.task.now c.ingress_notes.result c.self.view_is c.self.invariant c.requires.here c.requires.named c.requires.may c.requires.asked c.ingress_notes.ensures.acts c.ingress_notes.ensures.noted c.ingress_notes.ensures.inputs c.ingress_notes.ensures.refused c.ingress_notes.ensures.unchanged in o.core
