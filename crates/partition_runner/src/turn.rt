@@ -15,24 +15,33 @@ use tuple_edge::OutOfMemory;
 const PORTION: u64 = 64;
 
 impl<N: RunNames, A: Acts, M: Links, T: Tap> Node<N, A, M, T> {
-    /// One turn: it obeys the script's orders that are due, takes packets, makes rows, and does work, and
-    /// pushes what it can; and it offers its tap the rows that it emitted. Whether it did anything.
+    /// One turn: it pushes what it can, obeys the script's orders that are due, takes packets, makes rows and does
+    /// work. Then, also where memory is wanting, it offers its tap the rows that it emitted. Whether it did anything.
     pub(crate) fn turn(&mut self, plan: &Plan, script: &Script) -> Result<bool, OutOfMemory>
         requires { script.now ≡ N.script }
         ensures { name_of A.id self.new ≡ name_of A.id self.old }
     {
         self.begin_turn();
-        let fired = self.fire(plan, script)?;
-        let took = self.take_some(plan)?;
-        let made = self.make_some(plan)?;
-        let did = self.work_some(plan)?;
+        let result = self.act_some(plan, script);
         self.offer();
-        Ok(fired || took || made || did)
+        result
     }
 
     /// Whether egress has merged its end.
     pub(crate) fn is_done(&self) -> bool {
         self.state.is_done()
+    }
+
+    // What a turn does, up to where memory is wanting.
+    fn act_some(&mut self, plan: &Plan, script: &Script) -> Result<bool, OutOfMemory>
+        requires { script.now ≡ N.script }
+        ensures { name_of A.id self.new ≡ name_of A.id self.old }
+    {
+        let fired = self.fire(plan, script)?;
+        let took = self.take_some(plan)?;
+        let made = self.make_some(plan)?;
+        let did = self.work_some(plan)?;
+        Ok(fired || took || made || did)
     }
 
     fn take_some(&mut self, plan: &Plan) -> Result<bool, OutOfMemory>
