@@ -25,6 +25,11 @@ impl Fired {
         }
     }
 
+    /// Whether nothing is left that could happen.
+    pub(crate) fn is_all(&self) -> bool {
+        self.stopped && self.recalled
+    }
+
     /// Whether the task would happen a second time.
     pub(crate) fn repeats(&self, task: &Task) -> bool
         ensures { result ≡ repeats self.now task.now }

@@ -1,6 +1,10 @@
 // What the orders of a script make a node do.
+ghost use Rattle.pair_machine.specs.Machine.{replica_in};
+ghost use Rattle.pair_machine.specs.Numbers.{Node as NodeNumbers};
+ghost use Rattle.pair_machine.specs.Scripts.{HasMerged, IsAllowedAt};
 ghost use Rattle.partition_runner.specs.NodeView.{name_of};
-ghost use Rattle.std.specs.Prelude.{◌≡◌};
+ghost use Rattle.partition_runner.specs.Tasks.{event_of, packet_of};
+ghost use Rattle.std.specs.Prelude.{◌≡◌, None, IsTrue};
 
 use crate::acts::{Acts, Task};
 use crate::links::Links;
@@ -17,57 +21,41 @@ impl<N: RunNames, A: Acts, M: Links, T: Tap> Node<N, A, M, T> {
         requires { script.now ≡ N.script }
         ensures { name_of A.id self.new ≡ name_of A.id self.old }
     {
-        if script.orders().is_empty() {
+        if script.orders().is_empty() || self.fired.is_all() {
             return Ok(false);
         }
-        let failed = self.fail(plan, script)?;
-        let stopped = self.ask_stop(plan, script)?;
-        let recalled = self.ask_back(plan, script)?;
+        let Some(count) = self.state.merged() else {
+            return Ok(false);
+        };
+        let due = script.due_for(self.state.id(), count);
+        let failed = self.obey(plan, due.kill, count, Task::Kill)?;
+        let stopped = self.obey(plan, due.stop, count, Task::AskStop)?;
+        let recalled = self.obey(plan, due.back, count, Task::AskBack)?;
         Ok(failed || stopped || recalled)
     }
 
-    // Fails, where an order wants that and is due.
-    fn fail(&mut self, plan: &Plan, script: &Script) -> Result<bool, OutOfMemory>
-        requires { script.now ≡ N.script }
+    // Does what an order wants, if that is due where so many items are merged. A node that doesn't run any more, since
+    // it failed in this turn, has merged none.
+    fn obey(
+        &mut self,
+        plan: &Plan,
+        is_due: bool,
+        count: u64,
+        task: Task,
+    ) -> Result<bool, OutOfMemory>
+        requires order { packet_of task ≡ None }
+        requires allowed { IsTrue is_due → (x : NodeNumbers) → HasMerged count (replica_in x) → IsAllowedAt N.script (event_of (A.id self.old.state) task) x }
         ensures { name_of A.id self.new ≡ name_of A.id self.old }
     {
-        let Some(count) = self.state.merged() else {
-            return Ok(false);
-        };
-        let due = script.due_for(self.state.id(), count);
-        if !due.kill {
+        if !is_due {
             return Ok(false);
         }
-        self.event(plan, Task::Kill)
-    }
-
-    // Asks to be stopped, where an order wants that and is due.
-    fn ask_stop(&mut self, plan: &Plan, script: &Script) -> Result<bool, OutOfMemory>
-        requires { script.now ≡ N.script }
-        ensures { name_of A.id self.new ≡ name_of A.id self.old }
-    {
-        let Some(count) = self.state.merged() else {
+        let Some(merged) = self.state.merged() else {
             return Ok(false);
         };
-        let due = script.due_for(self.state.id(), count);
-        if !due.stop {
+        if merged < count {
             return Ok(false);
         }
-        self.event(plan, Task::AskStop)
-    }
-
-    // Asks for its partner, where an order wants that and is due.
-    fn ask_back(&mut self, plan: &Plan, script: &Script) -> Result<bool, OutOfMemory>
-        requires { script.now ≡ N.script }
-        ensures { name_of A.id self.new ≡ name_of A.id self.old }
-    {
-        let Some(count) = self.state.merged() else {
-            return Ok(false);
-        };
-        let due = script.due_for(self.state.id(), count);
-        if !due.back {
-            return Ok(false);
-        }
-        self.event(plan, Task::AskBack)
+        self.event(plan, task)
     }
 }
