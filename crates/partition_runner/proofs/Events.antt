@@ -289,7 +289,8 @@ none_emitted (l ∷ ls) n h = go (is_node l.to n) h.0 (none_emitted ls n h.1)
     go true e old = e
     go false e old = old
 
-some_left : (pre : List Moment) (m : Moment) (post : List Moment) → onto pre (m ∷ post) ≡ [] → ⊥
+-- a cut of nothing has nothing behind it
+pub some_left : (pre : List Moment) (m : Moment) (post : List Moment) → onto pre (m ∷ post) ≡ [] → ⊥
 some_left [] m post e = cc
 some_left (x ∷ pre) m post e = some_left pre x (m ∷ post) e
 

@@ -13,7 +13,7 @@ use Rattle.plan_reader.specs.PlanView.{IsPlan, PlanView}
 use Rattle.pair_machine.specs.Asked.{Asks}
 use Rattle.pair_machine.specs.Contents.{BodyStands}
 use Rattle.pair_machine.specs.Counts.{flow_of}
-use Rattle.pair_machine.specs.Courses.{Arrivals, IsSentAtItsIndex, IsTrueHistory, IsTrueNode, Moment, onto}
+use Rattle.pair_machine.specs.Courses.{Arrivals, IsSentAtItsIndex, IsTrueHistory, IsTrueNode}
 use Rattle.pair_machine.specs.Joint.{IsLog, logged_events}
 use Rattle.pair_machine.specs.Legal.{IsLegal}
 use Rattle.pair_machine.specs.Lists.{Each}
@@ -28,11 +28,8 @@ use Rattle.pair_machine.proofs.WithinLogs.{logs_within}
 use Rattle.partition_runner.specs.Ends.{InLink, emitted_to}
 use Rattle.partition_runner.specs.Fits.{Came, Fit}
 use Rattle.partition_runner.specs.NodeView.{NodeView, name_of}
+use Rattle.partition_runner.proofs.Events.{some_left}
 use Rattle.partition_runner.specs.Runs.{AreSettled, IsJointCourse, IsSettled, IsTrueView, history_in, parts_of, view_at}
-
-some_left : (pre : List Moment) (m : Moment) (post : List Moment) → onto pre (m ∷ post) ≡ [] → ⊥
-some_left [] m post e = cc
-some_left (x ∷ pre) m post e = some_left pre x (m ∷ post) e
 
 module _ {A : Type 0} (T : Type 0) (id : A → NodeId) (stands : PlanView → List Input → A → Node → Type 0) (plan : PlanView) (inputs : List Input) (script : List Order) where
   abbrev True : NodeView A T → Type 0
