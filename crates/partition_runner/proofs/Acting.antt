@@ -36,7 +36,7 @@ use Rattle.replica_node.specs.ReplicaView.{ReplicaView, node_of}
 use Rattle.replica_node.specs.Rules.{contents_in}
 use Rattle.replica_node.specs.StandsFor as replica
 use Rattle.partition_runner.specs.States.{HasActed, IsOfPlan, StandsFor, id_of, rows_of}
-use Rattle.partition_runner.specs.Tasks.{DoesStep, event_of, packet_of}
+use Rattle.partition_runner.specs.Tasks.{DoesStep, event_of, most_packets, packet_of}
 use Rattle.partition_runner.specs.declared.acts.Task.{Task}
 use Rattle.partition_runner.specs.declared.acts.Task.TheVariants as task
 use Rattle.partition_runner.specs.declared.state.NodeState.{NodeState}
@@ -45,7 +45,7 @@ use Rattle.partition_runner.proofs.Room.{ingress_stays, replica_stays}
 
 module _ (old new : NodeState) (t : Task) (packets : List (NodeId × Body)) where
   -- it is a step
-  pub acted : at_node (event_of (id_of old) t) ≡ id_of old → DoesStep id_of StandsFor t old new packets → length packets ≤ 24 → ((plan : PlanView) → IsOfPlan plan old → GoOverLinks plan (id_of old) packets) →
+  pub acted : at_node (event_of (id_of old) t) ≡ id_of old → DoesStep id_of StandsFor t old new packets → length packets ≤ most_packets → ((plan : PlanView) → IsOfPlan plan old → GoOverLinks plan (id_of old) packets) →
       id_of new ≡ id_of old → ((plan : PlanView) → IsOfPlan plan old → IsOfPlan plan new) → IsPrefix (rows_of old) (rows_of new) → HasActed old new t (Ok Did) packets
   acted here step few linked id of_plan rows = record {
     here = λ e. here;
@@ -115,7 +115,7 @@ back_here node.Egress = refl
 -- ---- a controller
 
 pub control_takes : (old new : ControllerView) (from : NodeId) (index : ℕ) (packet : Packet) (t : Task) (before after : List (NodeId × Body)) → t ≡ task.Take from index packet → before ≡ [] →
-    after ≡ packets_of (taking old from packet.body).1 → ((plan : PlanView) (rows : List Input) → control.IsTaken plan rows old new from packet.body) → length after ≤ 24 →
+    after ≡ packets_of (taking old from packet.body).1 → ((plan : PlanView) (rows : List Input) → control.IsTaken plan rows old new from packet.body) → length after ≤ most_packets →
     ((plan : PlanView) → control.IsOfPlan plan old → GoOverLinks plan (control.node_of old) (appended before after)) → control.node_of new ≡ control.node_of old →
     ((plan : PlanView) → control.IsOfPlan plan old → control.IsOfPlan plan new) → HasActed (state.Control old) (state.Control new) t (Ok Did) after
 control_takes old new from index packet t before after is none sent course few linked id of_plan =
@@ -130,7 +130,7 @@ abbrev Steps : ReplicaView → ReplicaView → Task → List (NodeId × Body) �
 Steps old new k sent = (plan : PlanView) (inputs : List Input) → IsPlan plan → AreTimely inputs → (clock : ℕ) →
     IsStep (flow_of plan inputs) (BodyStands plan inputs) (Asks (flow_of plan inputs)) (node_of old.role) (replica.StandsFor plan inputs old) (replica.StandsFor plan inputs new) (event_of (node_of old.role) k) (packet_of k) (λ to. packets_to clock to sent)
 
-replica_steps : (old new : ReplicaView) (t k : Task) (after sent : List (NodeId × Body)) → t ≡ k → after ≡ sent → at_node (event_of (node_of old.role) k) ≡ node_of old.role → Steps old new k sent → length after ≤ 24 →
+replica_steps : (old new : ReplicaView) (t k : Task) (after sent : List (NodeId × Body)) → t ≡ k → after ≡ sent → at_node (event_of (node_of old.role) k) ≡ node_of old.role → Steps old new k sent → length after ≤ most_packets →
     ((plan : PlanView) → replica.IsOfPlan plan old.role → GoOverLinks plan (node_of old.role) sent) → new.role ≡ old.role → HasActed (state.Replica old) (state.Replica new) t (Ok Did) after
 replica_steps old new t k after sent is same here step few linked role =
     subst (λ x. HasActed (state.Replica old) (state.Replica new) x (Ok Did) after) (sym is)
@@ -146,7 +146,7 @@ replica_takes old new from index packet t before after is none taken few linked 
     replica_steps old new t (task.Take from index packet) after (appended before after) is all refl (λ plan inputs hp ht clock. taken plan inputs hp ht clock packet.at index) (omega arith) linked role
 
 pub replica_does : (old new : ReplicaView) (t k : Task) (before after sent : List (NodeId × Body)) → t ≡ k → before ≡ [] → after ≡ before ++ sent → at_node (event_of (node_of old.role) k) ≡ node_of old.role → packet_of k ≡ None →
-    ((plan : PlanView) (inputs : List Input) → course.IsDone plan inputs old new sent (event_of (node_of old.role) k)) → length sent ≤ 24 →
+    ((plan : PlanView) (inputs : List Input) → course.IsDone plan inputs old new sent (event_of (node_of old.role) k)) → length sent ≤ most_packets →
     ((plan : PlanView) → replica.IsOfPlan plan old.role → GoOverLinks plan (node_of old.role) sent) → new.role ≡ old.role → HasActed (state.Replica old) (state.Replica new) t (Ok Did) after
 replica_does old new t k before after sent is none e here nothing done few linked role =
     let all : after ≡ sent = e ∙ ap (λ l. l ++ sent) none in

@@ -26,7 +26,7 @@ use Rattle.replica_node.specs.Phases.{mode_in}
 use Rattle.replica_node.specs.ReplicaView.{ReplicaView, node_of}
 use Rattle.replica_node.specs.StandsFor as replica
 use Rattle.replica_node.specs.declared.phase.Mode.TheVariants as mode
-use Rattle.partition_runner.specs.Tasks.{DoesStep, event_of}
+use Rattle.partition_runner.specs.Tasks.{DoesStep, event_of, most_packets}
 use Rattle.partition_runner.specs.declared.acts.Task.{Task}
 use Rattle.partition_runner.specs.declared.acts.Task.TheVariants as task
 use Rattle.partition_runner.specs.declared.state.NodeState.{NodeState}
@@ -97,7 +97,7 @@ MayDo (state.Egress e) t = EgressMay e t
 pub record HasActed (old new : NodeState) (t : Task) (result : Result Worked OutOfMemory) (packets : List (NodeId × Body)) : Type 0 where
   pub here : result ≡ Ok Did → at_node (event_of (id_of old) t) ≡ id_of old
   pub step : result ≡ Ok Did → DoesStep id_of StandsFor t old new packets
-  pub few : result ≡ Ok Did → length packets ≤ 24
+  pub few : result ≡ Ok Did → length packets ≤ most_packets
   pub linked : result ≡ Ok Did → (plan : PlanView) → IsOfPlan plan old → GoOverLinks plan (id_of old) packets
   pub idle : result ≡ Ok Idle → (new ≡ old) × (packets ≡ [])
   pub unsent : OnErr result (packets ≡ [])

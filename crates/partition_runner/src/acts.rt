@@ -4,7 +4,7 @@ ghost use Rattle.pair_machine.specs.Machine.{at_node, partner_node, replica_in};
 ghost use Rattle.pair_machine.specs.Numbers.{Node};
 ghost use Rattle.pair_machine.specs.Receivers.{GoOverLinks};
 ghost use Rattle.pair_machine.specs.Scripts.{HasMerged};
-ghost use Rattle.partition_runner.specs.Tasks.{DoesStep, clock_of, event_of};
+ghost use Rattle.partition_runner.specs.Tasks.{DoesStep, clock_of, event_of, most_packets};
 ghost use Rattle.partition_runner.specs.declared.acts.Task.{Task};
 ghost use Rattle.plan_reader.specs.PlanView.{PlanView};
 ghost use Rattle.std.specs.Prelude.{◌≡◌, ◌≤◌, [], List, IfSome, Ok, OnErr, IsTrue, length};
@@ -66,11 +66,11 @@ pub trait Acts: Send + Drop {
     fn act(&mut self, task: &Task, out: &mut Outbox) -> Result<Worked, OutOfMemory>
         requires may { may self.old task.now }
         requires empty { out.old.packets ≡ [] }
-        requires room { 24 ≤ out.old.spare }
+        requires room { most_packets ≤ out.old.spare }
         // It is a step of the machine at this node, in each plan, and sends a few packets over links of its plan alone.
         ensures here { result ≡ Ok Did → at_node (event_of (id self.old) task.now) ≡ id self.old }
         ensures step { result ≡ Ok Did → DoesStep id stands task.now self.old self.new out.new.packets }
-        ensures few { result ≡ Ok Did → length out.new.packets ≤ 24 }
+        ensures few { result ≡ Ok Did → length out.new.packets ≤ most_packets }
         ensures linked { result ≡ Ok Did → (plan : PlanView) → of_plan plan self.old → GoOverLinks plan (id self.old) out.new.packets }
         // Where there was nothing to do, or no memory, it stands for the same numbers, and nothing is sent.
         ensures idle { result ≡ Ok Idle → (self.new ≡ self.old) × (out.new.packets ≡ []) }

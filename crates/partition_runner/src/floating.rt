@@ -5,6 +5,7 @@ ghost use Rattle.std.specs.Prelude.{◌≡◌, ◌<◌, ℕ, All, length, map, s
 
 use crate::acts::Acts;
 use crate::gate::Gate;
+use crate::limits::MOST_WORKERS;
 use crate::links::Links;
 use crate::names::RunNames;
 use crate::node::Node;
@@ -38,7 +39,11 @@ fn work_each<N: RunNames, A: Acts + Send, M: Links, T: Tap + Send, R: Threads + 
         &|index: usize, seat: &mut BoardSeat<Node<N, A, M, T>>|
             requires { (IsSeatOf board.now seat.old × HoldsNone seat.old) × ((0 < nodes) × (length (opening_of board.now) ≡ nodes)) × (shared.now.script.now ≡ N.script) }
             ensures { IsBack board.entry.now seat.old seat.new }
-        { work(board, seat, (index % 16) as u32, nodes, shared) },
+        {
+            // The remainder is the index itself. It shows that the cast loses nothing.
+            let worker = (index % MOST_WORKERS) as u32;
+            work(board, seat, worker, nodes, shared)
+        },
     );
 }
 

@@ -1,12 +1,10 @@
 // The end of a link on which a node receives.
 ghost use Rattle.std.specs.Prelude.{◌≡◌, ◌++◌, ◌∷◌, [], MatchOption};
 
+use crate::limits::NUMBER_LIMIT;
 use flux_link::{Arrival, Inlet};
 use std::marker::Model;
 use tuple_edge::NodeId;
-
-// So many packets come over a link at most.
-const MOST_ARRIVALS: u64 = 1 << 62;
 
 /// The end of a link on which a node receives.
 #[derive(Drop)]
@@ -52,7 +50,7 @@ impl<I: Inlet + Drop> InEnd<I> {
         ensures { MatchOption result (self.new ≡ self.old)
             (λ arrival. self.new ≡ record self.old { given = self.old.given ++ arrival ∷ [] }) }
     {
-        if self.came >= MOST_ARRIVALS {
+        if self.came >= NUMBER_LIMIT {
             return None;
         }
         let arrival = self.inlet.recv()?;

@@ -10,6 +10,7 @@ mod floating;
 mod gate;
 mod in_end;
 mod kept;
+mod limits;
 mod links;
 mod lossy_rings;
 mod making;

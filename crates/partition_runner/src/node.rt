@@ -23,6 +23,7 @@ use crate::acts::{Acts, Task};
 use crate::fired::Fired;
 use crate::in_end::InEnd;
 use crate::kept::Kept;
+use crate::limits::{MOST_PACKETS, NUMBER_LIMIT};
 use crate::links::Links;
 use crate::names::RunNames;
 use crate::out_end::OutEnd;
@@ -36,11 +37,8 @@ use std::alloc::Global;
 use std::marker::{Model, PhantomData};
 use tuple_edge::{OutOfMemory, Outbox, Stamped, Worked};
 
-// No clock reaches it.
-const LAST_CLOCK: u64 = (1 << 62) - 1;
-
-// No event sends more packets.
-const MOST_PACKETS: usize = 24;
+// No clock passes it.
+const LAST_CLOCK: u64 = NUMBER_LIMIT - 1;
 
 /// A node with its links, the arrival that it keeps, its clock and its history.
 #[derive(Drop)]

@@ -3,6 +3,7 @@ ghost use Rattle.pair_machine.specs.Machine.{replica_in};
 ghost use Rattle.pair_machine.specs.Numbers.{Node};
 ghost use Rattle.pair_machine.specs.Scripts.{HasMerged};
 ghost use Rattle.partition_runner.specs.States.{ControlMay, EgressMay, HasActed, IngressMay, IsOfPlan, MayDo, ReplicaMay, StandsFor, id_of, rows_of};
+ghost use Rattle.partition_runner.specs.Tasks.{most_packets};
 ghost use Rattle.partition_runner.specs.declared.state.NodeState.TheVariants as state;
 ghost use Rattle.plan_reader.specs.PlanView.{PlanView};
 ghost use Rattle.replica_node.specs.StandsFor as replica;
@@ -166,7 +167,7 @@ fn ingress_acts(node: &mut Ingress, task: &Task, out: &mut Outbox) -> Result<Wor
 fn replica_acts(node: &mut Replica, task: &Task, out: &mut Outbox) -> Result<Worked, OutOfMemory>
     requires may { ReplicaMay node.old task.now }
     requires empty { out.old.packets ≡ [] }
-    requires room { 24 ≤ out.old.spare }
+    requires room { most_packets ≤ out.old.spare }
     ensures { HasActed (state.Replica node.old) (state.Replica node.new) task.now result out.new.packets }
 {
     match task {
@@ -199,7 +200,7 @@ fn control_acts(
 ) -> Result<Worked, OutOfMemory>
     requires may { ControlMay node.old task.now }
     requires empty { out.old.packets ≡ [] }
-    requires room { 24 ≤ out.old.spare }
+    requires room { most_packets ≤ out.old.spare }
     ensures { HasActed (state.Control node.old) (state.Control node.new) task.now result out.new.packets }
 {
     match task {
