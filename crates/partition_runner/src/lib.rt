@@ -1,4 +1,13 @@
-//! The runner: the nodes of a plan, turned by workers on threads.
+//! The runner: the nodes of a plan, turned by workers on threads, over links and under a failure script.
+//!
+//! Each worker takes one node after another off a board, gives it a turn and puts it back. Whatever the workers, the links
+//! and the script did, a run that finds memory gives one history for each node of the plan, with rising clocks; all events
+//! in the order of their clocks are legal and within the script, and each node stands for its numbers in the state that
+//! they reach. A tap beside egress gave on a front of its rows; where there was no memory, a front of the plan's output.
+//! How far a run comes is not promised.
+//!
+//! It stands on the nodes (`ingress_egress`, `replica_node`, `pair_control`), on `claim_board`, where nodes float between
+//! workers, on `flux_link` for links and `failure_script` for orders, and on the laws of `pair_machine` for histories.
 #![tactic(auto)]
 
 mod acts;
