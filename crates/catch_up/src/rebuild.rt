@@ -12,10 +12,7 @@ use ack_buffer::AckBuffer;
 use merge_order::Merge;
 use std::alloc::Global;
 use stream_ops::{OpSpec, OpState};
-use tuple_edge::{Entry, Item, OutOfMemory};
-
-// Every number of an item stays below this.
-const LIMIT: u64 = 1 << 62;
+use tuple_edge::{Entry, Item, NUMBER_LIMIT, OutOfMemory};
 
 // Sets a mark, where the in-edge is there.
 fn set_mark(marks: &mut [u64], at: usize, upto: u64)
@@ -123,7 +120,7 @@ fn produce_again(buffer: &mut AckBuffer, item: Item) -> Result<(), OutOfMemory>
     ensures { OnOk result (without_spare buffer.new ≡ without_spare (produced_on buffer.old item)) }
 {
     // A number past the limit is answered as want of memory.
-    if buffer.produced() >= LIMIT - 1 {
+    if buffer.produced() >= NUMBER_LIMIT - 1 {
         return Err(OutOfMemory);
     }
     buffer.reserve(1)?;
@@ -141,7 +138,7 @@ fn begin_buffer(
     ensures { OnOk result (map without_spare buffers.new.items ≡ map without_spare buffers.old.items ++ starting_at upto (min upto produced) ∷ []) }
 {
     // A number past the limit is answered as want of memory.
-    if upto >= LIMIT {
+    if upto >= NUMBER_LIMIT {
         return Err(OutOfMemory);
     }
     buffers.push(AckBuffer::starting(alloc, upto, produced.min(upto)))?;

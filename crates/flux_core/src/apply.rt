@@ -6,7 +6,7 @@ ghost use Rattle.flux_core.specs.Promises.{EmitsAFront, HoldsWhatIsOwed, MergesI
 ghost use Rattle.flux_core.specs.Refusals.{IsRefusal};
 ghost use Rattle.flux_core.specs.Stands.{IsCore, StandsFor};
 ghost use Rattle.flux_core.specs.Steps.{IsApplied, IsTaskOf, MayApply};
-ghost use Rattle.pair_machine.specs.Machine.{State, act_of, at_node, partner_node, step};
+ghost use Rattle.pair_machine.specs.Machine.{State, act_of, at_node, step};
 ghost use Rattle.plan_reader.specs.Nodes.{has_link, names_event};
 ghost use Rattle.std.specs.Prelude.{◌≡◌, true, IfErr, IfOk, IsTrue, OnErr, OnOk};
 ghost use Rattle.tuple_edge.specs.declared.event.Event.TheVariants as event;
@@ -16,7 +16,7 @@ use crate::error::ApplyError;
 use crate::logs::taken_from;
 use crate::nodes::Core;
 use run_journal::Lined;
-use tuple_edge::{Event, LinkId, NodeId, Which};
+use tuple_edge::{Event, LinkId, NodeId};
 
 /// Where a list of events stopped: at an event that is no step, with its line.
 #[derive(Clone, Copy, Debug, PartialEq, Eq)]
@@ -27,23 +27,6 @@ pub struct Stopped {
     pub error: ApplyError,
 }
 
-// The partner of a replica; another node is its own.
-fn partner_of(node: NodeId) -> NodeId
-    ensures { result ≡ partner_node node }
-{
-    match node {
-        NodeId::Replica { stage, part, which } => NodeId::Replica {
-            stage,
-            part,
-            which: match which {
-                Which::A => Which::B,
-                Which::B => Which::A,
-            },
-        },
-        NodeId::Ingress | NodeId::Control { .. } | NodeId::Egress => node,
-    }
-}
-
 // The one node that an event changes.
 fn node_of(event: &Event) -> NodeId
     ensures { result ≡ at_node event.now }
@@ -52,7 +35,7 @@ fn node_of(event: &Event) -> NodeId
         Event::Take { link, .. } => link.to,
         Event::Work { node } | Event::Kill { node } | Event::AskStop { node } => node,
         Event::Make => NodeId::Ingress,
-        Event::AskBack { node } => partner_of(node),
+        Event::AskBack { node } => node.partner(),
         Event::Pull { to, .. } => to,
     }
 }

@@ -12,27 +12,14 @@ ghost use Rattle.pair_machine.specs.Sound.{IsSound};
 ghost use Rattle.plan_reader.specs.Nodes.{has_link};
 ghost use Rattle.plan_reader.specs.PlanView.{IsPlan};
 ghost use Rattle.std.specs.Prelude.{◌<◌, ◌↔◌, All, IsTrue, List};
-ghost use Rattle.stream_ops.specs.Times.{IsTime, IsTimely};
+ghost use Rattle.stream_ops.specs.Times.{IsTime};
 ghost use Rattle.tuple_edge.specs.Input.{Input};
 ghost use Rattle.tuple_edge.specs.declared.node.NodeId.TheVariants as node;
 
 use crate::{Egress, Ingress};
 use plan_reader::Plan;
-use stream_ops::MAX_TIME_SECONDS;
-use tuple_edge::{Body, EdgeId, Item, LinkId, NodeId};
-
-// Every number of an item, and every count, stays below this.
-pub(crate) const LIMIT: u64 = 1 << 62;
-
-// Whether the time of an item's row, if it has one, is within its limits.
-fn is_timely(item: &Item) -> bool
-    ensures { IsTrue result ↔ IsTimely item.now }
-{
-    match *item {
-        Item::Row { row, .. } => 0 <= row.time && row.time <= MAX_TIME_SECONDS,
-        Item::Mark { .. } | Item::End { .. } => true,
-    }
-}
+use stream_ops::is_timely;
+use tuple_edge::{Body, EdgeId, LinkId, NUMBER_LIMIT, NodeId};
 
 impl Egress {
     /// Whether a packet from this node may be given to `on`: the plan has the link, which carries such a
@@ -76,7 +63,7 @@ impl Egress {
         match (from, *body) {
             (NodeId::Replica { part, .. }, Body::Tuple { edge, number, item }) => {
                 let named = edge.stage == self.stages() && edge.from == part && edge.to == 0;
-                named && number < LIMIT && is_timely(&item)
+                named && number < NUMBER_LIMIT && is_timely(&item)
             }
             _ => false,
         }
@@ -105,7 +92,7 @@ impl Ingress {
     {
         match (from, *body) {
             (NodeId::Control { stage, part }, Body::Ack { edge, upto }) => {
-                stage == 1 && self.is_for(part, edge) && upto < LIMIT
+                stage == 1 && self.is_for(part, edge) && upto < NUMBER_LIMIT
             }
             (NodeId::Replica { stage, part, .. }, Body::Want { edge, .. }) => {
                 stage == 1 && self.is_for(part, edge)

@@ -16,12 +16,13 @@ ghost use Rattle.tuple_edge.specs.Input.{Input};
 ghost use Rattle.tuple_edge.specs.declared.event.Worked.TheVariants.{Idle};
 ghost use Rattle.tuple_edge.specs.declared.node.NodeId.TheVariants as node;
 
-use crate::admission::LIMIT;
 use flux_consumer::Consumer;
 use plan_reader::Plan;
 use std::alloc::Global;
 use std::marker::Model;
-use tuple_edge::{Body, EdgeId, Item, NodeId, OutOfMemory, Outbox, Row, Which, Worked};
+use tuple_edge::{
+    Body, EdgeId, Item, NUMBER_LIMIT, NodeId, OutOfMemory, Outbox, Row, Which, Worked,
+};
 
 /// Egress: it merges what the last stage sends, emits the rows, and acknowledges what it has taken.
 #[derive(Drop)]
@@ -170,7 +171,7 @@ impl Egress {
     pub fn may_work(&self) -> bool
         ensures { IsTrue result ↔ MayWork self.now }
     {
-        !self.consumer.ready() || self.consumer.merge().count() < LIMIT - 1
+        !self.consumer.ready() || self.consumer.merge().count() < NUMBER_LIMIT - 1
     }
 
     /// Whether the next item of an edge may be pulled: its number is within its limit. It takes no memory.
@@ -178,7 +179,7 @@ impl Egress {
         requires { edge < length self.now.consumer.merge.marks }
         ensures { IsTrue result ↔ MayPull self.now edge }
     {
-        self.consumer.merge().mark(edge) < LIMIT - 1
+        self.consumer.merge().mark(edge) < NUMBER_LIMIT - 1
     }
 
     // The number of stages.

@@ -1,6 +1,6 @@
 // What a node does.
 ghost use mathlib.Core.List.{IsPrefix};
-ghost use Rattle.pair_machine.specs.Machine.{at_node, partner_node, replica_in};
+ghost use Rattle.pair_machine.specs.Machine.{at_node, replica_in};
 ghost use Rattle.pair_machine.specs.Numbers.{Node};
 ghost use Rattle.pair_machine.specs.Receivers.{GoOverLinks};
 ghost use Rattle.pair_machine.specs.Scripts.{HasMerged};
@@ -14,7 +14,7 @@ ghost use Rattle.tuple_edge.specs.declared.node.NodeId.{NodeId};
 ghost use Rattle.tuple_edge.specs.declared.row.Row.{Row};
 
 use plan_reader::Plan;
-use tuple_edge::{Event, LinkId, NodeId, OutOfMemory, Outbox, Packet, Row, Which, Worked};
+use tuple_edge::{Event, LinkId, NodeId, OutOfMemory, Outbox, Packet, Row, Worked};
 
 /// What a node is to do in one event.
 #[derive(Clone, Copy, Debug, PartialEq, Eq)]
@@ -96,23 +96,6 @@ pub trait Acts: Send + Drop {
         ensures { result.now ≡ rows self.now };
 }
 
-// The partner of a replica; another node stands for itself.
-fn partner_of(node: NodeId) -> NodeId
-    ensures { result ≡ partner_node node }
-{
-    match node {
-        NodeId::Replica { stage, part, which } => NodeId::Replica {
-            stage,
-            part,
-            which: match which {
-                Which::A => Which::B,
-                Which::B => Which::A,
-            },
-        },
-        _ => node,
-    }
-}
-
 impl Task {
     /// The clock of the packet that it takes.
     pub(crate) fn clock(&self) -> u64
@@ -138,7 +121,7 @@ impl Task {
             Task::Kill => Event::Kill { node },
             Task::AskStop => Event::AskStop { node },
             Task::AskBack => Event::AskBack {
-                node: partner_of(node),
+                node: node.partner(),
             },
         }
     }

@@ -1,10 +1,9 @@
 // The end of a link on which a node receives.
 ghost use Rattle.std.specs.Prelude.{◌≡◌, ◌++◌, ◌∷◌, [], MatchOption};
 
-use crate::limits::NUMBER_LIMIT;
 use flux_link::{Arrival, Inlet};
 use std::marker::Model;
-use tuple_edge::NodeId;
+use tuple_edge::{NUMBER_LIMIT, NodeId};
 
 /// The end of a link on which a node receives.
 #[derive(Drop)]

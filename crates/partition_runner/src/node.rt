@@ -23,7 +23,7 @@ use crate::acts::{Acts, Task};
 use crate::fired::Fired;
 use crate::in_end::InEnd;
 use crate::kept::Kept;
-use crate::limits::{MOST_PACKETS, NUMBER_LIMIT};
+use crate::limits::MOST_PACKETS;
 use crate::links::Links;
 use crate::names::RunNames;
 use crate::out_end::OutEnd;
@@ -35,7 +35,7 @@ use crate::tap::Tap;
 use plan_reader::Plan;
 use std::alloc::Global;
 use std::marker::{Model, PhantomData};
-use tuple_edge::{OutOfMemory, Outbox, Stamped, Worked};
+use tuple_edge::{NUMBER_LIMIT, OutOfMemory, Outbox, Stamped, Worked};
 
 // No clock passes it.
 const LAST_CLOCK: u64 = NUMBER_LIMIT - 1;

@@ -14,27 +14,15 @@ ghost use Rattle.replica_node.specs.Course.{AreTimely};
 ghost use Rattle.replica_node.specs.ReplicaView.{node_of};
 ghost use Rattle.replica_node.specs.StandsFor.{StandsFor};
 ghost use Rattle.std.specs.Prelude.{◌<◌, ◌↔◌, IsTrue, List};
-ghost use Rattle.stream_ops.specs.Times.{IsTimely};
 ghost use Rattle.tuple_edge.specs.Input.{Input};
 ghost use Rattle.tuple_edge.specs.Limits.{number_limit};
 
-use crate::moving::LIMIT;
 use crate::phase::Phase;
 use crate::replica::Replica;
 use crate::role::Role;
 use plan_reader::Plan;
-use stream_ops::MAX_TIME_SECONDS;
-use tuple_edge::{Body, EdgeId, Entry, Item, LinkId, NodeId};
-
-// Whether the time of an item's row, if it has one, is within its limits.
-fn is_timely(item: &Item) -> bool
-    ensures { IsTrue result ↔ IsTimely item.now }
-{
-    match *item {
-        Item::Row { row, .. } => 0 <= row.time && row.time <= MAX_TIME_SECONDS,
-        Item::Mark { .. } | Item::End { .. } => true,
-    }
-}
+use stream_ops::is_timely;
+use tuple_edge::{Body, EdgeId, Entry, LinkId, NUMBER_LIMIT, NodeId};
 
 // Whether a node sends the items of an edge.
 fn sends_items(edge: EdgeId, from: NodeId) -> bool
@@ -118,12 +106,12 @@ impl Role {
         ensures { IsTrue result ↔ IsEntryHere self.now entry.now }
     {
         match *entry {
-            Entry::Mark { edge, upto } => edge < self.sources && upto < LIMIT,
-            Entry::Count { count } => count < LIMIT,
+            Entry::Mark { edge, upto } => edge < self.sources && upto < NUMBER_LIMIT,
+            Entry::Count { count } => count < NUMBER_LIMIT,
             Entry::Head { edge, number, item } => {
-                edge < self.sources && number < LIMIT && is_timely(&item)
+                edge < self.sources && number < NUMBER_LIMIT && is_timely(&item)
             }
-            Entry::Low { edge, upto, .. } => edge < self.targets() && upto < LIMIT,
+            Entry::Low { edge, upto, .. } => edge < self.targets() && upto < NUMBER_LIMIT,
             Entry::Kept { edge, item, .. } => edge < self.targets() && is_timely(&item),
             Entry::Keyed { .. } => true,
         }
@@ -173,15 +161,18 @@ impl Replica {
         let (role, phase) = (self.role(), self.phase());
         match *body {
             Body::Tuple { edge, number, item } => {
-                sends_items(edge, from) && role.is_into(edge) && number < LIMIT && is_timely(&item)
+                sends_items(edge, from)
+                    && role.is_into(edge)
+                    && number < NUMBER_LIMIT
+                    && is_timely(&item)
             }
             Body::Ack { edge, upto } => {
-                role.sends_acks(edge, from) && role.is_from(edge) && upto < LIMIT
+                role.sends_acks(edge, from) && role.is_from(edge) && upto < NUMBER_LIMIT
             }
             Body::Want { edge, .. } => role.sends_wants(edge, from) && role.is_from(edge),
-            Body::Lead { term, .. } => role.is_controller(from) && term < LIMIT,
-            Body::Serve { target, .. } => role.is_controller(from) && target < LIMIT,
-            Body::Begin { inc } => role.is_controller(from) && inc < LIMIT,
+            Body::Lead { term, .. } => role.is_controller(from) && term < NUMBER_LIMIT,
+            Body::Serve { target, .. } => role.is_controller(from) && target < NUMBER_LIMIT,
+            Body::Begin { inc } => role.is_controller(from) && inc < NUMBER_LIMIT,
             Body::Stop { .. } => role.is_controller(from),
             Body::Chunk { entry, .. } => role.is_partner(from) && role.has_entry(&entry),
             Body::ChunkEnd { inc, count } => {

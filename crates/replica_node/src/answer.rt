@@ -8,17 +8,16 @@ ghost use Rattle.std.specs.Prelude.{◌≡◌, ◌<◌, ◌+◌, ◌++◌, ◌�
 ghost use Rattle.tuple_edge.specs.Item.{stamp_of};
 ghost use Rattle.tuple_edge.specs.declared.item.Item.TheVariants as item;
 
-use crate::moving::LIMIT;
 use flux_producer::Producer;
 use plan_reader::Stage;
-use tuple_edge::{Item, OutOfMemory, Row, route};
+use tuple_edge::{Item, NUMBER_LIMIT, OutOfMemory, Row, route};
 
 // Whether each edge may have so many more items.
 fn may_make(producer: &Producer, items: u64) -> bool
     ensures { IsTrue result ↔ MayMakeMore items producer.now }
 {
     for to in 0..producer.edges() {
-        if items >= LIMIT - producer.buffer(to).produced() {
+        if items >= NUMBER_LIMIT - producer.buffer(to).produced() {
             return false;
         }
     }

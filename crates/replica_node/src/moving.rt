@@ -17,10 +17,7 @@ use crate::role::Role;
 use catch_up::{CaughtUp, Newcomer, Took};
 use state_mover::Mover;
 use std::alloc::Global;
-use tuple_edge::{Body, EdgeId, Entry, NodeId, OutOfMemory, Outbox, Which};
-
-// Every number of an item, and every count, stays below this.
-pub(crate) const LIMIT: u64 = 1 << 62;
+use tuple_edge::{Body, EdgeId, Entry, NUMBER_LIMIT, NodeId, OutOfMemory, Outbox, Which};
 
 impl Running {
     // Begins a move for a target: from now on what the operator kept at this moment is watched.
@@ -29,7 +26,7 @@ impl Running {
         ensures unchanged { OnErr result (self.new ≡ self.old) }
     {
         let entries = self.state.entry_count();
-        if entries >= LIMIT {
+        if entries >= NUMBER_LIMIT {
             // No memory holds that many.
             return Err(OutOfMemory);
         }

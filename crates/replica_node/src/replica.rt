@@ -27,7 +27,6 @@ ghost use Rattle.tuple_edge.specs.declared.event.Event.TheVariants as event;
 ghost use Rattle.tuple_edge.specs.declared.event.Worked.TheVariants.{Idle};
 ghost use Rattle.tuple_edge.specs.declared.node.NodeId.TheVariants as node;
 
-use crate::moving::LIMIT;
 use crate::phase::{Mode, Phase, Running};
 use crate::role::Role;
 use catch_up::Newcomer;
@@ -38,7 +37,7 @@ use state_mover::Mover;
 use std::alloc::Global;
 use std::marker::Model;
 use stream_ops::OpState;
-use tuple_edge::{Body, Item, NodeId, OutOfMemory, Outbox, Row, Which, Worked};
+use tuple_edge::{Body, Item, NUMBER_LIMIT, NodeId, OutOfMemory, Outbox, Row, Which, Worked};
 
 /// One of the two replicas that run a partition.
 #[derive(Drop)]
@@ -142,7 +141,7 @@ impl Replica {
         match self.phase.running() {
             None => true,
             Some(running) => {
-                !running.consumer.ready() || running.consumer.merge().count() < LIMIT - 1
+                !running.consumer.ready() || running.consumer.merge().count() < NUMBER_LIMIT - 1
             }
         }
     }
@@ -211,7 +210,7 @@ impl Replica {
         match self.phase.running() {
             None => false,
             Some(running) => {
-                edge < self.role.sources && running.consumer.merge().mark(edge) < LIMIT - 1
+                edge < self.role.sources && running.consumer.merge().mark(edge) < NUMBER_LIMIT - 1
             }
         }
     }

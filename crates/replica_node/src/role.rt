@@ -35,14 +35,10 @@ impl Role {
     pub(crate) fn partner(&self) -> NodeId
         ensures { result ≡ partner_of self.now }
     {
-        let which = match self.which {
-            Which::A => Which::B,
-            Which::B => Which::A,
-        };
         NodeId::Replica {
             stage: self.stage,
             part: self.part,
-            which,
+            which: self.which.other(),
         }
     }
 

@@ -29,6 +29,7 @@ mod window;
 
 pub use spec::{
     By, Compare, MAX_JOIN_ROWS, MAX_LAST_ROWS, MAX_TIME_SECONDS, MAX_WINDOW_SECONDS, OpSpec,
+    is_timely,
 };
 // Contracts see what an operator keeps.
 #[doc(hidden)]

@@ -1,11 +1,12 @@
 // What an operator is told to do.
-ghost use Rattle.std.specs.Prelude.{◌≡◌};
+ghost use Rattle.std.specs.Prelude.{◌≡◌, ◌↔◌, IsTrue};
 ghost use Rattle.stream_ops.specs.Compares.{holds};
 ghost use Rattle.stream_ops.specs.Keys.{key_of};
 ghost use Rattle.stream_ops.specs.Spec.{is_join, most_rows};
+ghost use Rattle.stream_ops.specs.Times.{IsTimely};
 
 pub use join_stage::MAX_JOIN_ROWS;
-use tuple_edge::{Column, Key, Row};
+use tuple_edge::{Column, Item, Key, Row};
 
 /// The greatest number of rows that a `last` keeps for a key.
 pub const MAX_LAST_ROWS: u32 = 64;
@@ -15,6 +16,16 @@ pub const MAX_WINDOW_SECONDS: i64 = 1_000_000;
 
 /// The greatest time of a row, in seconds; the least is 0.
 pub const MAX_TIME_SECONDS: i64 = 9_999_999_999;
+
+/// Whether the time of an item's row, if it has one, is within its limits.
+pub fn is_timely(item: &Item) -> bool
+    ensures { IsTrue result ↔ IsTimely item.now }
+{
+    match *item {
+        Item::Row { row, .. } => 0 <= row.time && row.time <= MAX_TIME_SECONDS,
+        Item::Mark { .. } | Item::End { .. } => true,
+    }
+}
 
 /// What rows have in common that are kept together. A part of the key that isn't named is 0.
 #[derive(Clone, Copy, Debug, PartialEq, Eq)]

@@ -72,6 +72,8 @@ impl PairControl {
     fn may_rise(&self) -> bool
         ensures { IsTrue result ↔ MayRise self.now }
     {
-        self.a.inc < NUMBER_LIMIT - 1 && self.b.inc < NUMBER_LIMIT - 1 && self.term < NUMBER_LIMIT - 1
+        self.a.inc < NUMBER_LIMIT - 1
+            && self.b.inc < NUMBER_LIMIT - 1
+            && self.term < NUMBER_LIMIT - 1
     }
 }
