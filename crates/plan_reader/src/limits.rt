@@ -13,7 +13,7 @@ pub const MAX_STAGES: usize = 6;
 /// The greatest number of partitions of a stage.
 pub const MAX_PARTS: u32 = 8;
 
-/// The greatest mark: after how many trades ingress puts a mark. The least is 1.
+/// The greatest mark: after how many inputs ingress puts a mark. The least is 1.
 pub const MAX_MARK: u64 = 4_096;
 
 /// The mark where the plan says none.
@@ -28,6 +28,6 @@ pub const MAX_HOLD: u64 = 65_536;
 /// The hold where the plan says none.
 pub const DEFAULT_HOLD: u64 = 1_024;
 
-/// The greatest number of edges for each trade of the mark: a plan has at most this many times the
+/// The greatest number of edges for each input of the mark: a plan has at most this many times the
 /// mark.
 pub const EDGES_PER_MARK: u64 = 8;
