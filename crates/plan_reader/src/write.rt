@@ -4,6 +4,7 @@ ghost use Rattle.std.specs.List.{flat_map};
 ghost use Rattle.plan_reader.specs.Plan.{plan_of};
 ghost use Rattle.plan_reader.specs.PlanView.{IsPlan, PlanView};
 ghost use Rattle.plan_reader.specs.Text.{by_name, column_name, compare_name, line_text, op_words, plan_text, stage_lines, stage_words};
+ghost use Rattle.stream_ops.specs.declared.spec.OpSpec.TheVariants as op;
 
 use crate::{Plan, Stage};
 use std::alloc::Global;
@@ -45,6 +46,44 @@ fn compare_name(compare: Compare) -> &'static str
     }
 }
 
+// Appends the words of a filter, and LF.
+fn push_keep(
+    text: &mut String,
+    column: Column,
+    compare: Compare,
+    limit: i64,
+) -> Result<(), OutOfMemory>
+    ensures { OnOk result (string_bytes text.new ≡ string_bytes text.old ++ line_text (op_words (op.Keep column compare limit))) }
+{
+    let column = column_name(column);
+    let compare = compare_name(compare);
+    write!(text, "keep {column} {compare} {limit}\n")?;
+    Ok(())
+}
+
+// Appends the words of a join, and LF.
+fn push_join(
+    text: &mut String,
+    by: By,
+    width: i64,
+    rows: u32,
+    column: Column,
+    compare: Compare,
+    limit: i64,
+) -> Result<(), OutOfMemory>
+    ensures { OnOk result (string_bytes text.new
+        ≡ string_bytes text.old ++ line_text (op_words (op.Join by width rows column compare limit))) }
+{
+    let by = by_name(by);
+    let column = column_name(column);
+    let compare = compare_name(compare);
+    write!(
+        text,
+        "join {by} {width} {rows} {column} {compare} {limit}\n"
+    )?;
+    Ok(())
+}
+
 // Appends the words of an operator, and LF.
 fn push_op(text: &mut String, op: &OpSpec) -> Result<(), OutOfMemory>
     ensures { OnOk result (string_bytes text.new ≡ string_bytes text.old ++ line_text (op_words op.now)) }
@@ -54,11 +93,7 @@ fn push_op(text: &mut String, op: &OpSpec) -> Result<(), OutOfMemory>
             column,
             compare,
             limit,
-        } => {
-            let column = column_name(*column);
-            let compare = compare_name(*compare);
-            write!(text, "keep {column} {compare} {limit}\n")?;
-        }
+        } => push_keep(text, *column, *compare, *limit)?,
         OpSpec::Total { by } => {
             let by = by_name(*by);
             write!(text, "total {by}\n")?;
@@ -82,15 +117,7 @@ fn push_op(text: &mut String, op: &OpSpec) -> Result<(), OutOfMemory>
             column,
             compare,
             limit,
-        } => {
-            let by = by_name(*by);
-            let column = column_name(*column);
-            let compare = compare_name(*compare);
-            write!(
-                text,
-                "join {by} {width} {rows} {column} {compare} {limit}\n"
-            )?;
-        }
+        } => push_join(text, *by, *width, *rows, *column, *compare, *limit)?,
     }
     Ok(())
 }
