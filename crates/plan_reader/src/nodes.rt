@@ -50,8 +50,8 @@ impl Plan {
     fn leads_from_ingress(&self, to: NodeId) -> bool
         ensures { result ≡ carries_any self.now node.Ingress to }
     {
-        // A plan has a stage, so that nothing goes straight to egress.
-        let _ = self.stages();
+        // This call's clause says that a plan has a stage, so that nothing goes straight to egress.
+        let _stages = self.stages();
         match to {
             NodeId::Ingress => false,
             NodeId::Replica { stage, .. } => stage == 1,
@@ -132,8 +132,8 @@ impl Plan {
         }
     }
 
-    // Whether the plan has this node, and it is a replica.
-    fn has_replica(&self, node: NodeId) -> bool
+    /// Whether the plan has this node, and it is a replica.
+    pub fn has_replica(&self, node: NodeId) -> bool
         ensures { result ≡ has_replica self.now node }
     {
         match node {
@@ -142,8 +142,9 @@ impl Plan {
         }
     }
 
-    // Whether an edge leads from one node to another.
-    fn has_edge(&self, from: NodeId, to: NodeId) -> bool
+    /// Whether an edge leads from one node to another: from ingress or a replica to a replica of the next
+    /// stage, or from one of the last stage to egress.
+    pub fn has_edge(&self, from: NodeId, to: NodeId) -> bool
         ensures { result ≡ has_edge self.now from to }
     {
         let last = self.stages().len();
