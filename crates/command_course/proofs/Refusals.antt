@@ -1,7 +1,9 @@
 -- Why inputs are refused.
-use Rattle.std.proofs.Common.{ℕ, ◌≡◌, ◌<◌, ◌∙◌, true, List, length, refl, sym, ap, Err, Result, arith}
-use Rattle.std.specs.Prelude.{◌≢◌, nat_lt}
+use Rattle.std.proofs.Common.{ℕ, ◌≡◌, ◌<◌, ◌∙◌, true, List, ◌++◌, length, append_assoc, Option, None, Some, refl, sym, ap, Err, Result, arith}
+use Rattle.std.specs.Prelude.{◌≢◌, IfSome, codes, nat_lt}
+use Rattle.std.specs.Fmt.{◌++?◌}
 use Rattle.std.proofs.lemmas.Bool.Decides.{nat_tests}
+use Rattle.plan_reader.specs.Limits.{max_plan_bytes}
 use Rattle.plan_reader.specs.Plan.{plan_of}
 use Rattle.plan_reader.specs.PlanView.{PlanView}
 use Rattle.plan_reader.specs.Messages.{plan_fault}
@@ -36,26 +38,35 @@ refused reading line stop.CannotWrite P fails by = by
 refused reading line (stop.PairLost stage part said) P fails by = by
 refused reading line stop.OutOfMemory P fails by = tt
 
+-- the line about a file, where the text of its fault is told
+pub line_said : (line name : List ℕ) (fault : Option (List ℕ)) → IfSome (Some (codes "flux: ") ++? (Some name ++? (Some (codes ": ") ++? (fault ++? Some (codes "\n"))))) (λ text. line ≡ text)
+    → IfSome fault (λ said. line ≡ line_of name said)
+line_said line name None is = tt
+line_said line name (Some said) is =
+    let begins = codes "flux: " in
+    let between = codes ": " in
+    let ends = codes "\n" in
+    is ∙ sym (append_assoc (begins ++ name ++ between) said ends ∙ append_assoc (begins ++ name) between (said ++ ends) ∙ append_assoc begins name (between ++ (said ++ ends)))
+
 -- ---- plans
 
 plan_fails : (e : PlanError) (read : Result PlanView PlanError) → Fails e read → e ≢ plan_error.OutOfMemory → read ≡ Err e
 plan_fails plan_error.OutOfMemory read fails known = absurd (known refl)
 plan_fails _ read fails known = fails
 
-pub plan_refused : (name bytes : List ℕ) (e : PlanError) (why : Stop) → Fails e (plan_of bytes) → IsRefusedBy why (line_of name (plan_fault e)) (e ≢ plan_error.OutOfMemory)
+pub plan_refused : (name bytes : List ℕ) (e : PlanError) (why : Stop) → Fails e (plan_of bytes) → e ≢ plan_error.OutOfMemory → IsRefusedBy why (line_of name (plan_fault e)) (Unit {0})
     → StopsOn (plan_from name bytes) why
-plan_refused name bytes e why fails by =
-    refused (plan_from name bytes) (line_of name (plan_fault e)) why (e ≢ plan_error.OutOfMemory) (λ known. ap (plan_or_line name) (plan_fails e (plan_of bytes) fails known)) by
+plan_refused name bytes e why fails known by =
+    refused (plan_from name bytes) (line_of name (plan_fault e)) why (Unit {0}) (λ _. ap (plan_or_line name) (plan_fails e (plan_of bytes) fails known)) by
 
-plan_too_long : (bytes : List ℕ) → 65536 < length bytes → plan_of bytes ≡ Err (plan_error.TooLong (length bytes))
+plan_too_long : (bytes : List ℕ) → max_plan_bytes < length bytes → plan_of bytes ≡ Err (plan_error.TooLong (length bytes))
 unfolding plan_of
-plan_too_long bytes long = let e : nat_lt 65536 (length bytes) ≡ true = grind (arith, nat_tests) in rw e refl
+plan_too_long bytes long = let e : nat_lt max_plan_bytes (length bytes) ≡ true = grind (arith, nat_tests) in rw e refl
 
-pub long_plan : (name bytes : List ℕ) (seen : ℕ) (why : Stop) → 65536 < length bytes
-    → IsRefusedBy why (line_of name (plan_fault (plan_error.TooLong seen))) (plan_error.TooLong seen ≢ plan_error.OutOfMemory) → StopsOn (plan_from name bytes) why
+pub long_plan : (name bytes : List ℕ) (seen : ℕ) (why : Stop) → max_plan_bytes < length bytes → IsRefusedBy why (line_of name (plan_fault (plan_error.TooLong seen))) (Unit {0})
+    → StopsOn (plan_from name bytes) why
 long_plan name bytes seen why long by =
-    refused (plan_from name bytes) (line_of name (plan_fault (plan_error.TooLong seen))) why (plan_error.TooLong seen ≢ plan_error.OutOfMemory)
-    (λ known. ap (plan_or_line name) (plan_too_long bytes long)) by
+    refused (plan_from name bytes) (line_of name (plan_fault (plan_error.TooLong seen))) why (Unit {0}) (λ _. ap (plan_or_line name) (plan_too_long bytes long)) by
 
 -- ---- files of rows
 
@@ -63,18 +74,18 @@ rows_fail : {F A : Type 0} (e : ReadError F) (read : Read F A) → IsRefusalOf e
 rows_fail read_error.OutOfMemory read fails known = absurd (known refl)
 rows_fail _ read fails known = fails
 
-rows_refused : {F A : Type 0} (kind : Kind F) (name : List ℕ) (read : Read F A) (e : ReadError F) (why : Stop) → IsRefusalOf e read
-    → IsRefusedBy why (line_of name (fault_of kind e)) (e ≢ read_error.OutOfMemory) → StopsOn (rows_or_line kind name read) why
-rows_refused kind name read e why fails by =
-    refused (rows_or_line kind name read) (line_of name (fault_of kind e)) why (e ≢ read_error.OutOfMemory) (λ known. ap (rows_or_line kind name) (rows_fail e read fails known)) by
+rows_refused : {F A : Type 0} (kind : Kind F) (name : List ℕ) (read : Read F A) (e : ReadError F) (why : Stop) → IsRefusalOf e read → e ≢ read_error.OutOfMemory
+    → IsRefusedBy why (line_of name (fault_of kind e)) (Unit {0}) → StopsOn (rows_or_line kind name read) why
+rows_refused kind name read e why fails known by =
+    refused (rows_or_line kind name read) (line_of name (fault_of kind e)) why (Unit {0}) (λ _. ap (rows_or_line kind name) (rows_fail e read fails known)) by
 
-pub trades_refused : (name bytes : List ℕ) (e : ReadError Field) (why : Stop) → IsRefusalOf e (trades_of bytes)
-    → IsRefusedBy why (line_of name (fault_of trades_kind e)) (e ≢ read_error.OutOfMemory) → StopsOn (trades_from name bytes) why
-trades_refused name bytes e why fails by = rows_refused trades_kind name (trades_of bytes) e why fails by
+pub trades_refused : (name bytes : List ℕ) (e : ReadError Field) (why : Stop) → IsRefusalOf e (trades_of bytes) → e ≢ read_error.OutOfMemory
+    → IsRefusedBy why (line_of name (fault_of trades_kind e)) (Unit {0}) → StopsOn (trades_from name bytes) why
+trades_refused name bytes e why fails known by = rows_refused trades_kind name (trades_of bytes) e why fails known by
 
-pub cash_refused : (room : ℕ) (name bytes : List ℕ) (e : ReadError CashField) (why : Stop) → IsRefusalOf e (cash_of bytes room)
-    → IsRefusedBy why (line_of name (fault_of cash_kind e)) (e ≢ read_error.OutOfMemory) → StopsOn (cash_from room name bytes) why
-cash_refused room name bytes e why fails by = rows_refused cash_kind name (cash_of bytes room) e why fails by
+pub cash_refused : (room : ℕ) (name bytes : List ℕ) (e : ReadError CashField) (why : Stop) → IsRefusalOf e (cash_of bytes room) → e ≢ read_error.OutOfMemory
+    → IsRefusedBy why (line_of name (fault_of cash_kind e)) (Unit {0}) → StopsOn (cash_from room name bytes) why
+cash_refused room name bytes e why fails known by = rows_refused cash_kind name (cash_of bytes room) e why fails known by
 
 file_too_long : {F : Type 0} (bytes : List ℕ) → max_input_bytes < length bytes → file_of {F = F} bytes ≡ Err (read_error.TooLong (length bytes))
 unfolding file_of
@@ -88,15 +99,15 @@ cash_too_long : (bytes : List ℕ) (room : ℕ) → max_input_bytes < length byt
 unfolding cash_of
 cash_too_long bytes room long = rw (file_too_long {F = CashField} bytes long) refl
 
-rows_long : {F A : Type 0} (kind : Kind F) (name : List ℕ) (read : Read F A) (bytes seen : ℕ) (why : Stop) (P : Type 0) → read ≡ Err (read_error.TooLong bytes)
-    → IsRefusedBy why (line_of name (fault_of kind (read_error.TooLong seen))) P → StopsOn (rows_or_line kind name read) why
-rows_long kind name read bytes seen why P fails by =
-    refused (rows_or_line kind name read) (line_of name (fault_of kind (read_error.TooLong seen))) why P (λ known. ap (rows_or_line kind name) fails) by
+rows_long : {F A : Type 0} (kind : Kind F) (name : List ℕ) (read : Read F A) (bytes seen : ℕ) (why : Stop) → read ≡ Err (read_error.TooLong bytes)
+    → IsRefusedBy why (line_of name (fault_of kind (read_error.TooLong seen))) (Unit {0}) → StopsOn (rows_or_line kind name read) why
+rows_long kind name read bytes seen why fails by =
+    refused (rows_or_line kind name read) (line_of name (fault_of kind (read_error.TooLong seen))) why (Unit {0}) (λ _. ap (rows_or_line kind name) fails) by
 
-pub long_trades : (name bytes : List ℕ) (seen : ℕ) (why : Stop) (P : Type 0) → max_input_bytes < length bytes
-    → IsRefusedBy why (line_of name (fault_of trades_kind (read_error.TooLong seen))) P → StopsOn (trades_from name bytes) why
-long_trades name bytes seen why P long by = rows_long trades_kind name (trades_of bytes) (length bytes) seen why P (trades_too_long bytes long) by
+pub long_trades : (name bytes : List ℕ) (seen : ℕ) (why : Stop) → max_input_bytes < length bytes
+    → IsRefusedBy why (line_of name (fault_of trades_kind (read_error.TooLong seen))) (Unit {0}) → StopsOn (trades_from name bytes) why
+long_trades name bytes seen why long by = rows_long trades_kind name (trades_of bytes) (length bytes) seen why (trades_too_long bytes long) by
 
-pub long_cash : (room : ℕ) (name bytes : List ℕ) (seen : ℕ) (why : Stop) (P : Type 0) → max_input_bytes < length bytes
-    → IsRefusedBy why (line_of name (fault_of cash_kind (read_error.TooLong seen))) P → StopsOn (cash_from room name bytes) why
-long_cash room name bytes seen why P long by = rows_long cash_kind name (cash_of bytes room) (length bytes) seen why P (cash_too_long bytes room long) by
+pub long_cash : (room : ℕ) (name bytes : List ℕ) (seen : ℕ) (why : Stop) → max_input_bytes < length bytes
+    → IsRefusedBy why (line_of name (fault_of cash_kind (read_error.TooLong seen))) (Unit {0}) → StopsOn (cash_from room name bytes) why
+long_cash room name bytes seen why long by = rows_long cash_kind name (cash_of bytes room) (length bytes) seen why (cash_too_long bytes room long) by

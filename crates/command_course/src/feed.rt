@@ -1,15 +1,14 @@
 // What a plan is fed with: the inputs with which all commands over a plan begin.
 ghost use Rattle.std.specs.Prelude.{◌≡◌, ◌↔◌, ◌≤◌, ◌+◌, ◌-◌, [], ℕ, IfErr, IfOk, List, OnOk, Option, Some, false, length, option_map, true};
 ghost use Rattle.command_course.specs.Feeds.{IsFed, fed, feed_of, for_plan, with_feed, with_movements, with_plan, with_trades};
-ghost use Rattle.command_course.specs.Lines.{not_in_plan_line};
-ghost use Rattle.command_course.specs.Steps.{GivesBy, HasReadCause, IsRefusedBy, IsWant, StopsBy};
+ghost use Rattle.command_course.specs.Steps.{GivesBy, HasReadCause, IsWant, StopsBy};
 ghost use Rattle.flux_outside.specs.Outside.{Call, Names, StopsAtWant};
 ghost use Rattle.trade_text.specs.Inputs.{inputs_of};
 ghost use Rattle.trade_text.specs.Limits.{max_inputs};
 ghost use Rattle.trade_text.specs.TradesView.{inputs_in};
 
 use crate::input_files::{CashFile, PlanFile, TradesFile};
-use crate::inputs::{input_at, line_about};
+use crate::inputs::{input_at, refused};
 use crate::stop::Stop;
 use flux_outside::Files;
 use plan_reader::Plan;
@@ -104,20 +103,10 @@ fn with_source(alloc: Global, plan: Plan, cash: Option<&str>) -> Result<Plan, St
         None => Ok(plan),
         Some(name) => {
             if plan.version() == 1 {
-                return Err(not_in_plan(alloc, name));
+                return Err(refused(alloc, name, "not in the plan"));
             }
             Ok(plan)
         }
-    }
-}
-
-// Why cash movements are refused for a plan that has no such source.
-fn not_in_plan(alloc: Global, name: &str) -> Stop
-    ensures { IsRefusedBy result (not_in_plan_line name.now) (Unit {0}) }
-{
-    match line_about(alloc, name, "not in the plan") {
-        Ok(line) => Stop::Refused { line },
-        Err(_) => Stop::OutOfMemory,
     }
 }
 

@@ -1,20 +1,14 @@
 // The kinds of input files: a plan, trades and cash movements.
-ghost use Rattle.std.specs.Prelude.{◌≡◌, ◌≢◌, ◌≤◌, false, length};
-ghost use Rattle.plan_reader.specs.Messages.{plan_fault};
+ghost use Rattle.std.specs.Prelude.{◌≡◌, ◌≤◌, false, length};
+ghost use Rattle.plan_reader.specs.Limits.{max_plan_bytes};
 ghost use Rattle.trade_text.specs.Limits.{max_input_bytes};
-ghost use Rattle.trade_text.specs.Messages.{fault_of};
-ghost use Rattle.command_course.specs.Lines.{line_of};
 ghost use Rattle.command_course.specs.Inputs.{cash_from, plan_from, trades_from};
-ghost use Rattle.command_course.specs.Steps.{IsRefusedBy};
 
-use crate::inputs::Input;
+use crate::inputs::{Input, refused};
 use crate::stop::Stop;
 use plan_reader::{MAX_PLAN_BYTES, Plan, PlanError, read_plan};
 use std::alloc::Global;
-use trade_text::{
-    Cash, CashError, FileField, MAX_INPUT_BYTES, ReadError, TradeError, Trades, read_cash,
-    read_trades,
-};
+use trade_text::{Cash, CashError, MAX_INPUT_BYTES, TradeError, Trades, read_cash, read_trades};
 
 /// A file with a plan.
 #[derive(Drop)]
@@ -33,7 +27,7 @@ pub struct CashFile {
 impl Input for PlanFile {
     type Value = Plan;
 
-    ghost most = { λ _. 65536 };
+    ghost most = { λ _. max_plan_bytes };
 
     ghost reading = { λ _. plan_from };
 
@@ -47,13 +41,14 @@ impl Input for PlanFile {
     fn value(&self, alloc: Global, name: &str, bytes: &[u8]) -> Result<Plan, Stop> {
         match read_plan(alloc, bytes) {
             Ok(plan) => Ok(plan),
-            Err(error) => Err(refused_plan(alloc, name, error)),
+            Err(PlanError::OutOfMemory) => Err(Stop::OutOfMemory),
+            Err(error) => Err(refused(alloc, name, error)),
         }
     }
 
     #[tactic(auto, using(crate::proofs::Refusals::long_plan))]
     fn too_long(&self, alloc: Global, name: &str, seen: u64) -> Stop {
-        refused_plan(alloc, name, PlanError::TooLong { bytes: seen })
+        refused(alloc, name, PlanError::TooLong { bytes: seen })
     }
 }
 
@@ -74,13 +69,14 @@ impl Input for TradesFile {
     fn value(&self, alloc: Global, name: &str, bytes: &[u8]) -> Result<Trades, Stop> {
         match read_trades(alloc, bytes) {
             Ok(trades) => Ok(trades),
-            Err(error) => Err(refused_rows(alloc, name, error)),
+            Err(TradeError::OutOfMemory) => Err(Stop::OutOfMemory),
+            Err(error) => Err(refused(alloc, name, error)),
         }
     }
 
     #[tactic(auto, using(crate::proofs::Refusals::long_trades))]
     fn too_long(&self, alloc: Global, name: &str, seen: u64) -> Stop {
-        refused_rows(alloc, name, TradeError::TooLong { bytes: seen })
+        refused(alloc, name, TradeError::TooLong { bytes: seen })
     }
 }
 
@@ -101,38 +97,13 @@ impl Input for CashFile {
     fn value(&self, alloc: Global, name: &str, bytes: &[u8]) -> Result<Cash, Stop> {
         match read_cash(alloc, bytes, self.room) {
             Ok(cash) => Ok(cash),
-            Err(error) => Err(refused_rows(alloc, name, error)),
+            Err(CashError::OutOfMemory) => Err(Stop::OutOfMemory),
+            Err(error) => Err(refused(alloc, name, error)),
         }
     }
 
     #[tactic(auto, using(crate::proofs::Refusals::long_cash))]
     fn too_long(&self, alloc: Global, name: &str, seen: u64) -> Stop {
-        refused_rows(alloc, name, CashError::TooLong { bytes: seen })
-    }
-}
-
-// The line by which a plan is refused.
-fn refused_plan(alloc: Global, name: &str, error: PlanError) -> Stop
-    ensures { IsRefusedBy result (line_of name.now (plan_fault error)) (error ≢ PlanError.OutOfMemory) }
-{
-    if error == PlanError::OutOfMemory {
-        return Stop::OutOfMemory;
-    }
-    match format!(in alloc; "flux: {name}: {error}\n") {
-        Ok(line) => Stop::Refused { line },
-        Err(_) => Stop::OutOfMemory,
-    }
-}
-
-// The line by which a file of rows is refused.
-fn refused_rows<F: FileField>(alloc: Global, name: &str, error: ReadError<F>) -> Stop
-    ensures { IsRefusedBy result (line_of name.now (fault_of F.kind error)) (error ≢ ReadError.OutOfMemory) }
-{
-    if matches!(error, ReadError::OutOfMemory) {
-        return Stop::OutOfMemory;
-    }
-    match format!(in alloc; "flux: {name}: {error}\n") {
-        Ok(line) => Stop::Refused { line },
-        Err(_) => Stop::OutOfMemory,
+        refused(alloc, name, CashError::TooLong { bytes: seen })
     }
 }

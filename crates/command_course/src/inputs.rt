@@ -1,13 +1,14 @@
 // The reading of an input: a file is read and checked before the next one is read.
-ghost use Rattle.std.specs.Prelude.{◌≡◌, ◌<◌, ℕ, List, length, Ok, IfErr, IfOk, OnOk, string_bytes};
+ghost use Rattle.std.specs.Prelude.{◌≡◌, ◌<◌, ℕ, List, length, Ok, IfErr, IfOk, IfSome, OnOk, string_bytes};
 ghost use Rattle.command_course.specs.Course.{Reading};
 ghost use Rattle.command_course.specs.Lines.{cannot_read_line, line_of};
 ghost use Rattle.flux_outside.specs.Outside.{StopsAtWant};
-ghost use Rattle.command_course.specs.Steps.{Gives, HasReadCause, IsUnreadBy, IsWant, StopsAt, StopsOn};
+ghost use Rattle.command_course.specs.Steps.{Gives, HasReadCause, IsRefusedBy, IsUnreadBy, IsWant, StopsAt, StopsOn};
 
 use crate::stop::Stop;
 use flux_outside::{FileStop, Files, Got};
 use std::alloc::Global;
+use std::fmt::Display;
 use tuple_edge::OutOfMemory;
 
 /// A kind of input: how many bytes its file may have, what they say, and why they are refused.
@@ -75,9 +76,19 @@ fn unread(alloc: Global, name: &str) -> Stop
     }
 }
 
-/// The line about a file.
-pub fn line_about(alloc: Global, name: &str, fault: &str) -> Result<String, OutOfMemory>
-    ensures { IfOk result (λ line. string_bytes line ≡ line_of name.now fault.now) }
+/// Why a command stops that refuses a file. Its line says the fault as the fault prints itself.
+pub fn refused<D: Display + Drop>(alloc: Global, name: &str, fault: D) -> Stop
+    ensures { IfSome (D.output fault) (λ said. IsRefusedBy result (line_of name.now said) (Unit {0})) }
+{
+    match line_about(alloc, name, fault) {
+        Ok(line) => Stop::Refused { line },
+        Err(_) => Stop::OutOfMemory,
+    }
+}
+
+// The line about a file.
+fn line_about<D: Display + Drop>(alloc: Global, name: &str, fault: D) -> Result<String, OutOfMemory>
+    ensures { IfOk result (λ line. IfSome (D.output fault) (λ said. string_bytes line ≡ line_of name.now said)) }
 {
     let line = format!(in alloc; "flux: {name}: {fault}\n")?;
     Ok(line)

@@ -12,5 +12,5 @@ mod stop;
 
 pub use feed::{Feed, feed_at, movements_at, plan_at};
 pub use input_files::{CashFile, PlanFile, TradesFile};
-pub use inputs::{Input, input_at, line_about};
+pub use inputs::{Input, input_at, refused};
 pub use stop::Stop;

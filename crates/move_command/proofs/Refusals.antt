@@ -3,6 +3,7 @@ use Rattle.std.proofs.Common.{ℕ, ◌≡◌, ◌<◌, true, List, length, refl,
 use Rattle.std.specs.Prelude.{◌≢◌, nat_lt}
 use Rattle.std.proofs.lemmas.Bool.Decides.{nat_tests}
 use Rattle.plan_reader.specs.PlanView.{PlanView}
+use Rattle.bucket_move.specs.Limits.{max_moves_bytes}
 use Rattle.bucket_move.specs.Messages.{moves_fault}
 use Rattle.bucket_move.specs.Moves.{Fails, moves_of}
 use Rattle.bucket_move.specs.declared.error.MovesError.{MovesError}
@@ -18,17 +19,16 @@ moves_fail : (e : MovesError) (read : Result (List Shift) MovesError) → Fails 
 moves_fail error.OutOfMemory read fails known = absurd (known refl)
 moves_fail _ read fails known = fails
 
-pub moves_refused : (plan : PlanView) (name bytes : List ℕ) (e : MovesError) (why : Stop) → Fails e (moves_of plan bytes) → IsRefusedBy why (line_of name (moves_fault e)) (e ≢ error.OutOfMemory)
+pub moves_refused : (plan : PlanView) (name bytes : List ℕ) (e : MovesError) (why : Stop) → Fails e (moves_of plan bytes) → e ≢ error.OutOfMemory → IsRefusedBy why (line_of name (moves_fault e)) (Unit {0})
     → StopsOn (moves_from plan name bytes) why
-moves_refused plan name bytes e why fails by =
-    refused (moves_from plan name bytes) (line_of name (moves_fault e)) why (e ≢ error.OutOfMemory) (λ known. ap (moves_or_line name) (moves_fail e (moves_of plan bytes) fails known)) by
+moves_refused plan name bytes e why fails known by =
+    refused (moves_from plan name bytes) (line_of name (moves_fault e)) why (Unit {0}) (λ _. ap (moves_or_line name) (moves_fail e (moves_of plan bytes) fails known)) by
 
-moves_too_long : (plan : PlanView) (bytes : List ℕ) → 65536 < length bytes → moves_of plan bytes ≡ Err (error.TooLong (length bytes))
+moves_too_long : (plan : PlanView) (bytes : List ℕ) → max_moves_bytes < length bytes → moves_of plan bytes ≡ Err (error.TooLong (length bytes))
 unfolding moves_of
-moves_too_long plan bytes long = let e : nat_lt 65536 (length bytes) ≡ true = grind (arith, nat_tests) in rw e refl
+moves_too_long plan bytes long = let e : nat_lt max_moves_bytes (length bytes) ≡ true = grind (arith, nat_tests) in rw e refl
 
-pub long_moves : (plan : PlanView) (name bytes : List ℕ) (seen : ℕ) (why : Stop) → 65536 < length bytes
-    → IsRefusedBy why (line_of name (moves_fault (error.TooLong seen))) (error.TooLong seen ≢ error.OutOfMemory) → StopsOn (moves_from plan name bytes) why
+pub long_moves : (plan : PlanView) (name bytes : List ℕ) (seen : ℕ) (why : Stop) → max_moves_bytes < length bytes → IsRefusedBy why (line_of name (moves_fault (error.TooLong seen))) (Unit {0})
+    → StopsOn (moves_from plan name bytes) why
 long_moves plan name bytes seen why long by =
-    refused (moves_from plan name bytes) (line_of name (moves_fault (error.TooLong seen))) why (error.TooLong seen ≢ error.OutOfMemory)
-    (λ known. ap (moves_or_line name) (moves_too_long plan bytes long)) by
+    refused (moves_from plan name bytes) (line_of name (moves_fault (error.TooLong seen))) why (Unit {0}) (λ _. ap (moves_or_line name) (moves_too_long plan bytes long)) by

@@ -3,16 +3,15 @@ ghost use Rattle.std.specs.Prelude.{◌≡◌, All, IfErr, IfOk, IsTrue, OnOk};
 ghost use Rattle.bucket_move.specs.ByKey.{is_by_key};
 ghost use Rattle.bucket_move.specs.Shifts.{DontFall, IsShiftOf};
 ghost use Rattle.command_course.specs.Course.{Came, Writes};
-ghost use Rattle.command_course.specs.Steps.{HasReadCause, IsRefusedBy, IsWant, StopsOf};
+ghost use Rattle.command_course.specs.Steps.{HasReadCause, IsWant, StopsOf};
 ghost use Rattle.flux_outside.specs.Outside.{StopsAtWant};
-ghost use Rattle.move_command.specs.Inputs.{not_by_key_line};
 ghost use Rattle.move_command.specs.Outcome.{move_course, move_moves, move_plan, move_trades};
 ghost use Rattle.move_command.specs.Text.{move_text};
 
 use crate::moves_file::MovesFile;
 use crate::text::moved_text;
 use bucket_move::{Moves, is_by_key};
-use command_course::{PlanFile, Stop, TradesFile, input_at, line_about};
+use command_course::{PlanFile, Stop, TradesFile, input_at, refused};
 use flux_outside::Files;
 use plan_reader::Plan;
 use std::alloc::Global;
@@ -66,17 +65,7 @@ fn text_of_plan<R: Threads + Sync, F: Files>(
     if is_by_key(plan) {
         text_of_trades(rt, alloc, files, plan, trades, moves)
     } else {
-        Err(not_by_key(alloc, name))
-    }
-}
-
-// Why a plan is refused that isn't by key.
-fn not_by_key(alloc: Global, name: &str) -> Stop
-    ensures { IsRefusedBy result (not_by_key_line name.now) (Unit {0}) }
-{
-    match line_about(alloc, name, "not by key") {
-        Ok(line) => Stop::Refused { line },
-        Err(_) => Stop::OutOfMemory,
+        Err(refused(alloc, name, "not by key"))
     }
 }
 

@@ -11,5 +11,5 @@ returns-else-is_by_key-clause-stops g c =
     let told = g.F.Files.contents c.args.files.now in
     let calls = g.F.Files.calls c.args.files.now in
     let other : is_by_key c.args.plan.now ≡ false = sym c.is_by_key.ensures ∙ c.if-is_by_key.false in
-    subst (λ course. StopsOf told calls calls course c.not_by_key.result) (sym (goes_not c.args.name.now c.args.trades.now c.args.moves.now c.args.plan.now other))
-    (refused_here told calls (not_by_key_line c.args.name.now) c.not_by_key.result (Unit {0}) c.not_by_key.ensures)
+    subst (λ course. StopsOf told calls calls course c.refused.result) (sym (goes_not c.args.name.now c.args.trades.now c.args.moves.now c.args.plan.now other))
+    (refused_here told calls (not_by_key_line c.args.name.now) c.refused.result (Unit {0}) c.refused.ensures)
