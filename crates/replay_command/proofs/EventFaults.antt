@@ -31,21 +31,21 @@ events_fail events_error.TooMany read fails known = fails
 events_fail (events_error.TooLong bytes) read fails known = fails
 events_fail events_error.OutOfMemory read fails known = absurd (known refl)
 
-pub events_refused : (plan : PlanView) (name bytes : List ℕ) (e : EventsError) (why : Stop) → Fails e (events_of plan bytes)
-    → IsRefusedBy why (line_of name (events_fault e)) (e ≢ events_error.OutOfMemory) → StopsOn (events_from plan name bytes) why
-events_refused plan name bytes e why fails by =
-    refused (events_from plan name bytes) (line_of name (events_fault e)) why (e ≢ events_error.OutOfMemory)
-    (λ known. ap (events_or_line name) (events_fail e (events_of plan bytes) fails known)) by
+pub events_refused : (plan : PlanView) (name bytes : List ℕ) (e : EventsError) (why : Stop) → Fails e (events_of plan bytes) → e ≢ events_error.OutOfMemory
+    → IsRefusedBy why (line_of name (events_fault e)) (Unit {0}) → StopsOn (events_from plan name bytes) why
+events_refused plan name bytes e why fails known by =
+    refused (events_from plan name bytes) (line_of name (events_fault e)) why (Unit {0})
+    (λ _. ap (events_or_line name) (events_fail e (events_of plan bytes) fails known)) by
 
 events_too_long : (plan : PlanView) (bytes : List ℕ) → max_events_bytes < length bytes → events_of plan bytes ≡ Err (events_error.TooLong (length bytes))
 unfolding events_of
 events_too_long plan bytes long = let e : nat_lt max_events_bytes (length bytes) ≡ true = grind (arith, nat_tests) in rw e refl
 
-pub long_events : (plan : PlanView) (name bytes : List ℕ) (seen : ℕ) (why : Stop) → 536870912 < length bytes
-    → IsRefusedBy why (line_of name (events_fault (events_error.TooLong seen))) (events_error.TooLong seen ≢ events_error.OutOfMemory) → StopsOn (events_from plan name bytes) why
+pub long_events : (plan : PlanView) (name bytes : List ℕ) (seen : ℕ) (why : Stop) → max_events_bytes < length bytes
+    → IsRefusedBy why (line_of name (events_fault (events_error.TooLong seen))) (Unit {0}) → StopsOn (events_from plan name bytes) why
 long_events plan name bytes seen why long by =
-    refused (events_from plan name bytes) (line_of name (events_fault (events_error.TooLong seen))) why (events_error.TooLong seen ≢ events_error.OutOfMemory)
-    (λ known. ap (events_or_line name) (events_too_long plan bytes long)) by
+    refused (events_from plan name bytes) (line_of name (events_fault (events_error.TooLong seen))) why (Unit {0})
+    (λ _. ap (events_or_line name) (events_too_long plan bytes long)) by
 
 is_named : (plan : PlanView) (e : Event) → IsNamed plan e → names_event plan e ≡ true
 is_named plan (event.Take link index) h = h.0

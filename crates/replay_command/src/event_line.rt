@@ -7,7 +7,7 @@ ghost use Rattle.plan_reader.specs.Messages.{at_line};
 ghost use Rattle.replay_command.specs.Replaying.{error_text};
 ghost use Rattle.std.specs.Prelude.{◌≢◌};
 
-use command_course::Stop;
+use command_course::{Stop, refused};
 use flux_core::{ApplyError, Stopped};
 use std::alloc::Global;
 use tuple_edge::OutOfMemory;
@@ -60,13 +60,13 @@ fn reason(alloc: Global, error: ApplyError) -> Result<String, OutOfMemory>
     }
 }
 
-// The line about the event of a file that was refused.
-fn line_of_event(alloc: Global, name: &str, stopped: Stopped) -> Result<String, OutOfMemory>
-    ensures { IfOk result (λ line. string_bytes line ≡ line_of name.now (at_line stopped.line (error_text stopped.error))) }
+// The same, with the line of the event.
+fn reason_at(alloc: Global, stopped: Stopped) -> Result<String, OutOfMemory>
+    ensures { IfOk result (λ text. string_bytes text ≡ at_line stopped.line (error_text stopped.error)) }
 {
     let line = stopped.line;
     let text = reason(alloc, stopped.error)?;
-    let whole = format!(in alloc; "flux: {name}: line {line}: {text}\n")?;
+    let whole = format!(in alloc; "line {line}: {text}")?;
     Ok(whole)
 }
 
@@ -77,8 +77,8 @@ pub(crate) fn refused_event(alloc: Global, name: &str, stopped: Stopped) -> Stop
     if stopped.error == ApplyError::OutOfMemory {
         return Stop::OutOfMemory;
     }
-    match line_of_event(alloc, name, stopped) {
-        Ok(line) => Stop::Refused { line },
+    match reason_at(alloc, stopped) {
+        Ok(text) => refused(alloc, name, text),
         Err(_) => Stop::OutOfMemory,
     }
 }

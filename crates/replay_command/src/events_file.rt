@@ -1,13 +1,10 @@
 // The file of a list of events.
-ghost use Rattle.std.specs.Prelude.{◌≡◌, ◌≢◌};
-ghost use Rattle.command_course.specs.Lines.{line_of};
-ghost use Rattle.command_course.specs.Steps.{IsRefusedBy};
+ghost use Rattle.std.specs.Prelude.{◌≡◌};
 ghost use Rattle.flux_core.specs.Follows.{AreNamed};
 ghost use Rattle.replay_command.specs.Courses.{events_from};
 ghost use Rattle.run_journal.specs.Limits.{max_events_bytes};
-ghost use Rattle.run_journal.specs.Messages.{events_fault};
 
-use command_course::{Input, Stop};
+use command_course::{Input, Stop, refused};
 use plan_reader::Plan;
 use run_journal::{EventsError, Lined, MAX_EVENTS_BYTES, read_events};
 use std::alloc::Global;
@@ -60,25 +57,13 @@ impl<'a> Input for EventsFile<'a> {
     fn value(&self, alloc: Global, name: &str, bytes: &[u8]) -> Result<Events, Stop> {
         match read_events(alloc, bytes, self.plan) {
             Ok(lines) => Ok(Events { lines }),
-            Err(error) => Err(refused_events(alloc, name, error)),
+            Err(EventsError::OutOfMemory) => Err(Stop::OutOfMemory),
+            Err(error) => Err(refused(alloc, name, error)),
         }
     }
 
     #[tactic(auto, using(crate::proofs::EventFaults::long_events))]
     fn too_long(&self, alloc: Global, name: &str, seen: u64) -> Stop {
-        refused_events(alloc, name, EventsError::TooLong { bytes: seen })
-    }
-}
-
-// The line by which a text of events is refused.
-fn refused_events(alloc: Global, name: &str, error: EventsError) -> Stop
-    ensures { IsRefusedBy result (line_of name.now (events_fault error)) (error ≢ EventsError.OutOfMemory) }
-{
-    if error == EventsError::OutOfMemory {
-        return Stop::OutOfMemory;
-    }
-    match format!(in alloc; "flux: {name}: {error}\n") {
-        Ok(line) => Stop::Refused { line },
-        Err(_) => Stop::OutOfMemory,
+        refused(alloc, name, EventsError::TooLong { bytes: seen })
     }
 }
