@@ -23,18 +23,18 @@ script_fails (script_error.Range line) read fails known = fails
 script_fails (script_error.Twice line) read fails known = fails
 script_fails (script_error.TooLong bytes) read fails known = fails
 
-pub script_refused : (plan : PlanView) (name bytes : List ℕ) (e : ScriptError) (why : Stop) → Fails e (script_of plan bytes)
-    → IsRefusedBy why (line_of name (script_fault e)) (e ≢ script_error.OutOfMemory) → StopsOn (script_from plan name bytes) why
-script_refused plan name bytes e why fails by =
-    refused (script_from plan name bytes) (line_of name (script_fault e)) why (e ≢ script_error.OutOfMemory)
-    (λ known. ap (script_or_line name) (script_fails e (script_of plan bytes) fails known)) by
+pub script_refused : (plan : PlanView) (name bytes : List ℕ) (e : ScriptError) (why : Stop) → Fails e (script_of plan bytes) → e ≢ script_error.OutOfMemory
+    → IsRefusedBy why (line_of name (script_fault e)) (Unit {0}) → StopsOn (script_from plan name bytes) why
+script_refused plan name bytes e why fails known by =
+    refused (script_from plan name bytes) (line_of name (script_fault e)) why (Unit {0})
+    (λ _. ap (script_or_line name) (script_fails e (script_of plan bytes) fails known)) by
 
 script_too_long : (plan : PlanView) (bytes : List ℕ) → max_script_bytes < length bytes → script_of plan bytes ≡ Err (script_error.TooLong (length bytes))
 unfolding script_of
 script_too_long plan bytes long = let e : nat_lt max_script_bytes (length bytes) ≡ true = grind (arith, nat_tests) in rw e refl
 
-pub long_script : (plan : PlanView) (name bytes : List ℕ) (seen : ℕ) (why : Stop) → 65536 < length bytes
-    → IsRefusedBy why (line_of name (script_fault (script_error.TooLong seen))) (script_error.TooLong seen ≢ script_error.OutOfMemory) → StopsOn (script_from plan name bytes) why
+pub long_script : (plan : PlanView) (name bytes : List ℕ) (seen : ℕ) (why : Stop) → max_script_bytes < length bytes
+    → IsRefusedBy why (line_of name (script_fault (script_error.TooLong seen))) (Unit {0}) → StopsOn (script_from plan name bytes) why
 long_script plan name bytes seen why long by =
-    refused (script_from plan name bytes) (line_of name (script_fault (script_error.TooLong seen))) why (script_error.TooLong seen ≢ script_error.OutOfMemory)
-    (λ known. ap (script_or_line name) (script_too_long plan bytes long)) by
+    refused (script_from plan name bytes) (line_of name (script_fault (script_error.TooLong seen))) why (Unit {0})
+    (λ _. ap (script_or_line name) (script_too_long plan bytes long)) by

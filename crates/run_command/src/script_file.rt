@@ -1,12 +1,11 @@
 // The file of a failure script.
-ghost use Rattle.std.specs.Prelude.{◌≡◌, ◌≢◌, IfErr, IfOk, OnOk, option_map};
-ghost use Rattle.failure_script.specs.Messages.{script_fault};
-ghost use Rattle.command_course.specs.Lines.{line_of};
-ghost use Rattle.command_course.specs.Steps.{GivesBy, HasReadCause, IsRefusedBy, IsWant, StopsBy};
+ghost use Rattle.std.specs.Prelude.{◌≡◌, IfErr, IfOk, OnOk, option_map};
+ghost use Rattle.failure_script.specs.Limits.{max_script_bytes};
+ghost use Rattle.command_course.specs.Steps.{GivesBy, HasReadCause, IsWant, StopsBy};
 ghost use Rattle.flux_outside.specs.Outside.{StopsAtWant};
 ghost use Rattle.run_command.specs.Scripts.{script_from, with_script};
 
-use command_course::{Input, Stop, input_at};
+use command_course::{Input, Stop, input_at, refused};
 use failure_script::{MAX_SCRIPT_BYTES, Script, ScriptError, read_script};
 use flux_outside::Files;
 use plan_reader::Plan;
@@ -21,7 +20,7 @@ struct ScriptFile<'a> {
 impl<'a> Input for ScriptFile<'a> {
     type Value = Script;
 
-    ghost most = { λ _. 65536 };
+    ghost most = { λ _. max_script_bytes };
 
     ghost reading = { λ file. script_from file.plan.now };
 
@@ -35,26 +34,14 @@ impl<'a> Input for ScriptFile<'a> {
     fn value(&self, alloc: Global, name: &str, bytes: &[u8]) -> Result<Script, Stop> {
         match read_script(alloc, bytes, self.plan) {
             Ok(script) => Ok(script),
-            Err(error) => Err(refused_script(alloc, name, error)),
+            Err(ScriptError::OutOfMemory) => Err(Stop::OutOfMemory),
+            Err(error) => Err(refused(alloc, name, error)),
         }
     }
 
     #[tactic(auto, using(crate::proofs::ScriptFaults::long_script))]
     fn too_long(&self, alloc: Global, name: &str, seen: u64) -> Stop {
-        refused_script(alloc, name, ScriptError::TooLong { bytes: seen })
-    }
-}
-
-// The line by which a script is refused.
-fn refused_script(alloc: Global, name: &str, error: ScriptError) -> Stop
-    ensures { IsRefusedBy result (line_of name.now (script_fault error)) (error ≢ ScriptError.OutOfMemory) }
-{
-    if error == ScriptError::OutOfMemory {
-        return Stop::OutOfMemory;
-    }
-    match format!(in alloc; "flux: {name}: {error}\n") {
-        Ok(line) => Stop::Refused { line },
-        Err(_) => Stop::OutOfMemory,
+        refused(alloc, name, ScriptError::TooLong { bytes: seen })
     }
 }
 

@@ -76,7 +76,7 @@ fn planned_outcome<'a, R: Threads + Sync, F: Files, G: Gate>(
     ensures saves { F.save_faults files.new ≡ F.save_faults files.old }
 {
     match made(alloc, start, count) {
-        Ok(trades) => moved_outcome(rt, alloc, files, plan, trades, options, gate),
+        Ok(trades) => made_outcome(rt, alloc, files, plan, trades, options, gate),
         Err(_) => Err(Stop::OutOfMemory),
     }
 }
@@ -97,7 +97,7 @@ fn made(alloc: Global, start: u32, count: u32) -> Result<Trades, OutOfMemory>
 
 // What it comes to, once the trades were made too.
 #[tactic(auto, using(crate::proofs::Ways::wants_on))]
-fn moved_outcome<'a, R: Threads + Sync, F: Files, G: Gate>(
+fn made_outcome<'a, R: Threads + Sync, F: Files, G: Gate>(
     rt: &R,
     alloc: Global,
     files: &mut F,

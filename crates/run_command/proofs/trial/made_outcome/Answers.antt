@@ -3,7 +3,7 @@ use Rattle.command_course.specs.Feeds.{feed_of, with_movements}
 use Rattle.command_line.specs.Views.{options_in, text_in}
 use Rattle.run_command.specs.Courses.{runs}
 use Rattle.run_command.proofs.Ways.{err_run_on, ok_run_on}
-use Rattle.run_command.proofs.trial.moved_outcome.Goals as goal
+use Rattle.run_command.proofs.trial.made_outcome.Goals as goal
 
 pub returns-in-Ok-clause-comes : goal.returns-in-Ok-clause-comes
 returns-in-Ok-clause-comes g c =
