@@ -5,7 +5,7 @@ ghost use Rattle.std.specs.Map.{keys_of};
 ghost use Rattle.std.specs.Map.Iter.{ShowsInOrder, deref, deref_pair};
 ghost use Rattle.std.specs.Option.{is_some};
 ghost use Rattle.tuple_edge.specs.declared.item.Item.{Item};
-ghost use Rattle.std.specs.Prelude.{ℕ, ◌≡◌, [], OnErr, OnOk};
+ghost use Rattle.std.specs.Prelude.{ℕ, ◌≡◌, [], OnErr, OnOk, slice_get};
 
 use std::alloc::Global;
 use std::collections::BTreeMap;
@@ -65,6 +65,13 @@ impl Held {
         ensures runs { ShowsInOrder (deref_pair {K = ℕ} {X = Item}) }
     {
         self.items.iter()
+    }
+
+    /// The number at a place, in rising order, from 0.
+    pub(crate) fn nth(&self, nth: usize) -> Option<u64>
+        ensures { result ≡ slice_get (keys_of self.now) nth }
+    {
+        self.items.keys().nth(nth).copied()
     }
 
     /// The numbers, in rising order.

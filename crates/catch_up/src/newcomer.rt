@@ -11,7 +11,7 @@ ghost use Rattle.stream_ops.specs.State.{rebuilt};
 ghost use Rattle.std.specs.List.{range_with_len};
 ghost use Rattle.std.specs.Map.{keys_of};
 ghost use Rattle.std.specs.Map.Iter.{ShowsInOrder, deref};
-ghost use Rattle.std.specs.Prelude.{ℕ, ◌≡◌, ◌≤◌, ◌<◌, ◌+◌, [], ◌↔◌, false, None, IfOk, IfNone, IfSome, IsSome, IsTrue, OnErr, OnOk, length, replicate};
+ghost use Rattle.std.specs.Prelude.{ℕ, ◌≡◌, ◌≤◌, ◌<◌, ◌+◌, [], ◌↔◌, false, None, IfOk, IfNone, IfSome, IsSome, IsTrue, OnErr, OnOk, length, replicate, slice_get};
 
 use crate::held::Held;
 use crate::rebuild::{buffers_of, fold_in, merge_of, state_of, tell_lows};
@@ -257,9 +257,18 @@ impl Newcomer {
         tell_lows(&self.taken, edges)
     }
 
+    /// The number at a place, from 0, of those that are held of an in-edge, in rising order. None
+    /// exactly past the last. It takes a step for each number up to the place.
+    pub fn held(&self, edge: u32, nth: u64) -> Option<u64>
+        requires { edge < length self.now.held }
+        ensures { result ≡ slice_get (keys_of (held_of self.now edge)) nth }
+    {
+        self.held[edge as usize].nth(nth as usize)
+    }
+
     /// The numbers that are held of an in-edge, in rising order. To walk over them takes a step for
     /// each, and no memory.
-    pub fn held(&self, edge: u32) -> Keys<'_, u64, Item>
+    pub fn held_numbers(&self, edge: u32) -> Keys<'_, u64, Item>
         requires { edge < length self.now.held }
         ensures rest { result ≡ keys_of (held_of self.now edge) }
         ensures rising { IsRising (held_of self.now edge) }

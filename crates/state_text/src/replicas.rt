@@ -21,7 +21,7 @@ fn push_held(text: &mut String, newcomer: &Newcomer, edge: u32) -> Result<(), Ou
     requires { edge < length newcomer.now.held }
     ensures { OnOk result (string_bytes text.new ≡ string_bytes text.old ++ held_text (held_numbers newcomer.now edge)) }
 {
-    let mut numbers = newcomer.held(edge);
+    let mut numbers = newcomer.held_numbers(edge);
     let Some(first) = numbers.next() else {
         text.push_str("-")?;
         return Ok(());

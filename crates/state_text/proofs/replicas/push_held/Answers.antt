@@ -10,7 +10,7 @@ loop-number-init c =
     let ns = held_numbers c.args.newcomer.now c.args.edge in
     let first = c.in-Some.first.now in
     let rest = c.into_iter-number-iterator.result in
-    let shown : ns ≡ first ∷ rest = sym c.held-numbers.ensures.rest ∙ c.in-Some.ensures.steps ∙ ap (λ r. first ∷ r) (sym c.into_iter-number-iterator.ensures.into_iter_gives) in
+    let shown : ns ≡ first ∷ rest = sym c.held_numbers-numbers.ensures.rest ∙ c.in-Some.ensures.steps ∙ ap (λ r. first ∷ r) (sym c.into_iter-number-iterator.ensures.into_iter_gives) in
     ap (λ b. b ++ flat_map after_comma rest) c.in_ok-write.ensures.bytes
     ∙ append_assoc (string_bytes c.args.text.now) (decimal first) (flat_map after_comma rest)
     ∙ ap (λ t. string_bytes c.args.text.now ++ t) (sym (held_from ns first rest shown))
