@@ -26,7 +26,6 @@ use Rattle.pair_machine.proofs.Journal.{journals_go_on, with_sent}
 use Rattle.pair_machine.proofs.Legal.{at_the_end}
 use Rattle.pair_machine.proofs.MachineLaws.{plan_owed, plan_safe}
 use Rattle.ingress_egress.specs.EgressView.{IsFrontOf}
-use Rattle.replica_node.specs.Course.{AreTimely}
 use Rattle.flux_core.specs.CoreView.{CoreView, inputs_of}
 use Rattle.flux_core.specs.Opening.{bare_core}
 use Rattle.flux_core.specs.Stands.{IsGiven}
@@ -123,9 +122,6 @@ module _ (plan : PlanView) (inputs : List Input) (script : List Order) (ran : Ra
 
   pub given : IsGiven bare_nodes
   given = given_here plan script ran limits (own_run plan inputs script ran run)
-
-  pub timely : AreTimely inputs → AreTimely ran.ingress.inputs
-  timely times = subst AreTimely (sym (own_inputs plan inputs script ran run)) times
 
   -- where the drain's events were listed apart
   pub run_ends : (old core : CoreView) (before after : List Event) (d : Drained) → old ≡ bare_nodes → before ≡ [] → core.plan ≡ old.plan → inputs_of core ≡ inputs_of old

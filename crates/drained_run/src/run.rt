@@ -35,7 +35,6 @@ pub fn run_and_drain<R: Threads + Sync, G: Gate>(
     ensures { IfOk result (IsEnded plan.now (inputs_in trades.now) script.now) }
 {
     let _stages = plan.stages();
-    let _rows = trades.rows();
     let Ran {
         ingress,
         replicas,

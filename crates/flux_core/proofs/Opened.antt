@@ -1,14 +1,11 @@
 -- A core that opens stands for the opening, and one of given nodes for a state from which the drain may begin.
 use Rattle.std.proofs.Common.{◌≡◌, ◌∙◌, ◌+◌, ℕ, zero, suc, Bool, true, false, List, [], ◌∷◌, All, Option, None, Some, length, map, slice_get, refl, sym, ap, subst, arith}
-use Rattle.std.proofs.lemmas.List.Elements.{All-head, All-tail, All-weaker}
+use Rattle.std.proofs.lemmas.List.Elements.{All-head, All-tail}
 use Rattle.std.specs.Option.{option_map}
 use Rattle.tuple_edge.specs.Input.{Input}
 use Rattle.tuple_edge.specs.declared.node.NodeId.{NodeId}
 use Rattle.tuple_edge.specs.declared.node.NodeId.TheVariants as node
 use Rattle.plan_reader.specs.PlanView.{IsPlan, PlanView}
-use Rattle.trade_text.proofs.Sources.{each_row}
-use Rattle.trade_text.specs.TradesView.{IsInputRow, IsTrades, TradesView, inputs_in}
-use Rattle.stream_ops.proofs.AnswerLaws.{IsTimelyRow}
 use Rattle.pair_control.specs.ControllerView.{ControllerView}
 use Rattle.pair_machine.proofs.MachineLaws.{plan_opens_sound}
 use Rattle.pair_machine.proofs.PlanNodes.{nodes_named}
@@ -26,11 +23,6 @@ use Rattle.flux_core.specs.Stands.{ContentStands, IsCore, IsGiven, IsKnown, Pack
 use Rattle.flux_core.proofs.Contents.{content_in}
 use Rattle.flux_core.proofs.Lists.{get-map, length-map-of}
 use Rattle.flux_core.proofs.OpenPairs.{all_added}
-
--- the times of trades are within their limits
-pub times_within : (trades : TradesView) → IsTrades trades → AreTimely (inputs_in trades)
-times_within trades limits =
-    each_row IsTimelyRow trades.rows trades.sources (All-weaker IsInputRow IsTimelyRow (λ row is. (is.time.low, is.time.high)) trades.rows limits.rows)
 
 -- ---- logs of nodes that have sent nothing
 

@@ -5,7 +5,6 @@ ghost use Rattle.flux_core.specs.Stands.{IsGiven, StandsFor};
 ghost use Rattle.pair_machine.specs.Machine.{opening};
 ghost use Rattle.plan_reader.specs.Nodes.{has_pair};
 ghost use Rattle.plan_reader.specs.PlanView.{IsPlan};
-ghost use Rattle.replica_node.specs.Course.{AreTimely};
 ghost use Rattle.std.specs.Prelude.{◌≡◌, ◌≤◌, ◌+◌, [], true, IfOk, IsTrue, OnOk, length};
 ghost use Rattle.trade_text.specs.TradesView.{inputs_in};
 
@@ -148,9 +147,10 @@ impl Core {
         egress: Egress,
     ) -> Result<Core, OutOfMemory>
         requires given { IsGiven (bare_core plan.now ingress replicas.items controls.items egress) }
-        requires timely { AreTimely ingress.inputs }
         ensures { IfOk result (λ core. core ≡ bare_core plan.now ingress replicas.items controls.items egress) }
     {
+        // This call's clause says that the times of the inputs are within their limits.
+        let _makes = ingress.makes();
         let sent = Logs::new(alloc, replicas.len(), controls.len())?;
         Ok(Core {
             plan: copy_of(alloc, plan)?,

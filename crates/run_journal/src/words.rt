@@ -64,16 +64,6 @@ pub(crate) fn node(words: &mut Words<'_>, plan: &Plan) -> Result<NodeId, Fault>
     }
 }
 
-// Whether the plan has this node, and it is a replica.
-fn has_replica(plan: &Plan, node: NodeId) -> bool
-    ensures { result ≡ has_replica plan.now node }
-{
-    match node {
-        NodeId::Replica { .. } => plan.has(node),
-        NodeId::Ingress | NodeId::Control { .. } | NodeId::Egress => false,
-    }
-}
-
 // A replica of the plan.
 #[tactic(auto, unfolding(crate::specs::Grammar::replica_at))]
 pub(crate) fn replica(words: &mut Words<'_>, plan: &Plan) -> Result<NodeId, Fault>
@@ -84,34 +74,12 @@ pub(crate) fn replica(words: &mut Words<'_>, plan: &Plan) -> Result<NodeId, Faul
     match node_named(found) {
         None => Err(Fault::Grammar),
         Some(node) => {
-            if has_replica(plan, node) {
+            if plan.has_replica(node) {
                 Ok(node)
             } else {
                 Err(Fault::NoSuchNode)
             }
         }
-    }
-}
-
-// Whether an edge of the plan leads from one node to another.
-fn has_edge(plan: &Plan, from: NodeId, to: NodeId) -> bool
-    ensures { result ≡ has_edge plan.now from to }
-{
-    if !plan.has(from) || !plan.has(to) {
-        return false;
-    }
-    let last = plan.stages().len();
-    match (from, to) {
-        (NodeId::Ingress, NodeId::Replica { stage, .. }) => stage == 1,
-        (
-            NodeId::Replica { stage, .. },
-            NodeId::Replica {
-                stage: to_stage,
-                ..
-            },
-        ) => u64::from(to_stage) == u64::from(stage) + 1,
-        (NodeId::Replica { stage, .. }, NodeId::Egress) => stage as usize == last,
-        _ => false,
     }
 }
 
@@ -125,7 +93,7 @@ pub(crate) fn target(words: &mut Words<'_>, plan: &Plan, from: NodeId) -> Result
     match node_named(found) {
         None => Err(Fault::Grammar),
         Some(to) => {
-            if has_edge(plan, from, to) {
+            if plan.has_edge(from, to) {
                 Ok(to)
             } else {
                 Err(Fault::NoSuchNode)

@@ -80,7 +80,6 @@ fn drains<R: Abort>(
     requires { IsLegalRun story.now.plan (inputs_in story.now.trades) story.now.script outcome.ran }
 {
     let _stages = story.plan.stages();
-    let _rows = story.trades.rows();
     let Outcome { ran, events } = outcome;
     let Ran {
         ingress,

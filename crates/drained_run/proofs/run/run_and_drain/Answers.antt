@@ -1,15 +1,11 @@
 -- What the threads left stands for a state from which the drain may begin, and the drain's end is the run's.
 use Rattle.trade_text.specs.TradesView.{inputs_in}
-use Rattle.flux_core.proofs.Opened.{times_within}
-use Rattle.drained_run.proofs.Ending.{given, run_ends, timely}
+use Rattle.drained_run.proofs.Ending.{given, run_ends}
 use Rattle.drained_run.proofs.Joined.{mergeable}
 use Rattle.drained_run.proofs.run.run_and_drain.Goals as goal
 
 pub of-requires-clause-given : goal.of-requires-clause-given
 of-requires-clause-given g c = given c.args.plan.now (inputs_in c.args.trades.now) c.args.script.now c.in_ok-ingress.field-0 c.stages-stages.ensures.limits c.in_ok-ingress.ensures
-
-pub of-requires-clause-timely : goal.of-requires-clause-timely
-of-requires-clause-timely g c = timely c.args.plan.now (inputs_in c.args.trades.now) c.args.script.now c.in_ok-ingress.field-0 c.stages-stages.ensures.limits c.in_ok-ingress.ensures (times_within c.args.trades.now c.rows-rows.ensures.limits)
 
 pub returns : goal.returns
 returns g c = run_ends c.args.plan.now (inputs_in c.args.trades.now) c.args.script.now c.in_ok-ingress.field-0 c.stages-stages.ensures.limits c.in_ok-ingress.ensures

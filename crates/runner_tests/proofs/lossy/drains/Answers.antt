@@ -1,12 +1,7 @@
 -- The nodes that the threads left are those of a core.
 use Rattle.trade_text.specs.TradesView.{inputs_in}
-use Rattle.flux_core.proofs.Opened.{times_within}
-use Rattle.drained_run.proofs.Ending.{given, timely}
+use Rattle.drained_run.proofs.Ending.{given}
 use Rattle.runner_tests.proofs.lossy.drains.Goals as goal
 
 pub of-requires-clause-given : goal.of-requires-clause-given
 of-requires-clause-given g c = given c.args.story.now.plan (inputs_in c.args.story.now.trades) c.args.story.now.script c.args.outcome.ran c.stages-stages.ensures.limits c.requires
-
-pub of-requires-clause-timely : goal.of-requires-clause-timely
-of-requires-clause-timely g c = timely c.args.story.now.plan (inputs_in c.args.story.now.trades) c.args.story.now.script c.args.outcome.ran c.stages-stages.ensures.limits c.requires
-    (times_within c.args.story.now.trades c.rows-rows.ensures.limits)
