@@ -1,5 +1,5 @@
 -- What words come to, of the end of the course that they ask for.
-use Rattle.std.proofs.Common.{ℕ, ◌≡◌, List, [], refl, ap, sym, subst, append-nil, Option, Some, None, Ok, Err, ⊎_elim, inl, inr}
+use Rattle.std.proofs.Common.{ℕ, ◌≡◌, ◌∙◌, List, [], refl, ap, sym, subst, append-nil, Option, Some, None, Ok, Err, ⊎_elim, inl, inr}
 use Rattle.std.specs.Prelude.{IfErr, IfOk, IfSome, OnOk, Result, Vec, option_map}
 use Rattle.std.specs.declared.alloc.Global.{Global}
 use Rattle.tuple_edge.specs.declared.event.Drained.{Drained}
@@ -14,7 +14,7 @@ use Rattle.command_line.specs.Forms.{Request, form}
 use Rattle.flux_outside.specs.Outside.{Adds, Call, Names}
 use Rattle.run_command.specs.Endings.{CameToRun, Ending, HasEnded, ending_of}
 use Rattle.run_command.specs.declared.outcome.Outcome.{Outcome}
-use Rattle.flux_top.specs.Clauses.{Faults, Finishes, HasCause, IsQuiet, SavesNot, SinkTells, StopsTo, WritesWhole}
+use Rattle.flux_top.specs.Clauses.{Faults, Finishes, HasCause, IsQuiet, KeepsTo, SavesNot, SavesShort, SinkTells, StopsTo, WritesWhole}
 use Rattle.flux_top.specs.Ends.{Ends, EndsBy, EndsOrLoses, Keeps, Loses, MayBeLost, saves_of}
 use Rattle.flux_top.specs.Finish.{IsFinished, IsNotSaved, IsSaved, StopsFinish}
 use Rattle.flux_top.specs.Outcome.{CameToEnd, asked, course_of}
@@ -52,12 +52,24 @@ module _ (told mid new : Option Names) (before between after : Option (List Call
     rose = fails.rose;
   }
 
+  -- where no memory was to be had, no call was added but those that read
+  reads_alone : (course : Course) → (ended : CameToEnd told before between course outcome) → Adds between after [] → Adds before after ended.came.calls
+  reads_alone course ended none = subst (Adds before after) (append-nil ended.came.calls) (adds_on before between after ended.came.calls [] ended.came.added none)
+
   short_at_save : (course : Course) → CameToEnd told before between course outcome → Adds between after [] → StoppedShort told before after course
-  short_at_save course ended none = Between ended.there (record {
-    calls = ended.came.calls;
-    leads = ended.came.leads;
-    added = subst (Adds before after) (append-nil ended.came.calls) (adds_on before between after ended.came.calls [] ended.came.added none);
-  })
+  short_at_save course ended none = Between ended.there (record { calls = ended.came.calls; leads = ended.came.leads; added = reads_alone course ended none })
+
+  saves_short : (course : Course) → asked words ≡ Some course → CameToEnd told before between course outcome → Adds between after [] → MayBeLost mid new (ending_of outcome).saved
+      → SavesShort (told, before) (new, after) words
+  saves_short course is ended none others = record {
+    ending = ending_of outcome;
+    there = ended.there;
+    reads = ended.came.calls;
+    comes = record { course = course; is_asked = is; fact = ended.came.leads };
+    ends_so = ends_or_loses outcome.drained ended.there (ending_of outcome) ended.ends;
+    added = reads_alone course ended none;
+    others = subst (λ names. MayBeLost names new (ending_of outcome).saved) same others;
+  }
 
   -- ---- what was written
 
@@ -93,7 +105,18 @@ module _ (told mid new : Option Names) (before between after : Option (List Call
     };
     line_is = stops.1;
   }
-  stops_to course is ended old puts faults stop.OutOfMemory stops = subst (λ c. IfSome c (StoppedShort told before after)) (sym is) (short_at_save course ended stops)
+  stops_to course is ended old puts faults stop.OutOfMemory stops = subst (λ c. IfSome c (StoppedShort told before after)) (sym is) (short_at_save course ended stops.added)
+
+  -- ---- what stays of the files
+
+  keeps_to : (course : Course) → asked words ≡ Some course → CameToEnd told before between course outcome → (old puts : SinkTells) (faults : Faults) (why : Stop)
+      → StopsFinish (mid, between) (new, after) old puts faults outcome.drained (ending_of outcome) why → KeepsTo (told, before) (new, after) words why
+  keeps_to course is ended old puts faults stop.Usage stops = absurd stops
+  keeps_to course is ended old puts faults (stop.Refused line) stops = absurd stops
+  keeps_to course is ended old puts faults (stop.CannotRead line) stops = absurd stops
+  keeps_to course is ended old puts faults stop.CannotWrite stops = tt
+  keeps_to course is ended old puts faults (stop.PairLost stage part line) stops = tt
+  keeps_to course is ended old puts faults stop.OutOfMemory stops = ⊎_elim (λ kept. inl (kept ∙ same)) (λ others. inr (saves_short course is ended stops.added others)) stops.keeps
 
   -- ---- what the last steps of a command answered
 
@@ -108,6 +131,12 @@ module _ (told mid new : Option Names) (before between after : Option (List Call
       → IfErr result (λ why. StopsTo (told, before) (new, after) words old puts faults why)
   finished_stops course old puts faults (Ok x) is ended stops = tt
   finished_stops course old puts faults (Err why) is ended stops = stops_to course is ended old puts faults why stops
+
+  pub finished_keeps : (course : Course) (old puts : SinkTells) (faults : Faults) (result : Result (Unit {0}) Stop) → asked words ≡ Some course → CameToEnd told before between course outcome
+      → IfErr result (λ why. StopsFinish (mid, between) (new, after) old puts faults outcome.drained (ending_of outcome) why)
+      → IfErr result (λ why. KeepsTo (told, before) (new, after) words why)
+  finished_keeps course old puts faults (Ok x) is ended stops = tt
+  finished_keeps course old puts faults (Err why) is ended stops = keeps_to course is ended old puts faults why stops
 
   finish_cause : (old puts : SinkTells) (faults : Faults) (reads_before reads_now : ℕ) (why : Stop) → reads_now ≡ reads_before
       → StopsFinish (mid, between) (new, after) old puts faults outcome.drained (ending_of outcome) why → HasCause reads_before reads_now why
@@ -154,6 +183,14 @@ stopped_quiet out (stop.CannotRead line) = refl
 stopped_quiet out stop.CannotWrite = tt
 stopped_quiet out (stop.PairLost stage part line) = tt
 stopped_quiet out stop.OutOfMemory = refl
+
+pub stopped_keeps : (told new : Option Names) (before after : Option (List Call)) (words : List (List ℕ)) (why : Stop) → new ≡ told → KeepsTo (told, before) (new, after) words why
+stopped_keeps told new before after words stop.Usage kept = kept
+stopped_keeps told new before after words (stop.Refused line) kept = kept
+stopped_keeps told new before after words (stop.CannotRead line) kept = kept
+stopped_keeps told new before after words stop.CannotWrite kept = tt
+stopped_keeps told new before after words (stop.PairLost stage part line) kept = tt
+stopped_keeps told new before after words stop.OutOfMemory kept = inl kept
 
 -- ---- what a command came to
 

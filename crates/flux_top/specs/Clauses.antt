@@ -27,9 +27,10 @@ FilesTell = Option Names × Option (List Call)
 abbrev pub SinkTells : Type 0
 SinkTells = Option (List ℕ) × Option (List (List ℕ))
 
--- a line was taken whole, or a proper prefix of it where the count of faults rose
-abbrev pub Tells : Option (List ℕ) → Option (List ℕ) → ℕ → ℕ → List ℕ → Type 0
-Tells old new before now line = Takes old new line ⊎ (TakesPart old new line × Rose before now)
+-- a line was taken whole, or a proper prefix of it where the count of faults rose; each put was given all that was left of it
+pub record Tells (old new : SinkTells) (faults now : ℕ) (line : List ℕ) : Type 0 where
+  pub takes : Takes old.0 new.0 line ⊎ (TakesPart old.0 new.0 line × Rose faults now)
+  pub offers : OffersRests old.1 new.1 line
 
 -- The words' command came to its end: it read its inputs, and what they say leads there. Where it has a journal, the last call saved it.
 pub record Finishes (before after : FilesTell) (words : List (List ℕ)) (ends : Course → Ending → Type 0) (ending : Ending) : Type 0 where
@@ -66,6 +67,20 @@ pub record SavesNot (before after : FilesTell) (words : List (List ℕ)) (saves 
   pub others : MayBeLost before.0 after.0 ending.saved
   pub rose : Rose saves now
 
+-- The words' command came to its end, but no memory was to be had for the save of its journal, which is no call that was added.
+pub record SavesShort (before after : FilesTell) (words : List (List ℕ)) : Type 0 where
+  pub ending : Ending
+  pub there : Course
+  pub reads : List Call
+  pub comes : AsksFor words (λ course. Leads before.0 course reads there)
+  pub ends_so : EndsOrLoses there ending
+  pub added : Adds before.1 after.1 reads
+  pub others : MayBeLost before.0 after.0 ending.saved
+
+-- the files hold what they held, but for a journal for whose save no memory was to be had
+abbrev pub KeepsFiles : FilesTell → FilesTell → List (List ℕ) → Type 0
+KeepsFiles before after words = (after.0 ≡ before.0) ⊎ SavesShort before after words
+
 -- the words' command came to a refusal by the calls that were added
 abbrev pub ComesToRefusal : Option Names → Option (List Call) → Option (List Call) → List (List ℕ) → List ℕ → Type 0
 ComesToRefusal told old new words line = AsksFor words (λ course. Came told old new course (Refuses line))
@@ -79,19 +94,19 @@ abbrev pub StopsShort : Option Names → Option (List Call) → Option (List Cal
 StopsShort told old new words = IfSome (asked words) (StoppedShort told old new)
 
 -- an input was refused, and its line said
-pub record SaysRefusal (told : Option Names) (before after : Option (List Call)) (words : List (List ℕ)) (old new : Option (List ℕ)) (faults now : ℕ) : Type 0 where
+pub record SaysRefusal (told : Option Names) (before after : Option (List Call)) (words : List (List ℕ)) (old new : SinkTells) (faults now : ℕ) : Type 0 where
   pub line : List ℕ
   pub comes : ComesToRefusal told before after words line
   pub tells : Tells old new faults now line
 
 -- the file that was to be read last could not be read, and its name said
-pub record SaysUnread (told : Option Names) (before after : Option (List Call)) (words : List (List ℕ)) (old new : Option (List ℕ)) (faults now : ℕ) : Type 0 where
+pub record SaysUnread (told : Option Names) (before after : Option (List Call)) (words : List (List ℕ)) (old new : SinkTells) (faults now : ℕ) : Type 0 where
   pub name : List ℕ
   pub comes : ComesToRead told before after words name
   pub tells : Tells old new faults now (cannot_read_line name)
 
 -- a pair was lost, what was emitted before was written whole, and the pair's name said
-pub record SaysLost (before after : FilesTell) (words : List (List ℕ)) (old new : SinkTells) (said says : Option (List ℕ)) (faults now : ℕ) : Type 0 where
+pub record SaysLost (before after : FilesTell) (words : List (List ℕ)) (old new said says : SinkTells) (faults now : ℕ) : Type 0 where
   pub pair : Partition
   pub writes : WritesWhole before after words (Loses pair) old new
   pub tells : Tells said says faults now (lost_line pair)
@@ -153,6 +168,15 @@ IsQuiet old new (stop.CannotRead line) = new ≡ old
 IsQuiet old new stop.CannotWrite = Unit {0}
 IsQuiet old new (stop.PairLost stage part line) = Unit {0}
 IsQuiet old new stop.OutOfMemory = new ≡ old
+
+-- the files hold what they held before any stop but a write fault and a lost pair, or all but the journal for whose save no memory was to be had
+abbrev pub KeepsTo : FilesTell → FilesTell → List (List ℕ) → Stop → Type 0
+KeepsTo before after words stop.Usage = after.0 ≡ before.0
+KeepsTo before after words (stop.Refused line) = after.0 ≡ before.0
+KeepsTo before after words (stop.CannotRead line) = after.0 ≡ before.0
+KeepsTo before after words stop.CannotWrite = Unit {0}
+KeepsTo before after words (stop.PairLost stage part line) = Unit {0}
+KeepsTo before after words stop.OutOfMemory = KeepsFiles before after words
 
 -- a read fails only where the count of read faults rose
 abbrev pub HasCause : ℕ → ℕ → Stop → Type 0

@@ -23,6 +23,11 @@ pub record IsNotSaved (before after : FilesTell) (saved : Option (List ℕ × Li
   pub others : MayBeLost before.0 after.0 saved
   pub rose : Rose faults now
 
+-- no memory was to be had, before the save or for it
+pub record IsShort (before after : FilesTell) (saved : Option (List ℕ × List ℕ)) : Type 0 where
+  pub added : Adds before.1 after.1 []
+  pub keeps : (after.0 ≡ before.0) ⊎ MayBeLost before.0 after.0 saved
+
 -- why what is saved was not saved
 abbrev pub StopsSave : FilesTell → FilesTell → Option (List ℕ × List ℕ) → ℕ → ℕ → Stop → Type 0
 StopsSave before after saved faults now stop.Usage = ⊥
@@ -30,7 +35,7 @@ StopsSave before after saved faults now (stop.Refused line) = ⊥
 StopsSave before after saved faults now (stop.CannotRead line) = ⊥
 StopsSave before after saved faults now stop.CannotWrite = IsNotSaved before after saved faults now
 StopsSave before after saved faults now (stop.PairLost stage part line) = ⊥
-StopsSave before after saved faults now stop.OutOfMemory = Adds before.1 after.1 []
+StopsSave before after saved faults now stop.OutOfMemory = IsShort before after saved
 
 -- what is said where a pair was lost, and nothing where none was
 abbrev pub Says : Drained → Option Stop → Type 0
@@ -75,4 +80,4 @@ StopsFinish before after old new faults how ending stop.CannotWrite =
     IsFinishedInPart before after old new ending faults.puts_before faults.puts_now ⊎ (IsNotSaved before after ending.saved faults.saves_before faults.saves_now × (new ≡ old))
 StopsFinish before after old new faults how ending (stop.PairLost stage part line) =
     (how ≡ drained.Lost stage part) × (string_bytes line ≡ lost_line (partition stage part)) × IsFinished before after old new ending
-StopsFinish before after old new faults how ending stop.OutOfMemory = Adds before.1 after.1 []
+StopsFinish before after old new faults how ending stop.OutOfMemory = IsShort before after ending.saved

@@ -1,10 +1,10 @@
 // The one call that does what the words of a command line ask for.
 ghost use Rattle.std.specs.Prelude.{◌≡◌, ◌≢◌, ◌⊎◌, IfErr, IfOk, OnOk, Err, None, map, string_bytes};
 ghost use Rattle.command_course.specs.Steps.{HasReadCause, IsWant, StopsOf};
-ghost use Rattle.command_course.specs.declared.stop.Stop.TheVariants.{OutOfMemory, Usage};
+ghost use Rattle.command_course.specs.declared.stop.Stop.TheVariants.{CannotWrite, OutOfMemory, Usage};
 ghost use Rattle.command_line.specs.Views.{IsInRange, request_of};
 ghost use Rattle.flux_outside.specs.Outside.{Rose, StopsAtWant};
-ghost use Rattle.flux_top.specs.Clauses.{Accepts, HasCause, IsQuiet, IsStatus, Rejects, SaysLost, SaysRefusal, SaysUnread, StopsShort, StopsTo, Tells, WritesNot, WritesWhole};
+ghost use Rattle.flux_top.specs.Clauses.{Accepts, HasCause, IsQuiet, IsStatus, KeepsFiles, KeepsTo, Rejects, SaysLost, SaysRefusal, SaysUnread, StopsShort, StopsTo, Tells, WritesNot, WritesWhole};
 ghost use Rattle.flux_top.specs.Ends.{Ends, IsAtEnd, LosesNone};
 ghost use Rattle.flux_top.specs.Lines.{cannot_write_line, memory_line, usage_line};
 ghost use Rattle.flux_top.specs.Outcome.{CameToEnd, asked, course_of};
@@ -53,35 +53,41 @@ pub fn flux<R: Threads + Sync, F: Files, S: Sink, E: Sink, G: Gate>(
     // for want of memory, with 8, and no file is asked for.
     ensures usage { result ≡ 2 → asked (map string_bytes words.now) ≡ None }
     ensures formless { asked (map string_bytes words.now) ≡ None → (result ≡ 2) ⊎ (result ≡ 8) }
-    ensures usage_line { result ≡ 2 → Tells (E.taken err.old) (E.taken err.new) (E.faults err.old) (E.faults err.new) usage_line }
+    ensures usage_line { result ≡ 2 → Tells (E.taken err.old, E.offered err.old) (E.taken err.new, E.offered err.new) (E.faults err.old) (E.faults err.new) usage_line }
     ensures unasked { asked (map string_bytes words.now) ≡ None → files.new ≡ files.old }
 
     // 3: the first faulty input is refused, and it is said why.
-    ensures refused { result ≡ 3 → SaysRefusal (F.contents files.old) (F.calls files.old) (F.calls files.new) (map string_bytes words.now) (E.taken err.old) (E.taken err.new) (E.faults err.old) (E.faults err.new) }
+    ensures refused { result ≡ 3 → SaysRefusal (F.contents files.old) (F.calls files.old) (F.calls files.new) (map string_bytes words.now) (E.taken err.old, E.offered err.old) (E.taken err.new, E.offered err.new) (E.faults err.old) (E.faults err.new) }
 
     // 4: the input that was asked for last was not to be had, only where the count of read faults rose; its
     // name is said.
-    ensures unread { result ≡ 4 → SaysUnread (F.contents files.old) (F.calls files.old) (F.calls files.new) (map string_bytes words.now) (E.taken err.old) (E.taken err.new) (E.faults err.old) (E.faults err.new) }
+    ensures unread { result ≡ 4 → SaysUnread (F.contents files.old) (F.calls files.old) (F.calls files.new) (map string_bytes words.now) (E.taken err.old, E.offered err.old) (E.taken err.new, E.offered err.new) (E.faults err.old) (E.faults err.new) }
     ensures unread_cause { result ≡ 4 → Rose (F.read_faults files.old) (F.read_faults files.new) }
 
     // 5: a proper prefix of the text was written, only where the count of faults of `out` rose; or nothing,
     // where the journal was not saved and the count of faults of saves rose.
     ensures unwritten { result ≡ 5 → WritesNot (F.contents files.old, F.calls files.old) (F.contents files.new, F.calls files.new) (map string_bytes words.now) (S.taken out.old, S.offered out.old) (S.taken out.new, S.offered out.new) (record { saves_before = F.save_faults files.old; saves_now = F.save_faults files.new; puts_before = S.faults out.old; puts_now = S.faults out.new }) }
-    ensures unwritten_line { result ≡ 5 → Tells (E.taken err.old) (E.taken err.new) (E.faults err.old) (E.faults err.new) cannot_write_line }
+    ensures unwritten_line { result ≡ 5 → Tells (E.taken err.old, E.offered err.old) (E.taken err.new, E.offered err.new) (E.faults err.old) (E.faults err.new) cannot_write_line }
 
     // 6: a pair was lost, under a script that isn't safe; the rows emitted before were written, and it is said
     // which pair.
-    ensures lost { result ≡ 6 → SaysLost (F.contents files.old, F.calls files.old) (F.contents files.new, F.calls files.new) (map string_bytes words.now) (S.taken out.old, S.offered out.old) (S.taken out.new, S.offered out.new) (E.taken err.old) (E.taken err.new) (E.faults err.old) (E.faults err.new) }
+    ensures lost { result ≡ 6 → SaysLost (F.contents files.old, F.calls files.old) (F.contents files.new, F.calls files.new) (map string_bytes words.now) (S.taken out.old, S.offered out.old) (S.taken out.new, S.offered out.new) (E.taken err.old, E.offered err.old) (E.taken err.new, E.offered err.new) (E.faults err.old) (E.faults err.new) }
 
     // 8: want of memory, after which no file is asked for. There is no other status.
     ensures short { result ≡ 8 → StopsShort (F.contents files.old) (F.calls files.old) (F.calls files.new) (map string_bytes words.now) }
-    ensures memory_line { result ≡ 8 → Tells (E.taken err.old) (E.taken err.new) (E.faults err.old) (E.faults err.new) memory_line }
+    ensures memory_line { result ≡ 8 → Tells (E.taken err.old, E.offered err.old) (E.taken err.new, E.offered err.new) (E.faults err.old) (E.faults err.new) memory_line }
     ensures wants { StopsAtWant (F.wants files.old) (F.wants files.new) (result ≡ 8) }
     ensures statuses { IsStatus result }
 
     // It writes only at 0, 5 and 6, and the count of read faults stays but at 4 and 8.
     ensures quiet { result ≢ 0 → result ≢ 5 → result ≢ 6 → out.new ≡ out.old }
     ensures still { result ≢ 4 → result ≢ 8 → F.read_faults files.new ≡ F.read_faults files.old }
+
+    // It changes what files hold only where it saves a journal: at 0, 5 and 6, or at 8 where no memory was to be had
+    // for that. The count of faults of saves stays but at 5.
+    ensures kept { result ≢ 0 → result ≢ 5 → result ≢ 6 → result ≢ 8 → F.contents files.new ≡ F.contents files.old }
+    ensures kept_short { result ≡ 8 → KeepsFiles (F.contents files.old, F.calls files.old) (F.contents files.new, F.calls files.new) (map string_bytes words.now) }
+    ensures saves_still { result ≢ 5 → F.save_faults files.new ≡ F.save_faults files.old }
 
     // Where the files tell what they hold and no count rose, what they hold is accepted and done, or it is
     // refused, unless no memory was to be had. Only a run under a script that isn't safe may lose a pair.
@@ -126,7 +132,7 @@ const USAGE: &str =
 
 // Says a line. A fault of the sink changes nothing.
 fn say<E: Sink>(err: &mut E, line: &str)
-    ensures { Tells (E.taken err.old) (E.taken err.new) (E.faults err.old) (E.faults err.new) line.now }
+    ensures { Tells (E.taken err.old, E.offered err.old) (E.taken err.new, E.offered err.new) (E.faults err.old) (E.faults err.new) line.now }
 {
     match write_all(err, line.as_bytes()) {
         Ok(()) => (),
@@ -150,6 +156,8 @@ fn run<R: Threads + Sync, F: Files, S: Sink, G: Gate>(
     ensures stops { IfErr result (λ stop. StopsTo (F.contents files.old, F.calls files.old) (F.contents files.new, F.calls files.new) (map string_bytes words.now) (S.taken out.old, S.offered out.old) (S.taken out.new, S.offered out.new) (record { saves_before = F.save_faults files.old; saves_now = F.save_faults files.new; puts_before = S.faults out.old; puts_now = S.faults out.new }) stop) }
     ensures cause { IfErr result (λ stop. HasCause (F.read_faults files.old) (F.read_faults files.new) stop) }
     ensures still { OnOk result (F.read_faults files.new ≡ F.read_faults files.old) }
+    ensures kept { IfErr result (λ stop. KeepsTo (F.contents files.old, F.calls files.old) (F.contents files.new, F.calls files.new) (map string_bytes words.now) stop) }
+    ensures saves { result ≢ Err CannotWrite → F.save_faults files.new ≡ F.save_faults files.old }
     ensures wants { StopsAtWant (F.wants files.old) (F.wants files.new) (IsWant result) }
     ensures quiet { IfErr result (λ stop. IsQuiet out.old out.new stop) }
 {

@@ -1,6 +1,7 @@
 // The last steps of a command: its journal is saved, and then its text is written.
-ghost use Rattle.std.specs.Prelude.{◌≡◌, IfErr, IfOk, OnOk, string_bytes};
+ghost use Rattle.std.specs.Prelude.{◌≡◌, ◌≢◌, Err, IfErr, IfOk, OnOk, string_bytes};
 ghost use Rattle.command_course.specs.Steps.{IsWant};
+ghost use Rattle.command_course.specs.declared.stop.Stop.TheVariants.{CannotWrite};
 ghost use Rattle.flux_outside.specs.Outside.{StopsAtWant};
 ghost use Rattle.flux_top.specs.Clauses.{IsQuiet};
 ghost use Rattle.flux_top.specs.Finish.{IsFinished, IsPut, IsSaved, Says, StopsFinish, StopsPut, StopsSave};
@@ -27,6 +28,7 @@ pub(crate) fn finish<F: Files, S: Sink>(
     ensures finished { OnOk result (IsFinished (F.contents files.old, F.calls files.old) (F.contents files.new, F.calls files.new) (S.taken out.old, S.offered out.old) (S.taken out.new, S.offered out.new) (ending_of outcome.now)) }
     ensures stops { IfErr result (λ stop. StopsFinish (F.contents files.old, F.calls files.old) (F.contents files.new, F.calls files.new) (S.taken out.old, S.offered out.old) (S.taken out.new, S.offered out.new) (record { saves_before = F.save_faults files.old; saves_now = F.save_faults files.new; puts_before = S.faults out.old; puts_now = S.faults out.new }) outcome.now.drained (ending_of outcome.now) stop) }
     ensures still { F.read_faults files.new ≡ F.read_faults files.old }
+    ensures saves { result ≢ Err CannotWrite → F.save_faults files.new ≡ F.save_faults files.old }
     ensures wants { StopsAtWant (F.wants files.old) (F.wants files.new) (IsWant result) }
     ensures quiet { IfErr result (λ stop. IsQuiet out.old out.new stop) }
 {
@@ -65,6 +67,7 @@ fn save<F: Files>(files: &mut F, outcome: &Outcome<'_>) -> Result<(), Stop>
     ensures saved { OnOk result (IsSaved (F.contents files.old, F.calls files.old) (F.contents files.new, F.calls files.new) (ending_of outcome.now).saved) }
     ensures stops { IfErr result (λ stop. StopsSave (F.contents files.old, F.calls files.old) (F.contents files.new, F.calls files.new) (ending_of outcome.now).saved (F.save_faults files.old) (F.save_faults files.new) stop) }
     ensures still { F.read_faults files.new ≡ F.read_faults files.old }
+    ensures saves { result ≢ Err CannotWrite → F.save_faults files.new ≡ F.save_faults files.old }
     ensures wants { StopsAtWant (F.wants files.old) (F.wants files.new) (IsWant result) }
 {
     match &outcome.journal {

@@ -26,7 +26,7 @@ returns-in-Err-PairLost-clause-lost g c = λ six.
     record {
       pair = partition c.in-Err-PairLost.field-0-0 c.in-Err-PairLost.field-0-1;
       writes = stops.writes;
-      tells = subst (Tells (g.E.Sink.taken c.args.err.now) (g.E.Sink.taken c.say-in-Err-PairLost.new.err) (g.E.Sink.faults c.args.err.now) (g.E.Sink.faults c.say-in-Err-PairLost.new.err))
+      tells = subst (Tells (g.E.Sink.taken c.args.err.now, g.E.Sink.offered c.args.err.now) (g.E.Sink.taken c.say-in-Err-PairLost.new.err, g.E.Sink.offered c.say-in-Err-PairLost.new.err) (g.E.Sink.faults c.args.err.now) (g.E.Sink.faults c.say-in-Err-PairLost.new.err))
           (c.as_str-in-Err-PairLost.ensures.value ∙ stops.line_is) c.say-in-Err-PairLost.ensures;
     }
 
