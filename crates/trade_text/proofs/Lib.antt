@@ -1,4 +1,5 @@
 pub mod Digits
+pub mod FirstRows
 pub mod Marks
 pub mod BothFiles
 pub mod Numerals

@@ -4,6 +4,7 @@ pub mod Fields
 pub mod Files
 pub mod Inputs
 pub mod Kinds
+pub mod Laws
 pub mod Limits
 pub mod Messages
 pub mod Records
