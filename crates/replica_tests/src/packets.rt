@@ -6,6 +6,13 @@ use std::process::Abort;
 use std::test::Fail;
 use tuple_edge::{Body, Entry, Item, NodeId, OutOfMemory, Row, Which};
 
+// A stage of one partition, and one of two after it.
+const SPLIT: &[u8] =
+    b"flux 1\nstage 1 parts 1 by account total account\nstage 2 parts 2 by account total account\n";
+
+// Every number stays below this.
+const LIMIT: u64 = 1 << 62;
+
 const RUNS: (Mode, u64) = (Mode::Running, 1);
 
 const GATHERS: (Mode, u64) = (Mode::Gathering, 2);
@@ -133,37 +140,30 @@ fn chunk(entry: Entry) -> Body {
     Body::Chunk { inc, number, entry }
 }
 
+// A row a second past the last time.
+fn late() -> Item {
+    let row = Row {
+        time: 10_000_000_000,
+        account: 7,
+        symbol: 1,
+        qty: 1,
+        value: 1,
+    };
+    Item::Row { stamp: 1, row }
+}
+
 // An item is admitted of the replica's own in-edge, with a number and a time within their limits; an
 // acknowledgement from who takes its items alone.
 #[test]
 fn items_come_from_their_senders(rt: HostRuntime) -> Result<(), Fail> {
     let node = opened(&rt, rt.alloc(), ONE, 1, Which::B)?;
-    let (time, account, symbol, qty, value) = (10_000_000_000, 7, 1, 1, 1);
-    let late = Row {
-        time,
-        account,
-        symbol,
-        qty,
-        value,
-    };
     let edge = edge(1);
     let ack = Body::Ack { edge, upto: 1 };
     let packets = [
         (NodeId::Ingress, tuple(0, 1, bought(1)), true),
         (NodeId::Ingress, tuple(1, 1, bought(1)), false),
-        (NodeId::Ingress, tuple(0, 1 << 62, bought(1)), false),
-        (
-            NodeId::Ingress,
-            tuple(
-                0,
-                1,
-                Item::Row {
-                    stamp: 1,
-                    row: late,
-                },
-            ),
-            false,
-        ),
+        (NodeId::Ingress, tuple(0, LIMIT, bought(1)), false),
+        (NodeId::Ingress, tuple(0, 1, late()), false),
         (NodeId::Egress, ack, true),
         (control(1), ack, false),
     ];
@@ -183,8 +183,41 @@ fn a_pair_is_among_itself(rt: HostRuntime) -> Result<(), Fail> {
         (control(1), Body::Down { inc: 1 }, false),
         (partner, mark(0, 5), true),
         (partner, mark(1, 5), false),
-        (partner, mark(0, 1 << 62), false),
+        (partner, mark(0, LIMIT), false),
         (replica(1, Which::B), mark(0, 5), false),
+    ];
+    are_admitted(&rt, &node, &packets);
+    Ok(())
+}
+
+// What would raise a number to its limit isn't admitted, nor is an item past the last time.
+#[test]
+fn numbers_and_times_have_limits(rt: HostRuntime) -> Result<(), Fail> {
+    let node = opened(&rt, rt.alloc(), ONE, 1, Which::B)?;
+    let partner = replica(1, Which::A);
+    let (inc, term, target, upto) = (1, LIMIT, LIMIT, LIMIT);
+    let (edge, number, produced) = (0, 1, 1);
+    let count = |count: u64| chunk(Entry::Count { count });
+    let low = Entry::Low {
+        edge,
+        upto,
+        produced,
+    };
+    let head = |number: u64, item: Item| chunk(Entry::Head { edge, number, item });
+    let kept = |item: Item| chunk(Entry::Kept { edge, number, item });
+    let packets = [
+        (control(1), Body::Begin { inc: LIMIT - 1 }, true),
+        (control(1), Body::Begin { inc: LIMIT }, false),
+        (control(1), Body::Lead { inc, term }, false),
+        (control(1), Body::Serve { inc, target }, false),
+        (partner, count(LIMIT - 1), true),
+        (partner, count(LIMIT), false),
+        (partner, chunk(low), false),
+        (partner, head(1, bought(1)), true),
+        (partner, head(LIMIT, bought(1)), false),
+        (partner, head(1, late()), false),
+        (partner, kept(bought(1)), true),
+        (partner, kept(late()), false),
     ];
     are_admitted(&rt, &node, &packets);
     Ok(())
@@ -205,5 +238,35 @@ fn a_move_has_to_be_whole(rt: HostRuntime) -> Result<(), Fail> {
         (partner, Body::ChunkEnd { inc: 3, count: 1 }, true),
     ];
     are_admitted(&rt, &node, &packets);
+    Ok(())
+}
+
+// A replica with two out-edges that began anew and took the lows of these.
+fn told(rt: &impl Abort, alloc: Global, [first, second]: [u32; 2]) -> Result<Node, OutOfMemory> {
+    let (inc, upto, produced) = (2, 0, 0);
+    let low = |number: u64, edge: u32| {
+        let entry = Entry::Low {
+            edge,
+            upto,
+            produced,
+        };
+        Event::Give(replica(1, Which::A), Body::Chunk { inc, number, entry })
+    };
+    let steps = [
+        (Event::Give(control(1), Body::Begin { inc }), None),
+        (low(1, first), None),
+        (low(2, second), None),
+    ];
+    after(rt, alloc, SPLIT, Which::B, &steps)
+}
+
+// A move tells each out-edge once, in order.
+#[test]
+fn a_move_tells_each_out_edge(rt: HostRuntime) -> Result<(), Fail> {
+    let end = Body::ChunkEnd { inc: 2, count: 2 };
+    for (edges, whole) in [([0, 1], true), ([0, 0], false), ([1, 0], false)] {
+        let node = told(&rt, rt.alloc(), edges)?;
+        are_admitted(&rt, &node, &[(replica(1, Which::A), end, whole)]);
+    }
     Ok(())
 }
