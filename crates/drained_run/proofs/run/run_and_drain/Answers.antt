@@ -4,8 +4,8 @@ use Rattle.drained_run.proofs.Ending.{given, run_ends}
 use Rattle.drained_run.proofs.Joined.{mergeable}
 use Rattle.drained_run.proofs.run.run_and_drain.Goals as goal
 
-pub of-requires-clause-given : goal.of-requires-clause-given
-of-requires-clause-given g c = given c.args.plan.now (inputs_in c.args.trades.now) c.args.script.now c.in_ok-ingress.field-0 c.stages-stages.ensures.limits c.in_ok-ingress.ensures
+pub of-requires : goal.of-requires
+of-requires g c = record { given = given c.args.plan.now (inputs_in c.args.trades.now) c.args.script.now c.in_ok-ingress.field-0 c.stages-stages.ensures.limits c.in_ok-ingress.ensures }
 
 pub returns : goal.returns
 returns g c = run_ends c.args.plan.now (inputs_in c.args.trades.now) c.args.script.now c.in_ok-ingress.field-0 c.stages-stages.ensures.limits c.in_ok-ingress.ensures

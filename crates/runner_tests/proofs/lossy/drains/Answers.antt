@@ -3,5 +3,5 @@ use Rattle.trade_text.specs.TradesView.{inputs_in}
 use Rattle.drained_run.proofs.Ending.{given}
 use Rattle.runner_tests.proofs.lossy.drains.Goals as goal
 
-pub of-requires-clause-given : goal.of-requires-clause-given
-of-requires-clause-given g c = given c.args.story.now.plan (inputs_in c.args.story.now.trades) c.args.story.now.script c.args.outcome.ran c.stages-stages.ensures.limits c.requires
+pub of-requires : goal.of-requires
+of-requires g c = record { given = given c.args.story.now.plan (inputs_in c.args.story.now.trades) c.args.story.now.script c.args.outcome.ran c.stages-stages.ensures.limits c.requires }
