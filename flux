@@ -96,6 +96,8 @@ came in and how many rows went out, and the sums of their quantities and values.
   COUNT       how many trades, 0 to 100000
   options     those of run: --cash, --script, --threads, --turns, --journal
 
+Where a pair is lost, nothing is written.
+
 Try it, in this repository:
 
   ./flux trial examples/failures/large.txt 7 100000 --threads 2
@@ -160,7 +162,7 @@ TEXT
 version() {
   local commit
   commit=$([ -e "$top/.git" ] && git -C "$top" describe --tags --always --dirty 2>/dev/null) || commit="of a commit that isn't known"
-  echo "flux $commit"
+  cat <<<"flux $commit"
 }
 
 answer() { "$1" 2>/dev/null || { echo "flux: cannot write" >&2; exit 5; }; exit 0; }
@@ -181,7 +183,7 @@ add flux_main
 # The names and contents of all that the program is made from, so that a file that is gone is a change too.
 sources() {
   (cd "$top" && find crates.txt "${crates[@]/#/crates/}" -name out -prune -o -type f -name '*.rt' -print0 \
-    -o -type f -name '*.antt' -print0 -o -name crates.txt -print0 | sort -z | xargs -0 sha256sum | sha256sum)
+    -o -type f -name '*.antt' -print0 -o -name crates.txt -print0 | LC_ALL=C sort -z | xargs -0 sha256sum | sha256sum)
 }
 keep() { { echo "$1"; sha256sum <"$program"; } >"$stamp"; }
 is_fresh() { [ -x "$program" ] && [ -e "$stamp" ] && [ "$(sources; sha256sum <"$program")" = "$(cat "$stamp")" ]; }
@@ -198,7 +200,7 @@ build() {
     command=(rt lib)
     [ "$crate" = flux_main ] && command=(rt run -- eval data/p.txt data/t.csv)
     if ! (cd "$top/crates/$crate" && exec "${command[@]}") >>"$log" 2>&1 </dev/null; then
-      echo "flux: the build failed at $crate; the log says last:" >&2
+      echo "flux: the build failed at $crate; $log has all that was said, and last:" >&2
       grep -vE '^(statements|library|crate|logic) |: proved$' "$log" | tail -n 20 | cut -c 1-300 >&2
       exit 70
     fi
