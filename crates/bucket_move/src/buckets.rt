@@ -116,8 +116,8 @@ impl Buckets {
         Ok(())
     }
 
-    /// Works rows, each at its bucket's partition, all partitions at once, and appends the answers in
-    /// the order of the rows. Where memory runs out, `emitted` stays as it was, and nothing can be fed
+    /// Works rows, each at its bucket's partition, partitions at once where there are many rows, and appends the answers
+    /// in the order of the rows. Where memory runs out, `emitted` stays as it was, and nothing can be fed
     /// or moved any more.
     pub fn feed<R: Threads + Sync>(&mut self, rt: &R, rows: &[Row]) -> Result<(), OutOfMemory>
         requires whole { self.old.failed ≡ false }
@@ -147,7 +147,7 @@ impl Buckets {
     }
 
     /// Hands a bucket to a partition: what is kept of its rows goes there whole, and no entry of it is
-    /// copied. It takes no memory.
+    /// copied. It takes no memory, and always answers Ok.
     pub fn move_bucket(&mut self, bucket: u32, to: u32) -> Result<(), OutOfMemory>
         requires whole { self.old.failed ≡ false }
         requires bucket { bucket < buckets }

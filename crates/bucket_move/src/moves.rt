@@ -7,7 +7,7 @@ use std::marker::Model;
 use tuple_edge::OutOfMemory;
 
 /// One move: a bucket goes to a partition, for the rows whose stamp is above `at`, where there are at
-/// least so many rows.
+/// least so many rows. `at` is a positive multiple of the plan's mark, the bucket 0 to 63, and `to` a partition from 0.
 #[derive(Clone, Copy, Debug, PartialEq, Eq)]
 pub struct Shift {
     pub at: u64,

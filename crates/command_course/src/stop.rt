@@ -13,8 +13,10 @@ pub enum Stop {
     CannotRead { line: String },
     /// A file can't be saved, or the sink took no more.
     CannotWrite,
-    /// A pair lost both of its replicas before all rows were emitted, as this line says. What was emitted is written.
+    /// A pair lost both of its replicas before all rows were emitted, as this line says. `run` writes the rows that were
+    /// emitted, and `trial` nothing.
     PairLost { stage: u32, part: u32, line: String },
+    /// No memory was to be had.
     OutOfMemory,
 }
 

@@ -25,7 +25,7 @@ use std::thread::Threads;
 use tuple_edge::Drained;
 
 /// Does what the words after the program's name ask for, and gives the status: 0 where it is done, 2 where
-/// the words have no form, 3 where an input is refused, 4 where a file can't
+/// the words have no form, 3 where an input or an event of `replay` is refused, 4 where a file can't
 /// be read, 5 where the journal can't be saved or `out` took not all, 6 where a pair was lost before all was
 /// emitted, 8 where no memory was to be had. One line goes to `err` for each status but 0. The gate is called
 /// at each turn of a run's workers; no call waits.

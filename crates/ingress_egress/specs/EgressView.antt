@@ -74,7 +74,7 @@ acknowledgements stages q mark =
     let ack = body.Ack (record { stage = stages; from = q; to = 0 }) mark in
     (node.Replica stages q A, ack) ∷ (node.Replica stages q B, ack) ∷ []
 
--- what a piece of work comes to: egress after it, what was sent, and whether there was any
+-- what a piece of work comes to: the node after it, what was sent, and whether there was any
 pub record WorkDone (V : Type 0) : Type 0 where
   pub after : V
   pub sent : List (NodeId × Body)

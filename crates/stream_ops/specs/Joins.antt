@@ -39,7 +39,7 @@ right_rows left rows = filter (λ r. not (left r)) rows
 abbrev pub rows_across : (Row → Bool) → Row → List Row → List Row
 rows_across left r rows = if left r then right_rows left rows else left_rows left rows
 
--- the row that tells of two rows of a key: the sums of both, at the time of the later one
+-- the row that tells of two rows of a key: the sums of both, at the time of the one that is answered
 abbrev pub pair_row : Key → Row → Row → Row
 pair_row k r other = sums_row r.time k (sums_with (amounts r) (amounts other))
 

@@ -43,7 +43,7 @@ opened_by width r = record { number = window_of width r; start = window_of width
 abbrev pub window_late : OpenWindow → Row → OpenWindow
 window_late opened r = record { number = opened.number; start = opened.start; sums = sums_with opened.sums (amounts r) }
 
--- a key's opened window after one more row, which alone would opened `next`
+-- a key's opened window after one more row, which alone would open `next`
 abbrev pub window_with : Option OpenWindow → OpenWindow → Row → OpenWindow
 window_with None next r = next
 window_with (Some opened) next r =

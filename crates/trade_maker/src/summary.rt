@@ -10,7 +10,7 @@ use std::alloc::Global;
 use trade_text::Trades;
 use tuple_edge::{Column, OutOfMemory, Row, saturating_sum_of};
 
-// Room for the four lines: their names, and four numbers of at most 20 bytes.
+// Room for the four lines, which have 106 bytes at most: their names, and four numbers of at most 20 bytes.
 const SUMMARY_BYTES: usize = 110;
 
 // The sum of a column of rows, in order.

@@ -31,7 +31,7 @@ pub record IsBetween (least most z : ℤ) : Type 0 where
   pub low : least ≤ℤ z
   pub high : z ≤ℤ most
 
--- a row is that of a trade or of a cash movement: each field lies within its limits, and a movement has symbol 0 and quantity 0
+-- a row may be that of a trade or of a cash movement: each field lies within its limits, among them a movement's symbol 0 and quantity 0
 pub record IsInputRow (r : Row) : Type 0 where
   pub time : IsBetween (pos 0) (pos max_seconds) r.time
   pub account : IsBetween (pos 1) (pos max_account) r.account

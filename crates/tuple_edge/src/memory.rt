@@ -3,7 +3,7 @@ use std::alloc::{AllocError, AllocFailed};
 use std::error::Error;
 use std::fmt;
 
-/// No memory was to be had. What the call was given is as it was before.
+/// No memory was to be had. What the call was given is as it was before, unless the call says otherwise.
 #[derive(Clone, Copy, Debug, PartialEq, Eq)]
 pub struct OutOfMemory;
 

@@ -1,7 +1,8 @@
 // What nodes send to each other.
 use crate::{EdgeId, Item, Key};
 
-/// One entry of a move, by which a restarted replica takes over its partner's state.
+/// One entry of a move, by which a restarted replica takes over its partner's state. An in-edge is named by its source,
+/// an out-edge by its target, from 0.
 #[derive(Clone, Copy, Debug, PartialEq, Eq)]
 pub enum Entry {
     /// The number of the last item taken of an in-edge.
@@ -31,7 +32,8 @@ pub enum Entry {
         number: u64,
         item: Item,
     },
-    /// What the operator keeps of a key, at a slot of it.
+    /// What the operator keeps of a key, at a slot of it: `a` and `b` are a quantity and a value, of one row or summed,
+    /// and `c` is the number of a window, or 0.
     Keyed {
         key: Key,
         slot: u32,
