@@ -33,23 +33,35 @@ fn with_a_pair_lost_the_rows_before_are_written(rt: HostRuntime) -> Result<(), F
     Ok(())
 }
 
-// An order of a script, with the two events that it comes to.
+// A plan and an order of a script, with the two events that it comes to.
 struct Failure {
+    plan: &'static str,
     order: &'static str,
     fails: &'static str,
     back: &'static str,
 }
 
-const FAILURES: [Failure; 2] = [
+// Purchases beside the sales of their account in the same minute, and sales beside the purchases.
+const JOIN: &str = "flux 2\nstage 1 parts 1 by account join account 60 2 qty > 0\n";
+
+const FAILURES: [Failure; 3] = [
     Failure {
+        plan: ONE,
         order: "kill 1.0.a",
         fails: "kill 1.0.a",
         back: "askback 1.0.a",
     },
     Failure {
+        plan: ONE,
         order: "stop 1.0.b",
         fails: "askstop 1.0.b",
         back: "askback 1.0.b",
+    },
+    Failure {
+        plan: JOIN,
+        order: "stop 1.0.a",
+        fails: "askstop 1.0.a",
+        back: "askback 1.0.a",
     },
 ];
 
@@ -66,7 +78,19 @@ const TIMES: [(u32, u32); 9] = [
     (500, 500),
 ];
 
-// Whether a run writes this text, fails and comes back as its script says, and is replayed to the same rows.
+// How many rows the text of an output has: all lines but the first one and the last one, which counts them.
+fn rows_in(text: &[u8]) -> usize {
+    let mut lines = 0usize;
+    for byte in text {
+        if *byte == b'\n' {
+            lines = lines.saturating_add(1);
+        }
+    }
+    lines.saturating_sub(2)
+}
+
+// Whether a run writes this text, fails and comes back as its script says, and is replayed to the same rows. Egress has
+// then merged these, fifteen marks and the end.
 fn goes_on<R: Threads + Sync>(
     rt: &R,
     alloc: Global,
@@ -80,13 +104,13 @@ fn goes_on<R: Threads + Sync>(
     let fired = has_line(journal, failure.fails) && has_line(journal, failure.back);
     let replay = call(rt, alloc, "replay p.txt t.csv j.txt", files)?;
     let mut rows = emitted(alloc, replay.out.taken())?;
-    rows.extend_from_slice(b"rows,1000\n")?;
-    Ok(
-        fired
-            && run.out.taken() == want
-            && has_line(replay.out.taken(), "out count=1016 done=1")
-            && rows.as_slice() == want,
-    )
+    let count = rows_in(want);
+    rows.extend_from_slice(format!(in alloc; "rows,{count}\n")?.as_bytes())?;
+    let merged = count.saturating_add(16);
+    let end = format!(in alloc; "out count={merged} done=1")?;
+    let written = run.status == 0 && run.out.taken() == want;
+    let replayed = replay.status == 0 && has_line(replay.out.taken(), &end);
+    Ok(fired && written && replayed && count > 0 && rows.as_slice() == want)
 }
 
 // The first times at which a run doesn't.
@@ -112,9 +136,9 @@ fn first_stuck<R: Threads + Sync>(
 fn at_any_count_a_replica_fails_and_comes_back(rt: HostRuntime) -> Result<(), Fail> {
     let alloc = rt.alloc();
     let trades = made(&rt, alloc, "make 1 1000")?;
-    let mut files = files_of(alloc, ONE, &trades)?;
-    let eval = call(&rt, alloc, "eval p.txt t.csv", &mut files)?;
     for failure in &FAILURES {
+        let mut files = files_of(alloc, failure.plan, &trades)?;
+        let eval = call(&rt, alloc, "eval p.txt t.csv", &mut files)?;
         let stuck = first_stuck(&rt, alloc, &mut files, failure, eval.out.taken())?;
         assert_eq!(rt; stuck, None, "{}", failure.order);
     }

@@ -15,12 +15,13 @@ enum Text {
     Made(&'static str),
 }
 
-// A call of `flux` and what it ends with. `third` is the file beside the plan and the trades, whatever its name.
+// A call of `flux` and what it ends with. `third` is the script, the events or the moves.
 #[derive(Clone, Copy)]
 struct Case {
     line: &'static str,
     plan: Text,
     trades: Text,
+    cash: Text,
     third: Text,
     // The calls of files, of `out` and of `err` that fail, and the most bytes that `out` takes at once.
     failing_calls: &'static [u64],
@@ -37,6 +38,7 @@ const REFUSED: Case = Case {
     line: "",
     plan: Text::Is(ONE),
     trades: Text::Is(THREE_TRADES),
+    cash: Text::Is(CASH),
     third: Text::Is(""),
     failing_calls: &[],
     failing_puts: &[],
@@ -49,7 +51,7 @@ const REFUSED: Case = Case {
 
 const CANNOT_WRITE: &str = "flux: cannot write\n";
 
-static CASES: [Case; 35] = [
+static CASES: [Case; 43] = [
     // Files that fail.
     Case {
         line: "run p.txt t.csv",
@@ -76,7 +78,6 @@ static CASES: [Case; 35] = [
     Case {
         line: "run p.txt t.csv --script s.txt --cash c.csv",
         plan: Text::Is(WITH_CASH),
-        third: Text::Is(CASH),
         failing_calls: &[4],
         status: 4,
         said: "flux: s.txt: cannot read\n",
@@ -85,7 +86,6 @@ static CASES: [Case; 35] = [
     Case {
         line: "replay p.txt t.csv e.txt --cash c.csv",
         plan: Text::Is(WITH_CASH),
-        third: Text::Is(CASH),
         failing_calls: &[4],
         status: 4,
         said: "flux: e.txt: cannot read\n",
@@ -124,7 +124,6 @@ static CASES: [Case; 35] = [
     Case {
         line: "run p.txt t.csv --journal j.txt --cash c.csv",
         plan: Text::Is(WITH_CASH),
-        third: Text::Is(CASH),
         failing_calls: &[4],
         status: 5,
         said: CANNOT_WRITE,
@@ -175,8 +174,33 @@ static CASES: [Case; 35] = [
         ..REFUSED
     },
     Case {
+        line: "eval p.txt t.csv --cash c.csv",
+        plan: Text::Is(WITH_CASH),
+        most: 0,
+        status: 5,
+        said: CANNOT_WRITE,
+        ..REFUSED
+    },
+    Case {
+        line: "run p.txt t.csv --threads 1 --cash c.csv --script s.txt",
+        plan: Text::Is(WITH_CASH),
+        trades: Text::Made("make 1 1000"),
+        third: Text::Is(BOTH_FAIL),
+        failing_puts: &[1],
+        status: 5,
+        said: CANNOT_WRITE,
+        ..REFUSED
+    },
+    Case {
         line: "eval p.txt t.csv",
         trades: Text::Is(""),
+        failing_lines: &[1],
+        ..REFUSED
+    },
+    Case {
+        line: "eval p.txt t.csv --cash c.csv",
+        plan: Text::Is(WITH_CASH),
+        cash: Text::Is(""),
         failing_lines: &[1],
         ..REFUSED
     },
@@ -202,7 +226,7 @@ static CASES: [Case; 35] = [
     Case {
         line: "run p.txt t.csv --cash c.csv",
         plan: Text::Is(WITH_CASH),
-        third: Text::Long(16_777_217),
+        cash: Text::Long(16_777_217),
         said: "flux: c.csv: too long\n",
         ..REFUSED
     },
@@ -251,21 +275,55 @@ static CASES: [Case; 35] = [
     Case {
         line: "run p.txt t.csv --cash c.csv",
         plan: Text::Is(WITH_CASH),
+        cash: Text::Is(""),
         said: "flux: c.csv: header\n",
         ..REFUSED
     },
     Case {
         line: "run p.txt t.csv --cash c.csv",
         plan: Text::Is(WITH_CASH),
-        third: Text::Is("time,account\n34205,7\n"),
+        cash: Text::Is("time,account\n34205,7\n"),
         said: "flux: c.csv: header\n",
         ..REFUSED
     },
     Case {
         line: "run p.txt t.csv --cash c.csv",
         plan: Text::Is(WITH_CASH),
-        third: Text::Is("time,account,amount\n34205,7"),
+        cash: Text::Is("\u{feff}\u{feff}time,account,amount\n"),
+        said: "flux: c.csv: header\n",
+        ..REFUSED
+    },
+    Case {
+        line: "run p.txt t.csv --cash c.csv",
+        plan: Text::Is(WITH_CASH),
+        cash: Text::Is("time,account,amount\n34205,7"),
         said: "flux: c.csv: record 2: fields\n",
+        ..REFUSED
+    },
+    Case {
+        line: "run p.txt t.csv --cash c.csv --script s.txt",
+        plan: Text::Is(WITH_CASH),
+        third: Text::Is("kill 1.0.a at"),
+        said: "flux: s.txt: line 1: grammar\n",
+        ..REFUSED
+    },
+    Case {
+        line: "replay p.txt t.csv e.txt --cash c.csv",
+        plan: Text::Is(WITH_CASH),
+        third: Text::Is("events 1\ntake in>1.0.a"),
+        said: "flux: e.txt: line 2: grammar\n",
+        ..REFUSED
+    },
+    Case {
+        line: "replay p.txt t.csv e.txt --cash c.csv",
+        plan: Text::Is(WITH_CASH),
+        said: "flux: e.txt: header\n",
+        ..REFUSED
+    },
+    Case {
+        line: "move p.txt t.csv m.txt",
+        third: Text::Is("moves 1\nat 3 bucket 7 to 0\n"),
+        said: "flux: m.txt: line 2: range\n",
         ..REFUSED
     },
     // Files that don't belong together. The first that is faulty is named, and none is read after it.
@@ -281,7 +339,6 @@ static CASES: [Case; 35] = [
     },
     Case {
         line: "run p.txt t.csv --cash c.csv",
-        third: Text::Is(CASH),
         failing_calls: &[2],
         said: "flux: c.csv: not in the plan\n",
         ..REFUSED
@@ -289,6 +346,7 @@ static CASES: [Case; 35] = [
     Case {
         line: "run p.txt t.csv --script s.txt --cash c.csv",
         plan: Text::Is(WITH_CASH),
+        cash: Text::Is("time\n"),
         third: Text::Is(BOTH_FAIL),
         failing_calls: &[4],
         said: "flux: c.csv: header\n",
@@ -297,7 +355,6 @@ static CASES: [Case; 35] = [
     Case {
         line: "run p.txt t.csv --script c.csv --cash c.csv",
         plan: Text::Is(WITH_CASH),
-        third: Text::Is(CASH),
         said: "flux: c.csv: line 1: grammar\n",
         ..REFUSED
     },
@@ -317,8 +374,9 @@ fn files_for<R: Threads + Sync>(rt: &R, alloc: Global, case: &Case) -> Result<Me
     let mut files = MemFiles::new(alloc, case.failing_calls.to_vec(alloc)?);
     files.put_file("p.txt", &bytes_of(rt, alloc, &case.plan)?)?;
     files.put_file("t.csv", &bytes_of(rt, alloc, &case.trades)?)?;
+    files.put_file("c.csv", &bytes_of(rt, alloc, &case.cash)?)?;
     let third = bytes_of(rt, alloc, &case.third)?;
-    for name in ["s.txt", "c.csv", "e.txt", "m.txt"] {
+    for name in ["s.txt", "e.txt", "m.txt"] {
         files.put_file(name, &third)?;
     }
     Ok(files)
