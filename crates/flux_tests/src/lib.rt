@@ -11,8 +11,6 @@ mod fixture;
 #[cfg(test)]
 mod made;
 #[cfg(test)]
-mod memory;
-#[cfg(test)]
 mod outside;
 #[cfg(test)]
 mod plans;

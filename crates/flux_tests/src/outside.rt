@@ -1,7 +1,7 @@
 // The files and sinks themselves: in memory, and the system's.
 use flux_outside::{FileStop, Files, Got, MemFiles, Sink, StdFiles, StdSink};
 use std::alloc::{AllocError, Global};
-use std::io::{self, PipeWriter, Write};
+use std::io::{self, PipeWriter, Read, Write};
 use std::os::fd::AsRawFd;
 use std::test::Fail;
 use std::thread;
@@ -35,27 +35,27 @@ fn files_hold_what_was_saved(rt: HostRuntime) -> Result<(), Fail> {
     Ok(())
 }
 
-// A file of some hundred thousand bytes is read whole, however many buffers that takes, and to its last
-// byte where that is the most that is allowed.
+// A file of as many bytes as trades may have is read whole, however many buffers that takes, and to its last byte where
+// that is the most that is allowed.
 #[test]
 fn a_large_file_is_read_whole(rt: HostRuntime) -> Result<(), Fail> {
     let alloc = rt.alloc();
-    let mut bytes = Vec::with_capacity(alloc, 300_001)?;
-    for place in 0..300_001u32 {
+    let mut bytes = Vec::with_capacity(alloc, 16_777_216)?;
+    for place in 0..16_777_216u32 {
         bytes.push((place % 251) as u8)?;
     }
     let mut files = StdFiles::new(&rt, alloc);
     assert_eq!(rt; files.save("large.bin", &bytes), Ok(()));
     let mut whole = Vec::new(alloc);
     assert_eq!(rt;
-        files.read("large.bin", 300_001, &mut whole),
+        files.read("large.bin", 16_777_216, &mut whole),
         Ok(Got::Whole)
     );
     assert!(rt; whole.as_slice() == bytes.as_slice());
     let mut cut = Vec::new(alloc);
     assert_eq!(rt;
-        files.read("large.bin", 300_000, &mut cut),
-        Ok(Got::TooLong { seen: 300_001 })
+        files.read("large.bin", 16_777_215, &mut cut),
+        Ok(Got::TooLong { seen: 16_777_216 })
     );
     Ok(())
 }
@@ -91,7 +91,12 @@ fn a_pipe_is_read_whole(rt: HostRuntime) -> Result<(), Fail> {
 }
 
 #[test]
-fn a_writer_is_a_sink(rt: HostRuntime) {
-    let mut sink = StdSink::new(rt.stdout());
+fn a_writer_is_a_sink(rt: HostRuntime) -> Result<(), Fail> {
+    let (mut reader, writer) = io::pipe(&rt)?;
+    let mut sink = StdSink::new(writer);
     assert_eq!(rt; sink.put(b"taken\n"), Ok(6));
+    let mut bytes = [0u8; 16];
+    let count = reader.read(&mut bytes)?;
+    assert_eq!(rt; bytes.get(..count), Some(b"taken\n".as_slice()));
+    Ok(())
 }

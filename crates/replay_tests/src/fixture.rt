@@ -25,7 +25,7 @@ pub(crate) fn buys(alloc: Global, count: u32) -> Result<String, Fail> {
     Ok(text)
 }
 
-/// What a call came to: the status, and the text that it wrote or, at another status than 0, what it said.
+/// What a call came to: the status, and the text that it wrote, with what it said behind.
 #[derive(Drop)]
 pub(crate) struct Seen {
     pub(crate) status: u8,
@@ -53,8 +53,9 @@ pub(crate) fn replay<R: Threads + Sync>(
     let mut out = MemSink::new(alloc, Vec::new(alloc), usize::MAX, 10_000)?;
     let mut err = MemSink::new(alloc, Vec::new(alloc), usize::MAX, 1_000)?;
     let status = flux(rt, alloc, &words, &mut files, &mut out, &mut err, &FreeGate);
-    let told = if status == 0 { &out } else { &err };
-    let text = String::from_utf8(told.taken().to_vec(alloc)?)?;
+    let mut told = out.taken().to_vec(alloc)?;
+    told.extend_from_slice(err.taken())?;
+    let text = String::from_utf8(told)?;
     Ok(Seen { status, text })
 }
 
