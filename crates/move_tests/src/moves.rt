@@ -82,31 +82,12 @@ fn moves(rt: &impl Abort, alloc: Global, spec: OpSpec) -> Result<(), Fail>
 }
 
 #[test]
-fn totals_are_moved(rt: HostRuntime) -> Result<(), Fail> {
-    moves(&rt, rt.alloc(), total())
-}
-
-#[test]
-fn last_rows_are_moved(rt: HostRuntime) -> Result<(), Fail> {
-    moves(&rt, rt.alloc(), last())
-}
-
-#[test]
-fn windows_are_moved(rt: HostRuntime) -> Result<(), Fail> {
-    moves(&rt, rt.alloc(), window())
-}
-
-#[test]
-fn crossings_are_moved(rt: HostRuntime) -> Result<(), Fail> {
-    moves(&rt, rt.alloc(), crossing())
-}
-
-#[test]
-fn joins_are_moved(rt: HostRuntime) -> Result<(), Fail> {
-    moves(&rt, rt.alloc(), join())
-}
-
-#[test]
-fn an_operator_that_keeps_nothing_is_moved(rt: HostRuntime) -> Result<(), Fail> {
-    moves(&rt, rt.alloc(), keep())
+fn each_operator_is_moved(rt: HostRuntime) -> Result<(), Fail> {
+    let alloc = rt.alloc();
+    moves(&rt, alloc, total())?;
+    moves(&rt, alloc, last())?;
+    moves(&rt, alloc, window())?;
+    moves(&rt, alloc, crossing())?;
+    moves(&rt, alloc, join())?;
+    moves(&rt, alloc, keep())
 }

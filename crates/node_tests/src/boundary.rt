@@ -1,11 +1,11 @@
-// Ingress and egress of one plan, each call after the test that says beforehand that it may be made.
+// Ingress and egress of one plan, and the steps of a test: what is done with them, and what has to come of it.
 use ingress_egress::{Egress, Ingress, Made};
 use plan_reader::{Plan, read_plan};
 use std::alloc::Global;
 use std::process::Abort;
 use std::test::Fail;
 use trade_text::{Trades, read_cash, read_trades};
-use tuple_edge::{Body, EdgeId, Item, NodeId, OutOfMemory, Outbox, Which, Worked};
+use tuple_edge::{Body, Item, NodeId, OutOfMemory, Outbox, Row, Which, Worked};
 
 pub(crate) const NAMES: &[u8] = b"time,account,symbol,side,qty,price\n";
 
@@ -14,30 +14,72 @@ pub(crate) fn replica(stage: u32, part: u32, which: Which) -> NodeId {
     NodeId::Replica { stage, part, which }
 }
 
-pub(crate) fn edge(stage: u32, from: u32, to: u32) -> EdgeId {
-    EdgeId { stage, from, to }
+/// A step of a test.
+#[derive(Clone, Copy)]
+pub(crate) enum Step {
+    // Ingress makes so many inputs, or the end, one after another; then it has none left to make.
+    Makes(u64),
+    MakesNoMore,
+    // So many makes were done.
+    Made(u64),
+    // A source has produced so many items on an edge, and keeps this one under its number.
+    Produced {
+        source: u32,
+        to: u32,
+        count: u64,
+    },
+    Kept {
+        source: u32,
+        to: u32,
+        number: u64,
+        item: Option<Item>,
+    },
+    // Ingress is given a packet, which has to be admitted.
+    GiveIngress {
+        from: NodeId,
+        body: Body,
+    },
+    // A piece of ingress' work sends just this packet; so many pieces send something; none is due.
+    IngressSends(NodeId, Body),
+    IngressSendsSome(u64),
+    IngressIsIdle,
+    // Egress is given a packet, which has to be admitted; the next item of an edge; all that ingress keeps.
+    GiveEgress {
+        from: NodeId,
+        body: Body,
+    },
+    Pull {
+        edge: u32,
+        item: Item,
+    },
+    HandOn,
+    // A piece of egress' work merges an item and sends nothing; sends just this body to both replicas of a partition of the
+    // last stage; none is due.
+    EgressMerges,
+    EgressSends {
+        stage: u32,
+        part: u32,
+        body: Body,
+    },
+    EgressIsIdle,
+    // Egress has emitted these rows, and whether it is done.
+    Emitted {
+        rows: &'static [Row],
+        done: bool,
+    },
 }
 
-// The two nodes of a plan over its inputs, and what the last piece of work sent.
+/// The two nodes of a plan over its inputs, and what the last piece of work sent.
 #[derive(Drop)]
 pub(crate) struct Boundary {
     pub(crate) plan: Plan,
-    pub(crate) trades: Trades,
     pub(crate) ingress: Ingress,
     pub(crate) egress: Egress,
-    pub(crate) out: Outbox,
+    out: Outbox,
 }
 
-// The nodes as they open; without movements where their text is empty.
-pub(crate) fn opened(
-    alloc: Global,
-    plan: &[u8],
-    trades: &[u8],
-    cash: &[u8],
-) -> Result<Boundary, OutOfMemory> {
-    let Ok(plan) = read_plan(alloc, plan) else {
-        return Err(OutOfMemory);
-    };
+// The trades of a text, with its movements; without movements where their text is empty.
+fn inputs(alloc: Global, trades: &[u8], cash: &[u8]) -> Result<Trades, OutOfMemory> {
     let Ok(mut trades) = read_trades(alloc, trades) else {
         return Err(OutOfMemory);
     };
@@ -48,133 +90,180 @@ pub(crate) fn opened(
         };
         trades.merge_cash(&cash)?;
     }
-    let ingress = Ingress::new(alloc, &plan, &trades)?;
-    let egress = Egress::new(alloc, &plan)?;
-    let out = Outbox::new(alloc);
+    Ok(trades)
+}
+
+// The nodes as they open.
+pub(crate) fn opened(
+    alloc: Global,
+    plan: &[u8],
+    trades: &[u8],
+    cash: &[u8],
+) -> Result<Boundary, OutOfMemory> {
+    let Ok(plan) = read_plan(alloc, plan) else {
+        return Err(OutOfMemory);
+    };
+    let trades = inputs(alloc, trades, cash)?;
     Ok(Boundary {
+        ingress: Ingress::new(alloc, &plan, &trades)?,
+        egress: Egress::new(alloc, &plan)?,
+        out: Outbox::new(alloc),
         plan,
-        trades,
-        ingress,
-        egress,
-        out,
     })
 }
 
+// Each of the steps comes to what it has to.
+pub(crate) fn check(
+    rt: &impl Abort,
+    alloc: Global,
+    plan: &[u8],
+    trades: &[u8],
+    cash: &[u8],
+    steps: &[Step],
+) -> Result<(), Fail> {
+    let mut nodes = opened(alloc, plan, trades, cash)?;
+    for (place, step) in steps.iter().enumerate() {
+        let well = nodes.goes(step)?;
+        assert!(rt; well, "at {place}");
+    }
+    Ok(())
+}
+
 impl Boundary {
-    // Makes all inputs and the end.
-    pub(crate) fn make_all(&mut self) -> Result<(), OutOfMemory> {
-        for _make in 0..100_002u32 {
-            if self.ingress.make()? == Made::NoMoreRows {
-                return Ok(());
+    // Whether a step comes to what it has to.
+    fn goes(&mut self, step: &Step) -> Result<bool, OutOfMemory> {
+        match *step {
+            Step::Makes(count) => self.makes(count),
+            Step::MakesNoMore => Ok(self.ingress.make()? == Made::NoMoreRows),
+            Step::Made(count) => Ok(self.ingress.makes() == count),
+            Step::Produced { source, to, count } => Ok(self.produced(source, to) == count),
+            Step::Kept {
+                source,
+                to,
+                number,
+                item,
+            } => Ok(self.kept(source, to, number) == item),
+            Step::GiveIngress { from, body } => Ok(self.give_ingress(from, &body)),
+            Step::IngressSends(to, body) => Ok(
+                self.ingress_works()? && self.has_sent(&[(to, body)]),
+            ),
+            Step::IngressSendsSome(count) => self.ingress_sends(count),
+            Step::IngressIsIdle => Ok(!self.ingress_works()? && self.out.is_empty()),
+            Step::GiveEgress { from, body } => self.give_egress(from, &body),
+            Step::Pull { edge, item } => self.pull(edge, item),
+            Step::HandOn => self.hand_on(),
+            Step::EgressMerges => Ok(self.egress_works()? && self.out.is_empty()),
+            Step::EgressSends { stage, part, body } => self.egress_sends(stage, part, body),
+            Step::EgressIsIdle => Ok(!self.egress_works()? && self.out.is_empty()),
+            Step::Emitted { rows, done } => {
+                Ok(self.egress.emitted() == rows && self.egress.done() == done)
             }
         }
-        Ok(())
     }
 
-    // How many items a source has produced on an edge.
-    pub(crate) fn produced(&self, rt: &impl Abort, source: u32, to: u32) -> u64 {
-        assert!(rt; source < self.ingress.sources());
+    fn makes(&mut self, count: u64) -> Result<bool, OutOfMemory> {
+        let mut all = true;
+        for _make in 0..count {
+            all = all && self.ingress.make()? == Made::Did;
+        }
+        Ok(all)
+    }
+
+    fn produced(&self, source: u32, to: u32) -> u64 {
+        if source >= self.ingress.sources() {
+            return 0;
+        }
         let producer = self.ingress.producer(source);
-        assert!(rt; to < producer.edges());
+        if to >= producer.edges() {
+            return 0;
+        }
         producer.buffer(to).produced()
     }
 
-    // The item of a number that a source keeps for an edge.
-    pub(crate) fn kept(&self, rt: &impl Abort, source: u32, to: u32, number: u64) -> Option<Item> {
-        assert!(rt; source < self.ingress.sources());
+    fn kept(&self, source: u32, to: u32, number: u64) -> Option<Item> {
+        if source >= self.ingress.sources() {
+            return None;
+        }
         let producer = self.ingress.producer(source);
-        assert!(rt; to < producer.edges());
+        if to >= producer.edges() {
+            return None;
+        }
         producer.buffer(to).get(number)
     }
 
-    // Gives ingress a packet, which has to be admitted.
-    pub(crate) fn give_ingress(&mut self, rt: &impl Abort, from: NodeId, body: Body) {
-        assert!(rt; self.ingress.admits(&self.plan, from, &body));
-        self.ingress.on(from, &body);
+    fn give_ingress(&mut self, from: NodeId, body: &Body) -> bool {
+        let admitted = self.ingress.admits(&self.plan, from, body);
+        if admitted {
+            self.ingress.on(from, body);
+        }
+        admitted
     }
 
-    // Gives egress a packet, which has to be admitted.
-    pub(crate) fn give_egress(
-        &mut self,
-        rt: &impl Abort,
-        from: NodeId,
-        body: Body,
-    ) -> Result<(), OutOfMemory> {
-        assert!(rt; self.egress.admits(&self.plan, from, &body));
-        self.egress.on(from, &body)
-    }
-
-    // Hands egress the next item of an edge.
-    pub(crate) fn pull(
-        &mut self,
-        rt: &impl Abort,
-        edge: u32,
-        item: Item,
-    ) -> Result<(), OutOfMemory> {
-        assert!(rt; edge < self.egress.consumer().merge().edges());
-        assert!(rt; self.egress.may_pull(edge));
-        self.egress.pull(edge, item)
-    }
-
-    // One piece of ingress' work; the outbox then has what it sent.
-    pub(crate) fn ingress_works(&mut self) -> Result<Worked, OutOfMemory> {
+    fn ingress_works(&mut self) -> Result<bool, OutOfMemory> {
         self.out.clear();
-        self.ingress.work(&mut self.out)
+        Ok(self.ingress.work(&mut self.out)? == Worked::Did)
     }
 
-    // One piece of egress' work; the outbox then has what it sent.
-    pub(crate) fn egress_works(&mut self, rt: &impl Abort) -> Result<Worked, OutOfMemory> {
-        assert!(rt; self.egress.may_work());
+    fn ingress_sends(&mut self, count: u64) -> Result<bool, OutOfMemory> {
+        let mut all = true;
+        for _piece in 0..count {
+            all = all && self.ingress_works()?;
+        }
+        Ok(all)
+    }
+
+    fn give_egress(&mut self, from: NodeId, body: &Body) -> Result<bool, OutOfMemory> {
+        let admitted = self.egress.admits(&self.plan, from, body);
+        if admitted {
+            self.egress.on(from, body)?;
+        }
+        Ok(admitted)
+    }
+
+    fn pull(&mut self, edge: u32, item: Item) -> Result<bool, OutOfMemory> {
+        if edge >= self.egress.consumer().merge().edges() || !self.egress.may_pull(edge) {
+            return Ok(false);
+        }
+        self.egress.pull(edge, item)?;
+        Ok(true)
+    }
+
+    // What ingress keeps for a partition is handed to egress, as if each stage had passed it on.
+    fn hand_on_to(&mut self, part: u32) -> Result<bool, OutOfMemory> {
+        let mut all = true;
+        for number in 1..=self.produced(0, part) {
+            let Some(item) = self.kept(0, part, number) else {
+                return Ok(false);
+            };
+            all = all && self.pull(part, item)?;
+        }
+        Ok(all)
+    }
+
+    fn hand_on(&mut self) -> Result<bool, OutOfMemory> {
+        Ok(self.hand_on_to(0)? && self.hand_on_to(1)?)
+    }
+
+    fn egress_works(&mut self) -> Result<bool, OutOfMemory> {
+        if !self.egress.may_work() {
+            return Ok(false);
+        }
         self.out.clear();
-        self.egress.work(&mut self.out)
+        Ok(self.egress.work(&mut self.out)? == Worked::Did)
+    }
+
+    fn egress_sends(&mut self, stage: u32, part: u32, body: Body) -> Result<bool, OutOfMemory> {
+        let (a, b) = (
+            replica(stage, part, Which::A),
+            replica(stage, part, Which::B),
+        );
+        Ok(self.egress_works()? && self.has_sent(&[(a, body), (b, body)]))
     }
 
     // Whether the last piece of work sent these packets, and no others.
-    pub(crate) fn has_sent(&self, packets: &[(NodeId, Body)]) -> bool {
+    fn has_sent(&self, packets: &[(NodeId, Body)]) -> bool {
         let mut sent = packets.iter().enumerate();
         self.out.len() == packets.len()
             && sent.all(|(nth, packet)| self.out.get(nth) == Some(*packet))
     }
-}
-
-// A plan of two stages with two partitions each, by hand over the boundary alone: what ingress produced on its edge to a
-// partition is handed to egress as if each stage had passed it on. Egress emits all rows in their order.
-#[test]
-fn hands_all_rows_through(rt: HostRuntime) -> Result<(), Fail> {
-    let plan =
-        b"flux 1\nmark 2\nstage 1 parts 2 by account keep qty > 0\nstage 2 parts 2 by account total account\n";
-    let trades =
-        b"time,account,symbol,side,qty,price\n1,1,A,B,1,1\n1,2,A,B,2,1\n2,3,A,B,3,1\n2,4,A,B,4,1\n3,1,A,B,5,1\n";
-    let mut nodes = opened(rt.alloc(), plan, trades, b"")?;
-    nodes.make_all()?;
-    for part in 0..2u32 {
-        for number in 1..=nodes.produced(&rt, 0, part) {
-            if let Some(item) = nodes.kept(&rt, 0, part, number) {
-                nodes.pull(&rt, part, item)?;
-            }
-        }
-    }
-    for _turn in 0..8u32 {
-        assert!(rt; !nodes.egress.done());
-        assert_eq!(rt; nodes.egress_works(&rt)?, Worked::Did);
-        assert!(rt; nodes.out.is_empty());
-    }
-    assert!(rt; nodes.egress.done());
-    assert_eq!(rt; nodes.egress.emitted(), nodes.trades.rows());
-    for part in 0..2u32 {
-        let upto = nodes.produced(&rt, 0, part);
-        let ack = Body::Ack {
-            edge: edge(2, part, 0),
-            upto,
-        };
-        assert_eq!(rt; nodes.egress_works(&rt)?, Worked::Did);
-        let both = [
-            (replica(2, part, Which::A), ack),
-            (replica(2, part, Which::B), ack),
-        ];
-        assert!(rt; nodes.has_sent(&both));
-    }
-    assert_eq!(rt; nodes.egress_works(&rt)?, Worked::Idle);
-    assert!(rt; nodes.out.is_empty());
-    Ok(())
 }
