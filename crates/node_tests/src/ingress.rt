@@ -62,9 +62,10 @@ fn kept(source: u32, to: u32, number: u64, item: Option<Item>) -> Step {
     }
 }
 
-fn routed() -> [Step; 17] {
+fn routed() -> [Step; 21] {
     [
         Step::Makes(1),
+        Step::Made(1),
         produced(0, 0),
         produced(1, 1),
         Step::Makes(1),
@@ -72,15 +73,18 @@ fn routed() -> [Step; 17] {
         produced(0, 2),
         produced(1, 2),
         Step::Makes(1),
+        Step::Made(3),
         produced(0, 2),
         produced(1, 3),
         Step::Makes(1),
+        Step::Made(4),
         produced(0, 3),
         produced(1, 4),
         Step::MakesNoMore,
         Step::Made(4),
         kept(0, 0, 2, Some(Item::Mark { stamp: 2 })),
         kept(0, 0, 3, Some(Item::End { stamp: 4 })),
+        kept(0, 1, 4, Some(Item::End { stamp: 4 })),
     ]
 }
 
@@ -92,14 +96,15 @@ fn makes_rows_marks_and_the_end(rt: HostRuntime) -> Result<(), Fail> {
     check(&rt, rt.alloc(), plan, trades, b"", &routed())
 }
 
-fn marked() -> [Step; 6] {
+fn marked() -> [Step; 7] {
     [
         Step::Makes(63),
         produced(0, 63),
         Step::Makes(1),
         produced(0, 65),
         kept(0, 0, 65, Some(Item::Mark { stamp: 64 })),
-        Step::Makes(2),
+        Step::Makes(1),
+        produced(0, 66),
     ]
 }
 
