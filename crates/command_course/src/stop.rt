@@ -1,5 +1,4 @@
 // Why a command stops, with the line that says so.
-use flux_outside::Failed;
 use tuple_edge::OutOfMemory;
 
 /// Why a command stops before its text is written whole.
@@ -18,17 +17,6 @@ pub enum Stop {
     PairLost { stage: u32, part: u32, line: String },
     /// No memory was to be had.
     OutOfMemory,
-}
-
-impl From<Failed> for Stop {
-    ghost use Rattle.std.specs.Prelude.{◌≡◌};
-    ghost use Rattle.command_course.specs.declared.stop.Stop.TheVariants as stop;
-
-    ghost from_gives = { λ _ s. s ≡ stop.CannotWrite };
-
-    fn from(_error: Failed) -> Stop {
-        Stop::CannotWrite
-    }
 }
 
 impl From<OutOfMemory> for Stop {

@@ -113,10 +113,6 @@ StopsAtWant None new P = Unit {0}
 StopsAtWant (Some old) None P = ⊥
 StopsAtWant (Some old) (Some new) P = WantsLast old new P
 
--- each call found memory, where wants are told
-abbrev pub FoundMemory : Option Wants → Option Wants → Type 0
-FoundMemory old new = StopsAtWant old new ⊥
-
 -- ---- sinks
 
 -- a piece joins the list of those that were offered, where it is told

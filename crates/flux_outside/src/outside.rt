@@ -7,7 +7,6 @@ ghost use Rattle.flux_outside.specs.declared.outside.FileStop.TheVariants.{OutOf
 ghost use Rattle.flux_outside.specs.Outside.{Call, Explains, Finds, IsHeld, IsOffered, IsRead, Joins, KeepsFront, LeavesOthers, Read, Rose, Save, Takes, TakesPart, Wants, is_counted};
 
 use std::alloc::AllocError;
-use tuple_edge::OutOfMemory;
 
 /// How a read of a file ended.
 #[derive(Clone, Copy, Debug, PartialEq, Eq)]
@@ -31,14 +30,6 @@ impl From<AllocError> for FileStop {
     ghost from_gives = { λ _ stop. stop ≡ OutOfMemory };
 
     fn from(_error: AllocError) -> FileStop {
-        FileStop::OutOfMemory
-    }
-}
-
-impl From<OutOfMemory> for FileStop {
-    ghost from_gives = { λ _ stop. stop ≡ OutOfMemory };
-
-    fn from(_error: OutOfMemory) -> FileStop {
         FileStop::OutOfMemory
     }
 }

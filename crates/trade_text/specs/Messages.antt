@@ -1,9 +1,7 @@
 -- The text of each refusal.
 use Rattle.std.specs.Prelude.{ℕ, List, ◌++◌, codes}
 use Rattle.std.specs.Fmt.{decimal}
-use Rattle.trade_text.specs.Kinds.{Kind, cash_kind, trades_kind}
-use Rattle.trade_text.specs.declared.error.CashField.{CashField}
-use Rattle.trade_text.specs.declared.error.Field.{Field}
+use Rattle.trade_text.specs.Kinds.{Kind}
 use Rattle.trade_text.specs.declared.error.ReadError.{ReadError}
 use Rattle.trade_text.specs.declared.error.ReadError.TheVariants as error
 
@@ -16,9 +14,3 @@ fault_of kind (error.Range rec what) = codes "record " ++ decimal rec ++ codes "
 fault_of kind error.TooMany = codes "too many " ++ kind.rows
 fault_of kind (error.TooLong bytes) = codes "too long"
 fault_of kind error.OutOfMemory = codes "out of memory"
-
-abbrev pub trades_fault : ReadError Field → List ℕ
-trades_fault = fault_of trades_kind
-
-abbrev pub cash_fault : ReadError CashField → List ℕ
-cash_fault = fault_of cash_kind
