@@ -6,10 +6,10 @@ use Rattle.std.specs.List.{list_any}
 use Rattle.std.proofs.lemmas.Bool.Decides.{nat_tests}
 use Rattle.std.proofs.lemmas.List.Elements.{All-head, All-tail}
 use Rattle.tuple_edge.specs.declared.row.Column.{Column}
-use Rattle.plan_reader.specs.Grammar.{fixed_at}
 use Rattle.plan_reader.specs.Lines.{Word, counting_lines}
 use Rattle.plan_reader.specs.Plan.{Said, body_of, hold_at, mark_at, next_stage_at, plan_of, plan_of_lines, plan_said, routing_at, said_in, setting_at, stage_at, stage_number_at, stages_in, statement_at, statements_of, version_at, whole}
 use Rattle.plan_reader.specs.PlanView.{IsJoinLast, IsPlan, IsStage, PlanView, edges, is_joining}
+use Rattle.plan_reader.specs.Reading.{fixed_or}
 use Rattle.plan_reader.specs.Text.{column_name, op_words, plan_lines, plan_text, stage_lines, stage_words}
 use Rattle.plan_reader.specs.Limits.{edges_per_mark, max_hold, max_mark, max_parts, max_plan_bytes, max_stages, max_version, min_hold}
 use Rattle.plan_reader.specs.declared.stage.Stage.{Stage}
@@ -36,7 +36,7 @@ stage_number_back before rest room none =
 
 routing_back : (parts : ℕ) (by : Column) (rest : List Word) → 1 ≤ parts → parts ≤ max_parts
     → routing_at (codes "parts" ∷ decimal parts ∷ codes "by" ∷ column_name by ∷ rest) ≡ Ok ((parts, by), rest)
-unfolding routing_at fixed_at
+unfolding routing_at fixed_or
 routing_back parts by rest some few =
     rw (number_within_back 1 max_parts parts (codes "by" ∷ column_name by ∷ rest) some few (omega arith), column_back by rest) refl
 
@@ -70,7 +70,7 @@ unfolding statement_at hold_at
 hold_back mark n low high = rw (setting_back min_hold max_hold n low high (omega arith)) refl
 
 version_back : (n : ℕ) → 1 ≤ n → n ≤ max_version → version_at (codes "flux" ∷ decimal n ∷ []) ≡ Ok (n, [])
-unfolding version_at fixed_at
+unfolding version_at fixed_or
 version_back n low high = rw (number_within_back 1 max_version n [] low high (omega arith)) refl
 
 -- ---- stages, one after the other

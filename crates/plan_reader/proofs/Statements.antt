@@ -4,8 +4,9 @@ use Rattle.std.specs.Prelude.{Result, Ok, Err}
 use Rattle.std.proofs.lemmas.Bool.Decides.{nat_tests}
 use Rattle.plan_reader.specs.Draft.{drafted_plan, nothing_said, said_after, said_with, said_with_line}
 use Rattle.plan_reader.specs.Lines.{LineView, counting_lines}
-use Rattle.plan_reader.specs.Plan.{Said, at_line, body_of, hold_in, mark_in, plan_of, plan_of_lines, plan_said, said_in, stages_in, statement_at, statements_of, whole}
-use Rattle.plan_reader.specs.Reading.{◌>>=◌}
+use Rattle.plan_reader.specs.Messages.{fault_at}
+use Rattle.plan_reader.specs.Plan.{Said, body_of, hold_in, mark_in, plan_of, plan_of_lines, plan_said, said_in, stages_in, statement_at, statements_of, whole}
+use Rattle.plan_reader.specs.Reading.{◌>>=◌, at_line}
 use Rattle.plan_reader.specs.declared.error.PlanError.{PlanError}
 use Rattle.plan_reader.specs.Limits.{max_plan_bytes}
 use Rattle.plan_reader.specs.declared.statement.Statement.{Statement}
@@ -74,7 +75,7 @@ pub said_after-statements : (before : List Statement) (lines : List LineView) �
 unfolding said_after said_with_line statements_of
 said_after-statements before [] = refl
 said_after-statements before (line ∷ lines) =
-    after_line before lines (at_line line.number (statement_at (said_in before) line.words)) (λ b. said_after-statements b lines)
+    after_line before lines (at_line fault_at line.number (statement_at (said_in before) line.words)) (λ b. said_after-statements b lines)
 
 whole_after : (version : ℕ) (read : Result (List Statement) PlanError) → (kept_after read >>= λ said. whole (plan_said version said)) ≡ (read >>= λ statements. whole (plan_said version (said_in statements)))
 whole_after version (Ok statements) = refl

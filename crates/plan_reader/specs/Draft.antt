@@ -2,9 +2,10 @@
 use Rattle.std.specs.Prelude.{ℕ, false, ◌≡◌, ◌≤◌, ◌<◌, List, [], ◌∷◌, ◌++◌, length, All, Option, Some, None, IfSome, Result, Ok}
 use Rattle.std.specs.List.{list_any}
 use Rattle.plan_reader.specs.Lines.{LineView}
-use Rattle.plan_reader.specs.Plan.{Said, at_line, body_of, plan_said, statement_at, whole}
+use Rattle.plan_reader.specs.Messages.{fault_at}
+use Rattle.plan_reader.specs.Plan.{Said, body_of, plan_said, statement_at, whole}
 use Rattle.plan_reader.specs.PlanView.{IsJoinLast, IsStage, PlanView, is_joining}
-use Rattle.plan_reader.specs.Reading.{◌>>=◌}
+use Rattle.plan_reader.specs.Reading.{◌>>=◌, at_line}
 use Rattle.plan_reader.specs.declared.error.PlanError.{PlanError}
 use Rattle.plan_reader.specs.Limits.{max_hold, max_mark, max_stages, min_hold}
 use Rattle.plan_reader.specs.declared.statement.Statement.{Statement}
@@ -28,7 +29,7 @@ said_with said (says.Stage stage) = record { mark = said.mark; hold = said.hold;
 -- the same with a further line
 unfoldable pub said_with_line : Said → LineView → Result Said PlanError
 said_with_line said line = do
-  next ← at_line line.number (statement_at said line.words)
+  next ← at_line fault_at line.number (statement_at said line.words)
   Ok (said_with said next)
 
 -- the same with further lines

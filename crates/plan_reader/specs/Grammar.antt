@@ -1,5 +1,5 @@
 -- The words of a plan's lines, from the left: each gives a value or a fault, whose line isn't known here.
-use Rattle.std.specs.Prelude.{ℕ, ℤ, ◌&&◌, nat_le, List, [], ◌∷◌, Option, Some, None, Result, Ok, Err, codes, unsigned_abs, if◌then◌else◌}
+use Rattle.std.specs.Prelude.{ℕ, ℤ, ◌&&◌, nat_le, List, Option, Some, None, Ok, Err, codes, unsigned_abs, if◌then◌else◌}
 use Rattle.std.specs.Str.{bytes_eq}
 use Rattle.tuple_edge.specs.Sum.{big}
 use Rattle.tuple_edge.specs.declared.row.Column.{Column}
@@ -10,59 +10,39 @@ use Rattle.stream_ops.specs.declared.spec.Compare.{Compare}
 use Rattle.stream_ops.specs.declared.spec.Compare.TheVariants as compare
 use Rattle.plan_reader.specs.Lines.{Word}
 use Rattle.plan_reader.specs.Numbers.{number_of, signed_number_of}
-use Rattle.plan_reader.specs.Reading.{◌>>=◌}
+use Rattle.plan_reader.specs.Reading.{◌>>=◌, Read, word_or}
 use Rattle.plan_reader.specs.declared.error.Fault.{Fault}
 use Rattle.plan_reader.specs.declared.error.Fault.TheVariants as fault
-
--- a value and the words after it, or the fault of the first word that is refused
-abbrev pub Read : Type 0 → Type 0
-Read A = Result (A × List Word) Fault
-
--- a word; none is a fault of grammar
-abbrev pub word_at : List Word → Read Word
-word_at [] = Err fault.Grammar
-word_at (word ∷ words) = Ok (word, words)
-
--- no word
-abbrev pub end_at : List Word → Read (Unit {0})
-end_at [] = Ok (tt, [])
-end_at (word ∷ words) = Err fault.Grammar
-
--- a word that is fixed
-unfoldable pub fixed_at : Word → List Word → Read (Unit {0})
-fixed_at text words = do
-  w ← word_at words
-  if bytes_eq w.0 text then Ok (tt, w.1) else Err fault.Grammar
 
 -- ---- numbers
 
 -- the value of a word in a number's place
-abbrev pub valued : {A : Type 0} → Option A → List Word → Read A
+abbrev pub valued : {A : Type 0} → Option A → List Word → Read A Fault
 valued None words = Err fault.Number
 valued (Some n) words = Ok (n, words)
 
-unfoldable pub number_at : List Word → Read ℕ
+unfoldable pub number_at : List Word → Read ℕ Fault
 number_at words = do
-  w ← word_at words
+  w ← word_or fault.Grammar words
   valued (number_of w.0) w.1
 
 -- a number from low to high
-unfoldable pub number_within : ℕ → ℕ → List Word → Read ℕ
+unfoldable pub number_within : ℕ → ℕ → List Word → Read ℕ Fault
 number_within low high words = do
   n ← number_at words
   if nat_le low n.0 && nat_le n.0 high then Ok n else Err fault.Range
 
 -- a number within the bounds of a field, with a minus where it is negative
-unfoldable pub limit_at : List Word → Read ℤ
+unfoldable pub limit_at : List Word → Read ℤ Fault
 limit_at words = do
-  w ← word_at words
+  w ← word_or fault.Grammar words
   z ← valued (signed_number_of w.0) w.1
   if nat_le (unsigned_abs z.0) big then Ok z else Err fault.Range
 
 -- ---- names
 
 -- what a word of a list of names stands for
-abbrev pub listed : {A : Type 0} → Option A → List Word → Read A
+abbrev pub listed : {A : Type 0} → Option A → List Word → Read A Fault
 listed None words = Err fault.UnknownWord
 listed (Some x) words = Ok (x, words)
 
@@ -75,9 +55,9 @@ column_named w =
     else if bytes_eq w (codes "value") then Some column.Value
     else None
 
-unfoldable pub column_at : List Word → Read Column
+unfoldable pub column_at : List Word → Read Column Fault
 column_at words = do
-  w ← word_at words
+  w ← word_or fault.Grammar words
   listed (column_named w.0) w.1
 
 abbrev pub by_named : Word → Option By
@@ -87,9 +67,9 @@ by_named w =
     else if bytes_eq w (codes "both") then Some by.Both
     else None
 
-unfoldable pub by_at : List Word → Read By
+unfoldable pub by_at : List Word → Read By Fault
 by_at words = do
-  w ← word_at words
+  w ← word_or fault.Grammar words
   listed (by_named w.0) w.1
 
 abbrev pub compare_named : Word → Option Compare
@@ -102,22 +82,22 @@ compare_named w =
     else if bytes_eq w (codes ">") then Some compare.Greater
     else None
 
-unfoldable pub compare_at : List Word → Read Compare
+unfoldable pub compare_at : List Word → Read Compare Fault
 compare_at words = do
-  w ← word_at words
+  w ← word_or fault.Grammar words
   listed (compare_named w.0) w.1
 
 -- ---- settings
 
 -- a key, and a number from low to high
-unfoldable pub key_and_number_at : ℕ → ℕ → List Word → Read (By × ℕ)
+unfoldable pub key_and_number_at : ℕ → ℕ → List Word → Read (By × ℕ) Fault
 key_and_number_at low high words = do
   by ← by_at words
   n ← number_within low high by.1
   Ok ((by.0, n.0), n.1)
 
 -- a comparison: a column, how it compares, and with which limit
-unfoldable pub comparison_at : List Word → Read (Column × Compare × ℤ)
+unfoldable pub comparison_at : List Word → Read (Column × Compare × ℤ) Fault
 comparison_at words = do
   column ← column_at words
   compare ← compare_at column.1

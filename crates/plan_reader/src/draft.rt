@@ -8,10 +8,9 @@ ghost use Rattle.plan_reader.specs.Limits.{max_stages, max_version};
 
 use crate::error::Fault;
 use crate::statement::{Statement, setting, stage};
-use crate::words::{is, word};
 use crate::{
     DEFAULT_HOLD, DEFAULT_MARK, EDGES_PER_MARK, Line, MAX_HOLD, MAX_MARK, MIN_HOLD, Plan,
-    PlanError, Stage, Words,
+    PlanError, Stage, Words, is_word,
 };
 use std::alloc::Global;
 use std::marker::Model;
@@ -97,14 +96,14 @@ impl Draft {
         ensures value { Takes words.new result (statement_at self.now words.old) }
         ensures within { IfOk result (MayFollow self.now) }
     {
-        let first = word(words)?;
-        if is(first, "mark") {
+        let first = words.word_or(Fault::Grammar)?;
+        if is_word(first, "mark") {
             return self.mark_line(words);
         }
-        if is(first, "hold") {
+        if is_word(first, "hold") {
             return self.hold_line(words);
         }
-        if is(first, "stage") {
+        if is_word(first, "stage") {
             return self.stage_line(words);
         }
         Err(Fault::UnknownWord)

@@ -1,5 +1,5 @@
 //! The text of a plan: it is read, or refused by its first fault, and written again. Beside it stand
-//! the readers of lines, words and number words that all texts of this repository share.
+//! the readers of lines, words, number words and the names of nodes that all texts of this repository share.
 //!
 //! It promises that every text is read as its definition says, the value or the first fault with its
 //! line; that every plan is within the limits; that a plan's canonical text reads back as the plan;
@@ -11,6 +11,7 @@ mod draft;
 mod error;
 mod limits;
 mod lines;
+mod names;
 mod nodes;
 mod numbers;
 mod operators;
@@ -27,8 +28,10 @@ pub use limits::{
     MAX_STAGES, MAX_VERSION, MIN_HOLD,
 };
 pub use lines::{Line, Lines, Words};
+pub use names::{MAX_NAME_DIGITS, cut_at, node_named};
 pub use numbers::{MAX_NUMBER_DIGITS, number_of, signed_number_of};
 pub use plan::Plan;
 pub use read::read_plan;
 pub use stage::Stage;
+pub use words::is_word;
 pub use write::{canonical_text_reads_back, write_plan};

@@ -5,9 +5,9 @@ ghost use Rattle.plan_reader.specs.Operators.{crossing_at, join_at, keep_at, las
 ghost use Rattle.plan_reader.specs.PlanView.{IsLimit};
 ghost use Rattle.plan_reader.specs.Reading.{Takes};
 
-use crate::Words;
 use crate::error::Fault;
-use crate::words::{by, comparison, is, key_and_number, number_from, word};
+use crate::words::{by, comparison, key_and_number, number_from};
+use crate::{Words, is_word};
 use stream_ops::{MAX_JOIN_ROWS, MAX_LAST_ROWS, MAX_WINDOW_SECONDS, OpSpec};
 use tuple_edge::BIG;
 
@@ -99,23 +99,23 @@ pub(crate) fn op(words: &mut Words<'_>) -> Result<OpSpec, Fault>
     ensures value { Takes words.new result (op_at words.old) }
     ensures within { IfOk result (λ op. IsSpec op × IsLimit op) }
 {
-    let found = word(words)?;
-    if is(found, "keep") {
+    let found = words.word_or(Fault::Grammar)?;
+    if is_word(found, "keep") {
         return keep(words);
     }
-    if is(found, "total") {
+    if is_word(found, "total") {
         return total(words);
     }
-    if is(found, "last") {
+    if is_word(found, "last") {
         return last(words);
     }
-    if is(found, "window") {
+    if is_word(found, "window") {
         return window(words);
     }
-    if is(found, "crossing") {
+    if is_word(found, "crossing") {
         return crossing(words);
     }
-    if is(found, "join") {
+    if is_word(found, "join") {
         return join(words);
     }
     Err(Fault::UnknownWord)

@@ -8,7 +8,7 @@ ghost use Rattle.plan_reader.specs.Limits.{max_version};
 
 use crate::draft::Draft;
 use crate::error::Fault;
-use crate::words::{end, fixed, number_from};
+use crate::words::number_from;
 use crate::{Lines, MAX_PLAN_BYTES, MAX_VERSION, Plan, PlanError, Words};
 use std::alloc::Global;
 
@@ -18,9 +18,9 @@ fn version(words: &mut Words<'_>) -> Result<u32, Fault>
     ensures value { Takes words.new result (version_at words.old) }
     ensures within { IfOk result (λ n. (1 ≤ n) × (n ≤ max_version)) }
 {
-    fixed(words, "flux")?;
+    words.fixed_or("flux", Fault::Grammar)?;
     let n = number_from(words, 1, u64::from(MAX_VERSION))?;
-    end(words)?;
+    words.end_or(Fault::Grammar)?;
     Ok(n as u32)
 }
 

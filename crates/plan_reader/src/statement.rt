@@ -8,7 +8,7 @@ ghost use Rattle.plan_reader.specs.Reading.{Takes};
 
 use crate::error::Fault;
 use crate::operators::op;
-use crate::words::{column, end, fixed, number, number_from};
+use crate::words::{column, number, number_from};
 use crate::{MAX_PARTS, MAX_STAGES, Stage, Words};
 use tuple_edge::Column;
 
@@ -37,7 +37,7 @@ pub(crate) fn setting(
         return Err(Fault::Grammar);
     }
     let n = number_from(words, low, high)?;
-    end(words)?;
+    words.end_or(Fault::Grammar)?;
     Ok(n)
 }
 
@@ -75,9 +75,9 @@ fn routing(words: &mut Words<'_>) -> Result<(u32, Column), Fault>
     ensures value { Takes words.new result (routing_at words.old) }
     ensures within { IfOk result (λ x. (1 ≤ x.0) × (x.0 ≤ max_parts)) }
 {
-    fixed(words, "parts")?;
+    words.fixed_or("parts", Fault::Grammar)?;
     let parts = number_from(words, 1, u64::from(MAX_PARTS))?;
-    fixed(words, "by")?;
+    words.fixed_or("by", Fault::Grammar)?;
     let by = column(words)?;
     Ok((parts as u32, by))
 }
@@ -93,6 +93,6 @@ pub(crate) fn stage(words: &mut Words<'_>, before: &[Stage]) -> Result<Stage, Fa
     stage_number(words, before)?;
     let (parts, by) = routing(words)?;
     let op = op(words)?;
-    end(words)?;
+    words.end_or(Fault::Grammar)?;
     Ok(Stage { parts, by, op })
 }
