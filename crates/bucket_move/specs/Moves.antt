@@ -2,31 +2,27 @@
 use Rattle.std.specs.Prelude.{ℕ, ◌≡◌, nat_le, nat_lt, List, [], ◌∷◌, ◌++◌, length, Result, Ok, Err, if◌then◌else◌}
 use Rattle.plan_reader.specs.Lines.{LineView, Word, counting_lines}
 use Rattle.plan_reader.specs.PlanView.{PlanView}
-use Rattle.plan_reader.specs.Reading.{◌>>=◌}
-use Rattle.bucket_move.specs.Grammar.{Read, is_opening, shift_at}
+use Rattle.plan_reader.specs.Reading.{◌>>=◌, Read, at_line}
+use Rattle.bucket_move.specs.Grammar.{is_opening, shift_at}
 use Rattle.bucket_move.specs.Limits.{max_moves_bytes}
 use Rattle.bucket_move.specs.Messages.{fault_at}
 use Rattle.bucket_move.specs.Shifts.{last_at}
+use Rattle.bucket_move.specs.declared.error.Fault.{Fault}
 use Rattle.bucket_move.specs.declared.error.Fault.TheVariants as fault
 use Rattle.bucket_move.specs.declared.error.MovesError.{MovesError}
 use Rattle.bucket_move.specs.declared.error.MovesError.TheVariants as error
 use Rattle.bucket_move.specs.declared.moves.Shift.{Shift}
 
 -- the move that a line says, no sooner than those of the lines before it
-unfoldable pub next_shift : PlanView → List Shift → List Word → Read Shift
+unfoldable pub next_shift : PlanView → List Shift → List Word → Read Shift Fault
 next_shift plan before words = do
   shift ← shift_at plan words
   if nat_le (last_at before) shift.0.at then Ok shift else Err fault.NotRising
 
--- a value that was read in the line with this number, or a fault there
-abbrev pub at_line : {A : Type 0} → ℕ → Read A → Result A MovesError
-at_line number (Ok x) = Ok x.0
-at_line number (Err fault) = Err (fault_at number fault)
-
 -- these moves with that of a further line
 unfoldable pub with_line : PlanView → List Shift → LineView → Result (List Shift) MovesError
 with_line plan before line = do
-  next ← at_line line.number (next_shift plan before line.words)
+  next ← at_line fault_at line.number (next_shift plan before line.words)
   Ok (before ++ next ∷ [])
 
 -- these moves and those of further lines, up to the first line that is refused

@@ -1,24 +1,16 @@
 // The readers of a line's words: each takes words from the front, and gives a value or the first fault.
 ghost use Rattle.std.specs.Prelude.{◌≡◌, ◌<◌, ◌≤◌, ◌%◌, IfOk};
-ghost use Rattle.std.specs.Str.{bytes_eq};
-ghost use Rattle.plan_reader.specs.Reading.{Takes, TakesBy};
-ghost use Rattle.bucket_move.specs.Grammar.{end_at, fixed_at, is_mark, is_opening, mark_at, number_at, number_below, parts_of, shift_at, word_at};
+ghost use Rattle.plan_reader.specs.Reading.{Takes};
+ghost use Rattle.bucket_move.specs.Grammar.{is_mark, is_opening, mark_at, number_at, number_below, parts_of, shift_at};
 ghost use Rattle.bucket_move.specs.Shifts.{IsShiftOf};
 
 use crate::BUCKETS;
 use crate::error::Fault;
 use crate::moves::Shift;
-use plan_reader::{Plan, Words, number_of};
+use plan_reader::{Plan, Words, is_word, number_of};
 
 /// The greatest stamp after which a bucket moves.
 pub const MAX_STAMP: u64 = 1_000_000;
-
-// Whether a word is this one.
-fn is(word: &[u8], text: &str) -> bool
-    ensures { result ≡ bytes_eq word.now text.now }
-{
-    word == text.as_bytes()
-}
 
 // Whether the words of a line are those of the first one.
 pub(crate) fn is_opening(words: &mut Words<'_>) -> bool
@@ -33,40 +25,7 @@ pub(crate) fn is_opening(words: &mut Words<'_>) -> bool
     if words.next_word().is_some() {
         return false;
     }
-    is(name, "moves") && is(version, "1")
-}
-
-// The next word.
-fn word<'a>(words: &mut Words<'a>) -> Result<&'a [u8], Fault>
-    ensures { TakesBy (λ word. word.now) words.new result (word_at words.old) }
-{
-    match words.next_word() {
-        None => Err(Fault::Grammar),
-        Some(word) => Ok(word),
-    }
-}
-
-// A word that is fixed.
-#[tactic(auto, unfolding(crate::specs::Grammar::fixed_at))]
-fn fixed(words: &mut Words<'_>, text: &str) -> Result<(), Fault>
-    ensures { Takes words.new result (fixed_at text.now words.old) }
-{
-    let found = word(words)?;
-    if is(found, text) {
-        Ok(())
-    } else {
-        Err(Fault::Grammar)
-    }
-}
-
-// No further word.
-fn end(words: &mut Words<'_>) -> Result<(), Fault>
-    ensures { Takes words.new result (end_at words.old) }
-{
-    match words.next_word() {
-        None => Ok(()),
-        Some(_) => Err(Fault::Grammar),
-    }
+    is_word(name, "moves") && is_word(version, "1")
 }
 
 // A number.
@@ -74,7 +33,7 @@ fn end(words: &mut Words<'_>) -> Result<(), Fault>
 fn number(words: &mut Words<'_>) -> Result<u64, Fault>
     ensures { Takes words.new result (number_at words.old) }
 {
-    let found = word(words)?;
+    let found = words.word_or(Fault::Grammar)?;
     match number_of(found) {
         None => Err(Fault::Grammar),
         Some(n) => Ok(n),
@@ -136,12 +95,12 @@ pub(crate) fn shift(words: &mut Words<'_>, plan: &Plan) -> Result<Shift, Fault>
     ensures value { Takes words.new result (shift_at plan.now words.old) }
     ensures of_plan { IfOk result (IsShiftOf plan.now) }
 {
-    fixed(words, "at")?;
+    words.fixed_or("at", Fault::Grammar)?;
     let at = stamp(words, plan.mark())?;
-    fixed(words, "bucket")?;
+    words.fixed_or("bucket", Fault::Grammar)?;
     let bucket = number_below(words, BUCKETS)?;
-    fixed(words, "to")?;
+    words.fixed_or("to", Fault::Grammar)?;
     let to = number_below(words, parts_of(plan))?;
-    end(words)?;
+    words.end_or(Fault::Grammar)?;
     Ok(Shift { at, bucket, to })
 }

@@ -1,3 +1,2 @@
 pub mod DueOrders
 pub mod SafeScripts
-pub mod ShortNumbers

@@ -1,5 +1,5 @@
 -- The words of a script's lines, from the left: each gives a value or a fault, whose line isn't known here.
-use Rattle.std.specs.Prelude.{ℕ, ◌&&◌, nat_le, Bool, true, false, List, [], ◌∷◌, Option, Some, None, Result, Ok, Err, codes, if◌then◌else◌}
+use Rattle.std.specs.Prelude.{ℕ, ◌&&◌, nat_le, Bool, true, false, List, Option, Some, None, Result, Ok, Err, codes, if◌then◌else◌}
 use Rattle.std.specs.Option.{ok_or}
 use Rattle.std.specs.Str.{bytes_eq}
 use Rattle.tuple_edge.specs.declared.node.NodeId.{NodeId}
@@ -8,35 +8,15 @@ use Rattle.plan_reader.specs.Lines.{Word}
 use Rattle.plan_reader.specs.Nodes.{has_node}
 use Rattle.plan_reader.specs.Numbers.{number_of}
 use Rattle.plan_reader.specs.PlanView.{PlanView}
-use Rattle.plan_reader.specs.Reading.{◌>>=◌}
+use Rattle.plan_reader.specs.Reading.{◌>>=◌, Read, end_or, fixed_or, word_or}
 use Rattle.failure_script.specs.Limits.{max_items}
 use Rattle.failure_script.specs.Names.{replica_named}
 use Rattle.failure_script.specs.declared.error.Fault.{Fault}
 use Rattle.failure_script.specs.declared.error.Fault.TheVariants as fault
 
--- a value and the words after it, or the fault of the first word that is refused
-abbrev pub Read : Type 0 → Type 0
-Read A = Result (A × List Word) Fault
-
 -- a value that has the form of its place, or none
 abbrev pub formed : {A : Type 0} → Option A → Result A Fault
 formed value = ok_or value fault.Grammar
-
--- a word; none is a fault of grammar
-abbrev pub word_at : List Word → Read Word
-word_at [] = Err fault.Grammar
-word_at (word ∷ words) = Ok (word, words)
-
--- no word
-abbrev pub end_at : List Word → Read (Unit {0})
-end_at [] = Ok (tt, [])
-end_at (word ∷ words) = Err fault.Grammar
-
--- a word that is fixed
-unfoldable pub fixed_at : Word → List Word → Read (Unit {0})
-fixed_at text words = do
-  w ← word_at words
-  if bytes_eq w.0 text then Ok (tt, w.1) else Err fault.Grammar
 
 -- ---- what happens, and to which replica
 
@@ -44,16 +24,16 @@ fixed_at text words = do
 abbrev pub is_kill : Word → Option Bool
 is_kill word = if bytes_eq word (codes "kill") then Some true else if bytes_eq word (codes "stop") then Some false else None
 
-unfoldable pub kill_at : List Word → Read Bool
+unfoldable pub kill_at : List Word → Read Bool Fault
 kill_at words = do
-  w ← word_at words
+  w ← word_or fault.Grammar words
   kill ← formed (is_kill w.0)
   Ok (kill, w.1)
 
 -- a replica of the plan
-unfoldable pub replica_at : PlanView → List Word → Read NodeId
+unfoldable pub replica_at : PlanView → List Word → Read NodeId Fault
 replica_at plan words = do
-  w ← word_at words
+  w ← word_or fault.Grammar words
   n ← formed (replica_named w.0)
   if has_node plan n then Ok (n, w.1) else Err fault.NoSuchReplica
 
@@ -65,9 +45,9 @@ items_of word = do
   n ← formed (number_of word)
   if nat_le 1 n && nat_le n max_items then Ok n else Err fault.Range
 
-unfoldable pub items_at : List Word → Read ℕ
+unfoldable pub items_at : List Word → Read ℕ Fault
 items_at words = do
-  w ← word_at words
+  w ← word_or fault.Grammar words
   n ← items_of w.0
   Ok (n, w.1)
 
@@ -77,22 +57,22 @@ back_of word = if bytes_eq word (codes "never") then Ok None else (do
   n ← items_of word
   Ok (Some n))
 
-unfoldable pub back_at : List Word → Read (Option ℕ)
+unfoldable pub back_at : List Word → Read (Option ℕ) Fault
 back_at words = do
-  w ← word_at words
+  w ← word_or fault.Grammar words
   back ← back_of w.0
   Ok (back, w.1)
 
 -- ---- a line
 
 -- an order for a replica of the plan
-unfoldable pub order_at : PlanView → List Word → Read Order
+unfoldable pub order_at : PlanView → List Word → Read Order Fault
 order_at plan words = do
   kill ← kill_at words
   n ← replica_at plan kill.1
-  at_word ← fixed_at (codes "at") n.1
+  at_word ← fixed_or fault.Grammar (codes "at") n.1
   items ← items_at at_word.1
-  back_word ← fixed_at (codes "back") items.1
+  back_word ← fixed_or fault.Grammar (codes "back") items.1
   back ← back_at back_word.1
-  end ← end_at back.1
+  end ← end_or fault.Grammar back.1
   Ok (record { node = n.0; kill = kill.0; at = items.0; back = back.0 }, end.1)

@@ -3,31 +3,27 @@ use Rattle.std.specs.Prelude.{ℕ, ◌≡◌, nat_lt, List, [], ◌∷◌, ◌++
 use Rattle.std.specs.List.{list_any}
 use Rattle.plan_reader.specs.Lines.{LineView, Word, counting_lines}
 use Rattle.plan_reader.specs.PlanView.{PlanView}
-use Rattle.plan_reader.specs.Reading.{◌>>=◌}
+use Rattle.plan_reader.specs.Reading.{◌>>=◌, Read, at_line}
 use Rattle.pair_machine.specs.declared.order.Order.{Order}
-use Rattle.failure_script.specs.Grammar.{Read, order_at}
+use Rattle.failure_script.specs.Grammar.{order_at}
 use Rattle.failure_script.specs.Limits.{max_script_bytes}
 use Rattle.failure_script.specs.Messages.{fault_at}
 use Rattle.failure_script.specs.Orders.{is_for}
+use Rattle.failure_script.specs.declared.error.Fault.{Fault}
 use Rattle.failure_script.specs.declared.error.Fault.TheVariants as fault
 use Rattle.failure_script.specs.declared.error.ScriptError.{ScriptError}
 use Rattle.failure_script.specs.declared.error.ScriptError.TheVariants as error
 
 -- the order that a line says, where the lines before it say none for its replica
-unfoldable pub next_order : PlanView → List Order → List Word → Read Order
+unfoldable pub next_order : PlanView → List Order → List Word → Read Order Fault
 next_order plan before words = do
   order ← order_at plan words
   if list_any (is_for order.0.node) before then Err fault.Twice else Ok order
 
--- a value that was read in the line with this number, or a fault there
-abbrev pub at_line : {A : Type 0} → ℕ → Read A → Result A ScriptError
-at_line number (Ok x) = Ok x.0
-at_line number (Err fault) = Err (fault_at number fault)
-
 -- these orders with that of a further line
 unfoldable pub with_line : PlanView → List Order → LineView → Result (List Order) ScriptError
 with_line plan before line = do
-  next ← at_line line.number (next_order plan before line.words)
+  next ← at_line fault_at line.number (next_order plan before line.words)
   Ok (before ++ next ∷ [])
 
 -- these orders and those of further lines, up to the first line that is refused

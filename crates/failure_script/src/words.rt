@@ -1,59 +1,26 @@
 // The readers of a line's words: each takes words from the front, and gives a value or the first fault.
 ghost use Rattle.std.specs.Prelude.{◌≡◌, true, IfOk, IfSome};
 ghost use Rattle.plan_reader.specs.Nodes.{has_node, is_replica};
-ghost use Rattle.plan_reader.specs.Reading.{Takes, TakesBy};
-ghost use Rattle.failure_script.specs.Grammar.{back_at, end_at, fixed_at, is_kill, items_at, items_of, kill_at, order_at, replica_at, word_at};
+ghost use Rattle.plan_reader.specs.Reading.{Takes};
+ghost use Rattle.failure_script.specs.Grammar.{back_at, is_kill, items_at, items_of, kill_at, order_at, replica_at};
 ghost use Rattle.failure_script.specs.Orders.{IsItems, IsOrderOf};
 
 use crate::error::Fault;
-use crate::names::{is, replica_named};
+use crate::names::replica_named;
 use pair_machine::Order;
-use plan_reader::{Plan, Words, number_of};
+use plan_reader::{Plan, Words, is_word, number_of};
 use tuple_edge::NodeId;
 
 // The most items after which an order is due.
 const MAX_ITEMS: u64 = 1_000_000;
 
-// The next word.
-fn word<'a>(words: &mut Words<'a>) -> Result<&'a [u8], Fault>
-    ensures { TakesBy (λ word. word.now) words.new result (word_at words.old) }
-{
-    match words.next_word() {
-        None => Err(Fault::Grammar),
-        Some(word) => Ok(word),
-    }
-}
-
-// A word that is fixed.
-#[tactic(auto, unfolding(crate::specs::Grammar::fixed_at))]
-fn fixed(words: &mut Words<'_>, text: &str) -> Result<(), Fault>
-    ensures { Takes words.new result (fixed_at text.now words.old) }
-{
-    let found = word(words)?;
-    if is(found, text) {
-        Ok(())
-    } else {
-        Err(Fault::Grammar)
-    }
-}
-
-// No further word.
-fn end(words: &mut Words<'_>) -> Result<(), Fault>
-    ensures { Takes words.new result (end_at words.old) }
-{
-    match words.next_word() {
-        None => Ok(()),
-        Some(_) => Err(Fault::Grammar),
-    }
-}
-
 // Whether a first word is that of a failure; else it is that of a stop.
 fn is_kill(word: &[u8]) -> Option<bool>
     ensures { result ≡ is_kill word.now }
 {
-    if is(word, "kill") {
+    if is_word(word, "kill") {
         Some(true)
-    } else if is(word, "stop") {
+    } else if is_word(word, "stop") {
         Some(false)
     } else {
         None
@@ -65,7 +32,7 @@ fn is_kill(word: &[u8]) -> Option<bool>
 fn kill(words: &mut Words<'_>) -> Result<bool, Fault>
     ensures { Takes words.new result (kill_at words.old) }
 {
-    let found = word(words)?;
+    let found = words.word_or(Fault::Grammar)?;
     match is_kill(found) {
         None => Err(Fault::Grammar),
         Some(kill) => Ok(kill),
@@ -79,7 +46,7 @@ fn replica(words: &mut Words<'_>, plan: &Plan) -> Result<NodeId, Fault>
     ensures there { IfOk result (λ n. has_node plan.now n ≡ true) }
     ensures replica { IfOk result (λ n. is_replica n ≡ true) }
 {
-    let found = word(words)?;
+    let found = words.word_or(Fault::Grammar)?;
     let Some(node) = replica_named(found) else {
         return Err(Fault::Grammar);
     };
@@ -112,7 +79,7 @@ fn items(words: &mut Words<'_>) -> Result<u64, Fault>
     ensures value { Takes words.new result (items_at words.old) }
     ensures within { IfOk result IsItems }
 {
-    let found = word(words)?;
+    let found = words.word_or(Fault::Grammar)?;
     items_of(found)
 }
 
@@ -122,8 +89,8 @@ fn back(words: &mut Words<'_>) -> Result<Option<u64>, Fault>
     ensures value { Takes words.new result (back_at words.old) }
     ensures within { IfOk result (λ back. IfSome back IsItems) }
 {
-    let found = word(words)?;
-    if is(found, "never") {
+    let found = words.word_or(Fault::Grammar)?;
+    if is_word(found, "never") {
         return Ok(None);
     }
     let items = items_of(found)?;
@@ -138,11 +105,11 @@ pub(crate) fn order(words: &mut Words<'_>, plan: &Plan) -> Result<Order, Fault>
 {
     let kill = kill(words)?;
     let node = replica(words, plan)?;
-    fixed(words, "at")?;
+    words.fixed_or("at", Fault::Grammar)?;
     let at = items(words)?;
-    fixed(words, "back")?;
+    words.fixed_or("back", Fault::Grammar)?;
     let back = back(words)?;
-    end(words)?;
+    words.end_or(Fault::Grammar)?;
     Ok(Order {
         node,
         kill,

@@ -12,13 +12,14 @@ use Rattle.tuple_edge.specs.declared.node.NodeId.{NodeId}
 use Rattle.plan_reader.specs.Lines.{Word, counting_lines}
 use Rattle.plan_reader.specs.Nodes.{carries_items, has_link, has_node}
 use Rattle.plan_reader.specs.PlanView.{IsPlan, PlanView}
+use Rattle.plan_reader.specs.Reading.{fixed_or}
 use Rattle.plan_reader.specs.Text.{line_text}
 use Rattle.plan_reader.proofs.LineFacts.{both_true}
 use Rattle.plan_reader.proofs.NumberWords.{number_of_decimal}
 use Rattle.plan_reader.proofs.Spelling.{counting_spelled, spelled}
 use Rattle.run_journal.specs.Events.{ask_back_at, ask_stop_at, body_of, event_at, events_of, events_of_lines, header_at, kill_at, last_replica_at, make_at, once, pull_at, take_at, with_line, with_lines, work_at}
 use Rattle.plan_reader.specs.Nodes.{has_edge, has_replica}
-use Rattle.run_journal.specs.Grammar.{fixed_at, index_at, link_at, node_at, replica_at, target_at, times_at}
+use Rattle.run_journal.specs.Grammar.{index_at, link_at, node_at, replica_at, target_at, times_at}
 use Rattle.run_journal.specs.Limits.{max_events, max_events_bytes, max_index}
 use Rattle.run_journal.specs.Text.{AreSayable, IsNamed, event_words, events_text, link_name, lined_from, node_name}
 use Rattle.run_journal.specs.declared.lined.Lined.{Lined}
@@ -111,7 +112,7 @@ text_lines plan events within named =
 
 body_back : (plan : PlanView) (events : List Event) → IsPlan plan → AreSayable plan events
     → events_of_lines plan (spelled 1 ((codes "events" ∷ codes "1" ∷ []) ∷ map event_words events)) ≡ Ok (lined_from 2 events)
-unfolding events_of_lines body_of header_at fixed_at
+unfolding events_of_lines body_of header_at fixed_or
 body_back plan events within sayable = lines_back plan [] 2 events within sayable.named (omega (arith, sayable.few))
 
 -- the canonical text of events reads back as the events

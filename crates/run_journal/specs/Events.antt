@@ -6,12 +6,13 @@ use Rattle.tuple_edge.specs.declared.event.Event.TheVariants as event
 use Rattle.tuple_edge.specs.declared.node.NodeId.{NodeId}
 use Rattle.plan_reader.specs.Lines.{LineView, Word, counting_lines}
 use Rattle.plan_reader.specs.PlanView.{PlanView}
-use Rattle.plan_reader.specs.Reading.{◌>>=◌}
-use Rattle.run_journal.specs.Grammar.{Read, end_at, fixed_at, index_at, link_at, node_at, replica_at, target_at, times_at, word_at}
+use Rattle.plan_reader.specs.Reading.{◌>>=◌, Read, at_line, end_or, fixed_or, word_or}
+use Rattle.run_journal.specs.Grammar.{index_at, link_at, node_at, replica_at, target_at, times_at}
 use Rattle.run_journal.specs.Limits.{max_events, max_events_bytes}
 use Rattle.run_journal.specs.Messages.{fault_at}
 use Rattle.run_journal.specs.declared.error.EventsError.{EventsError}
 use Rattle.run_journal.specs.declared.error.EventsError.TheVariants as error
+use Rattle.run_journal.specs.declared.error.Fault.{Fault}
 use Rattle.run_journal.specs.declared.error.Fault.TheVariants as fault
 use Rattle.run_journal.specs.declared.lined.Lined.{Lined}
 use Rattle.run_journal.specs.declared.statement.Repeated.{Repeated}
@@ -22,25 +23,25 @@ use Rattle.run_journal.specs.declared.statement.Repeated.{Repeated}
 abbrev pub once : Event → Repeated
 once e = record { event = e; times = 1 }
 
-unfoldable pub make_at : List Word → Read Repeated
+unfoldable pub make_at : List Word → Read Repeated Fault
 make_at words = do
   times ← times_at words
   Ok (record { event = event.Make; times = times.0 }, times.1)
 
-unfoldable pub work_at : PlanView → List Word → Read Repeated
+unfoldable pub work_at : PlanView → List Word → Read Repeated Fault
 work_at plan words = do
   at ← node_at plan words
   times ← times_at at.1
   Ok (record { event = event.Work at.0; times = times.0 }, times.1)
 
-unfoldable pub take_at : PlanView → List Word → Read Repeated
+unfoldable pub take_at : PlanView → List Word → Read Repeated Fault
 take_at plan words = do
   link ← link_at plan words
   index ← index_at link.1
-  end ← end_at index.1
+  end ← end_or fault.Grammar index.1
   Ok (once (event.Take link.0 index.0), end.1)
 
-unfoldable pub pull_at : PlanView → List Word → Read Repeated
+unfoldable pub pull_at : PlanView → List Word → Read Repeated Fault
 pull_at plan words = do
   from ← node_at plan words
   to ← target_at plan from.0 from.1
@@ -48,31 +49,31 @@ pull_at plan words = do
   Ok (record { event = event.Pull from.0 to.0; times = times.0 }, times.1)
 
 -- a replica, and no word after it
-unfoldable pub last_replica_at : PlanView → List Word → Read NodeId
+unfoldable pub last_replica_at : PlanView → List Word → Read NodeId Fault
 last_replica_at plan words = do
   at ← replica_at plan words
-  end ← end_at at.1
+  end ← end_or fault.Grammar at.1
   Ok (at.0, end.1)
 
-unfoldable pub kill_at : PlanView → List Word → Read Repeated
+unfoldable pub kill_at : PlanView → List Word → Read Repeated Fault
 kill_at plan words = do
   at ← last_replica_at plan words
   Ok (once (event.Kill at.0), at.1)
 
-unfoldable pub ask_stop_at : PlanView → List Word → Read Repeated
+unfoldable pub ask_stop_at : PlanView → List Word → Read Repeated Fault
 ask_stop_at plan words = do
   at ← last_replica_at plan words
   Ok (once (event.AskStop at.0), at.1)
 
-unfoldable pub ask_back_at : PlanView → List Word → Read Repeated
+unfoldable pub ask_back_at : PlanView → List Word → Read Repeated Fault
 ask_back_at plan words = do
   at ← last_replica_at plan words
   Ok (once (event.AskBack at.0), at.1)
 
 -- what a line after the first one says
-unfoldable pub event_at : PlanView → List Word → Read Repeated
+unfoldable pub event_at : PlanView → List Word → Read Repeated Fault
 event_at plan words = do
-  w ← word_at words
+  w ← word_or fault.Grammar words
   if bytes_eq w.0 (codes "make") then make_at w.1
       else if bytes_eq w.0 (codes "work") then work_at plan w.1
       else if bytes_eq w.0 (codes "take") then take_at plan w.1
@@ -85,21 +86,16 @@ event_at plan words = do
 -- ---- the lines
 
 -- the first line that counts is fixed
-unfoldable pub header_at : List Word → Read (Unit {0})
+unfoldable pub header_at : List Word → Read (Unit {0}) Fault
 header_at words = do
-  name ← fixed_at (codes "events") words
-  version ← fixed_at (codes "1") name.1
-  end_at version.1
+  name ← fixed_or fault.Grammar (codes "events") words
+  version ← fixed_or fault.Grammar (codes "1") name.1
+  end_or fault.Grammar version.1
 
 -- the lines after the first one that counts
 unfoldable pub body_of : List LineView → Result (List LineView) EventsError
 body_of [] = Err error.Header
 body_of (line ∷ lines) = if is_ok (header_at line.words) then Ok lines else Err error.Header
-
--- a value that was read in the line with this number, or a fault there
-abbrev pub at_line : {A : Type 0} → ℕ → Read A → Result A EventsError
-at_line number (Ok x) = Ok x.0
-at_line number (Err fault) = Err (fault_at number fault)
 
 -- an event, as often as it happens, each time with its line
 abbrev pub lined : ℕ → Repeated → List Lined
@@ -108,7 +104,7 @@ lined number said = replicate said.times (record { line = number; event = said.e
 -- these events and those of one more line
 unfoldable pub with_line : PlanView → List Lined → LineView → Result (List Lined) EventsError
 with_line plan before line = do
-  said ← at_line line.number (event_at plan line.words)
+  said ← at_line fault_at line.number (event_at plan line.words)
   if nat_lt max_events (length before + said.times) then Err error.TooMany else Ok (before ++ lined line.number said)
 
 -- these events and those of further lines, up to the first line that is refused

@@ -14,7 +14,3 @@ max_repeats = 1000000
 -- the greatest place of a packet on its link that a line may name
 abbrev pub max_index : ℕ
 max_index = 4611686018427387903
-
--- digits of a stage and of a partition in a node's name
-abbrev pub max_name_digits : ℕ
-max_name_digits = 9

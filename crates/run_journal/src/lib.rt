@@ -3,7 +3,7 @@
 //! It promises that every text of events is read as its definition says, each event with its line, or
 //! refused by its first fault; that what it writes reads back; and that the events of histories come by
 //! clock and node, each once. It stands on `tuple_edge` for nodes and events, on `plan_reader` for plans
-//! and the readers of lines, words and numbers, and on `pair_machine` for what a log is. Of `trade_text`
+//! and the readers of lines, words, numbers and names, and on `pair_machine` for what a log is. Of `trade_text`
 //! its proofs use one lemma, on stable sorts.
 #![tactic(auto)]
 
@@ -20,7 +20,7 @@ mod write;
 
 pub use error::EventsError;
 pub use histories::{merge, merged_histories_are_a_log};
-pub use limits::{MAX_EVENTS, MAX_EVENTS_BYTES, MAX_INDEX, MAX_NAME_DIGITS, MAX_REPEATS};
+pub use limits::{MAX_EVENTS, MAX_EVENTS_BYTES, MAX_INDEX, MAX_REPEATS};
 pub use lined::Lined;
 pub use name_text::{letter_of, push_node};
 pub use read::read_events;

@@ -11,6 +11,3 @@ pub const MAX_REPEATS: u64 = 1_000_000;
 
 /// The greatest place of a packet on its link that a line may name.
 pub const MAX_INDEX: u64 = 4_611_686_018_427_387_903;
-
-/// The greatest number of digits of a stage and of a partition in a node's name.
-pub const MAX_NAME_DIGITS: usize = 9;

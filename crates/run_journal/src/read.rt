@@ -8,7 +8,6 @@ ghost use Rattle.run_journal.specs.Text.{IsNamed};
 
 use crate::error::Fault;
 use crate::statement::statement;
-use crate::words::{end, fixed};
 use crate::{EventsError, Lined, MAX_EVENTS, MAX_EVENTS_BYTES};
 use plan_reader::{Line, Lines, Plan, Words};
 use std::alloc::Global;
@@ -19,9 +18,9 @@ use tuple_edge::OutOfMemory;
 fn header(words: &mut Words<'_>) -> Result<(), Fault>
     ensures { Takes words.new result (header_at words.old) }
 {
-    fixed(words, "events")?;
-    fixed(words, "1")?;
-    end(words)
+    words.fixed_or("events", Fault::Grammar)?;
+    words.fixed_or("1", Fault::Grammar)?;
+    words.end_or(Fault::Grammar)
 }
 
 // Passes the first line that counts.

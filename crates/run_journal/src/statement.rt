@@ -8,9 +8,8 @@ ghost use Rattle.run_journal.specs.Limits.{max_repeats};
 ghost use Rattle.run_journal.specs.Text.{IsNamed};
 
 use crate::error::Fault;
-use crate::names::is;
-use crate::words::{end, index, link, node, replica, target, times, word};
-use plan_reader::{Plan, Words};
+use crate::words::{index, link, node, replica, target, times};
+use plan_reader::{Plan, Words, is_word};
 use tuple_edge::{Event, NodeId};
 
 // An event, and how often it happens.
@@ -65,7 +64,7 @@ fn take(words: &mut Words<'_>, plan: &Plan) -> Result<Repeated, Fault>
 {
     let link = link(words, plan)?;
     let index = index(words)?;
-    end(words)?;
+    words.end_or(Fault::Grammar)?;
     Ok(once(Event::Take { link, index }))
 }
 
@@ -92,7 +91,7 @@ fn last_replica(words: &mut Words<'_>, plan: &Plan) -> Result<NodeId, Fault>
     ensures there { IfOk result (λ n. has_replica plan.now n ≡ true) }
 {
     let node = replica(words, plan)?;
-    end(words)?;
+    words.end_or(Fault::Grammar)?;
     Ok(node)
 }
 
@@ -136,26 +135,26 @@ pub(crate) fn statement(words: &mut Words<'_>, plan: &Plan) -> Result<Repeated, 
     ensures few { IfOk result (λ said. said.times ≤ max_repeats) }
     ensures named { IfOk result (λ said. IsNamed plan.now said.event) }
 {
-    let first = word(words)?;
-    if is(first, "make") {
+    let first = words.word_or(Fault::Grammar)?;
+    if is_word(first, "make") {
         return make(words);
     }
-    if is(first, "work") {
+    if is_word(first, "work") {
         return work(words, plan);
     }
-    if is(first, "take") {
+    if is_word(first, "take") {
         return take(words, plan);
     }
-    if is(first, "pull") {
+    if is_word(first, "pull") {
         return pull(words, plan);
     }
-    if is(first, "kill") {
+    if is_word(first, "kill") {
         return kill(words, plan);
     }
-    if is(first, "askstop") {
+    if is_word(first, "askstop") {
         return ask_stop(words, plan);
     }
-    if is(first, "askback") {
+    if is_word(first, "askback") {
         return ask_back(words, plan);
     }
     Err(Fault::Grammar)

@@ -1,49 +1,16 @@
 // The readers of a line's words: each takes words from the front, and gives a value or the first fault.
 ghost use Rattle.std.specs.Prelude.{◌≡◌, ◌≤◌, IfOk, true};
 ghost use Rattle.plan_reader.specs.Nodes.{has_link, has_node};
-ghost use Rattle.plan_reader.specs.Reading.{Takes, TakesBy};
+ghost use Rattle.plan_reader.specs.Reading.{Takes};
 ghost use Rattle.plan_reader.specs.Nodes.{has_edge, has_replica};
-ghost use Rattle.run_journal.specs.Grammar.{end_at, fixed_at, in_range, index_at, link_at, node_at, replica_at, target_at, times_at, word_at};
+ghost use Rattle.run_journal.specs.Grammar.{in_range, index_at, link_at, node_at, replica_at, target_at, times_at};
 ghost use Rattle.run_journal.specs.Limits.{max_index, max_repeats};
 
 use crate::error::Fault;
-use crate::names::{is, link_named, node_named};
+use crate::names::link_named;
 use crate::{MAX_INDEX, MAX_REPEATS};
-use plan_reader::{Plan, Words, number_of};
+use plan_reader::{Plan, Words, node_named, number_of};
 use tuple_edge::{LinkId, NodeId};
-
-// The next word.
-pub(crate) fn word<'a>(words: &mut Words<'a>) -> Result<&'a [u8], Fault>
-    ensures { TakesBy (λ word. word.now) words.new result (word_at words.old) }
-{
-    match words.next_word() {
-        None => Err(Fault::Grammar),
-        Some(word) => Ok(word),
-    }
-}
-
-// No further word.
-pub(crate) fn end(words: &mut Words<'_>) -> Result<(), Fault>
-    ensures { Takes words.new result (end_at words.old) }
-{
-    match words.next_word() {
-        None => Ok(()),
-        Some(_) => Err(Fault::Grammar),
-    }
-}
-
-// A word that is fixed.
-#[tactic(auto, unfolding(crate::specs::Grammar::fixed_at))]
-pub(crate) fn fixed(words: &mut Words<'_>, text: &str) -> Result<(), Fault>
-    ensures { Takes words.new result (fixed_at text.now words.old) }
-{
-    let found = word(words)?;
-    if is(found, text) {
-        Ok(())
-    } else {
-        Err(Fault::Grammar)
-    }
-}
 
 // A node of the plan.
 #[tactic(auto, unfolding(crate::specs::Grammar::node_at))]
@@ -51,7 +18,7 @@ pub(crate) fn node(words: &mut Words<'_>, plan: &Plan) -> Result<NodeId, Fault>
     ensures value { Takes words.new result (node_at plan.now words.old) }
     ensures there { IfOk result (λ n. has_node plan.now n ≡ true) }
 {
-    let found = word(words)?;
+    let found = words.word_or(Fault::Grammar)?;
     match node_named(found) {
         None => Err(Fault::Grammar),
         Some(node) => {
@@ -70,7 +37,7 @@ pub(crate) fn replica(words: &mut Words<'_>, plan: &Plan) -> Result<NodeId, Faul
     ensures value { Takes words.new result (replica_at plan.now words.old) }
     ensures there { IfOk result (λ n. has_replica plan.now n ≡ true) }
 {
-    let found = word(words)?;
+    let found = words.word_or(Fault::Grammar)?;
     match node_named(found) {
         None => Err(Fault::Grammar),
         Some(node) => {
@@ -89,7 +56,7 @@ pub(crate) fn target(words: &mut Words<'_>, plan: &Plan, from: NodeId) -> Result
     ensures value { Takes words.new result (target_at plan.now from words.old) }
     ensures there { IfOk result (λ to. has_edge plan.now from to ≡ true) }
 {
-    let found = word(words)?;
+    let found = words.word_or(Fault::Grammar)?;
     match node_named(found) {
         None => Err(Fault::Grammar),
         Some(to) => {
@@ -108,7 +75,7 @@ pub(crate) fn link(words: &mut Words<'_>, plan: &Plan) -> Result<LinkId, Fault>
     ensures value { Takes words.new result (link_at plan.now words.old) }
     ensures there { IfOk result (λ link. has_link plan.now link ≡ true) }
 {
-    let found = word(words)?;
+    let found = words.word_or(Fault::Grammar)?;
     match link_named(found) {
         None => Err(Fault::Grammar),
         Some(link) => {
@@ -144,7 +111,7 @@ pub(crate) fn index(words: &mut Words<'_>) -> Result<u64, Fault>
     ensures value { Takes words.new result (index_at words.old) }
     ensures within { IfOk result (λ n. n ≤ max_index) }
 {
-    let found = word(words)?;
+    let found = words.word_or(Fault::Grammar)?;
     in_range(number_of(found), 0, MAX_INDEX)
 }
 
@@ -158,7 +125,7 @@ pub(crate) fn times(words: &mut Words<'_>) -> Result<u64, Fault>
         None => Ok(1),
         Some(word) => {
             let n = in_range(number_of(word), 1, MAX_REPEATS)?;
-            end(words)?;
+            words.end_or(Fault::Grammar)?;
             Ok(n)
         }
     }
