@@ -6,10 +6,8 @@ ghost use Rattle.ingress_egress.specs.IngressStands.{IsAdmitted, IsMade, IsMadeI
 ghost use Rattle.pair_machine.specs.Consumers.{first_below};
 ghost use Rattle.ingress_egress.specs.IngressView.{AreWide, contents_in, new_producers, producer_at, producer_in, source_due, taking, tuple_of, working};
 ghost use Rattle.trade_text.specs.TradesView.{inputs_in};
-ghost use Rattle.node_edges.specs.OutEdges.{copy_of, which_at};
 ghost use Rattle.pair_machine.specs.Machine.{new_node};
 ghost use Rattle.pair_machine.specs.Receivers.{GoOverLinks, appended};
-ghost use Rattle.pair_machine.specs.Replicas.{which_of};
 ghost use Rattle.plan_reader.specs.PlanView.{IsPlan, PlanView};
 ghost use Rattle.stream_ops.specs.Times.{IsTime};
 ghost use Rattle.std.specs.Prelude.{◌≡◌, ◌<◌, ◌≤◌, ◌+◌, ◌++◌, ◌∷◌, [], All, List, None, Some, IfNone, IfOk, IfSome, OnErr, OnOk, is_some, length, slice_get, slice_set};
@@ -20,11 +18,12 @@ ghost use Rattle.tuple_edge.specs.Limits.{edge_limit};
 
 use crate::making::{Made, given_at, make_with_room};
 use flux_producer::{Due, Producer};
+use node_edges::{copy_of, which_at};
 use plan_reader::{Plan, Stage};
 use std::alloc::Global;
 use std::marker::Model;
 use trade_text::Trades;
-use tuple_edge::{Body, EdgeId, Item, NodeId, OutOfMemory, Outbox, Row, Which, Worked};
+use tuple_edge::{Body, EdgeId, Item, NodeId, OutOfMemory, Outbox, Row, Worked};
 
 /// Ingress: it makes the inputs into items, one after another, and each of its sources sends its own
 /// rows, with the marks and the end, to the first stage.
@@ -76,30 +75,6 @@ fn new_producers(alloc: Global, sources: u32, parts: u32) -> Result<Vec<Producer
         producers.push(Producer::new(alloc, 0, source, parts, 2, true)?)?;
     }
     Ok(producers)
-}
-
-// The number of the replica that a node is, at the end of an edge.
-fn copy_of(node: NodeId) -> u32
-    ensures value { result ≡ copy_of (which_of node) }
-    ensures few { result < 2 }
-{
-    match node {
-        NodeId::Replica {
-            which: Which::B,
-            ..
-        } => 1,
-        _ => 0,
-    }
-}
-
-// The replica of this number.
-fn which_at(copy: u32) -> Which
-    ensures { result ≡ which_at copy }
-{
-    match copy {
-        0 => Which::A,
-        _ => Which::B,
-    }
 }
 
 impl Ingress {

@@ -5,9 +5,7 @@ ghost use Rattle.pair_machine.specs.Counts.{items_on};
 ghost use Rattle.pair_machine.specs.Machine.{new_node, replica_in};
 ghost use Rattle.pair_machine.specs.Numbers.{Node, ReplicaNode, RunningNumbers, in_edge};
 ghost use Rattle.pair_machine.specs.Numbers as numbers;
-ghost use Rattle.node_edges.specs.OutEdges.{copy_of};
 ghost use Rattle.pair_machine.specs.Receivers.{GoOverLinks, appended};
-ghost use Rattle.pair_machine.specs.Replicas.{which_of};
 ghost use Rattle.plan_reader.specs.Nodes.{has_node};
 ghost use Rattle.plan_reader.specs.PlanView.{IsPlan, PlanView};
 ghost use Rattle.replica_node.specs.Admitted.{IsAdmitted, MayPullIn, MayWorkIn};
@@ -32,6 +30,7 @@ use crate::role::Role;
 use catch_up::Newcomer;
 use flux_consumer::Consumer;
 use flux_producer::Producer;
+use node_edges::copy_of;
 use plan_reader::Plan;
 use state_mover::Mover;
 use std::alloc::Global;
@@ -408,19 +407,5 @@ impl Running {
             served: 0,
             mover: None,
         })
-    }
-}
-
-// The number of the replica that a node is, at the end of an edge.
-fn copy_of(node: NodeId) -> u32
-    ensures value { result ≡ copy_of (which_of node) }
-    ensures few { result < 2 }
-{
-    match node {
-        NodeId::Replica {
-            which: Which::B,
-            ..
-        } => 1,
-        _ => 0,
     }
 }

@@ -2,7 +2,6 @@
 ghost use Rattle.flux_consumer.specs.ConsumerView.{report_of};
 ghost use Rattle.flux_producer.specs.Due.{due_of};
 ghost use Rattle.merge_order.specs.MergeView.{item_of, least};
-ghost use Rattle.node_edges.specs.OutEdges.{which_at};
 ghost use Rattle.pair_machine.specs.Receivers.{appended};
 ghost use Rattle.replica_node.specs.Admitted.{MayWorkIn};
 ghost use Rattle.replica_node.specs.Answering.{HasParts};
@@ -22,9 +21,10 @@ use crate::moving::replica;
 use crate::phase::{Phase, Running};
 use crate::role::Role;
 use flux_producer::Due;
+use node_edges::which_at;
 use state_mover::Moved;
 use stream_ops::OpState;
-use tuple_edge::{Body, EdgeId, Item, NodeId, OutOfMemory, Outbox, Row, Which, Worked};
+use tuple_edge::{Body, EdgeId, Item, NodeId, OutOfMemory, Outbox, Row, Worked};
 
 impl Phase {
     // Does the first piece of work that is due; only one that runs has any.
@@ -204,16 +204,6 @@ fn receiver_of(role: &Role, due: Due) -> NodeId
     match role.next {
         None => NodeId::Egress,
         Some(_) => replica(role.stage + 1, due.to, which_at(due.copy)),
-    }
-}
-
-// The replica of this number.
-fn which_at(copy: u32) -> Which
-    ensures { result ≡ which_at copy }
-{
-    match copy {
-        0 => Which::A,
-        _ => Which::B,
     }
 }
 
