@@ -1,91 +1,98 @@
 // A join of movements of cash, which have symbol 0, with trades, worked out by hand.
-ghost use Rattle.std.specs.Prelude.{◌≤◌};
-ghost use Rattle.stream_ops.specs.Spec.{IsSpec};
-
-use crate::fixture::{answers, entry, row, stepped};
+use crate::steps::{Case, Numbers, Step, check};
 use std::test::Fail;
 use stream_ops::{By, Compare, OpSpec};
-use tuple_edge::Column;
+use tuple_edge::{BIG, Column};
 
-fn by_minute(rows: u32) -> OpSpec
-    requires { (1 ≤ rows) × (rows ≤ 4) }
-    ensures { IsSpec result }
-{
-    OpSpec::Join {
-        by: By::Account,
-        width: 60,
-        rows,
-        column: Column::Symbol,
-        compare: Compare::Equal,
-        limit: 0,
-    }
-}
+// Of the last row of each side of an account, by the minute.
+const OF_ONE: OpSpec = OpSpec::Join {
+    by: By::Account,
+    width: 60,
+    rows: 1,
+    column: Column::Symbol,
+    compare: Compare::Equal,
+    limit: 0,
+};
+
+const OF_TWO: OpSpec = OpSpec::Join {
+    by: By::Account,
+    width: 60,
+    rows: 2,
+    column: Column::Symbol,
+    compare: Compare::Equal,
+    limit: 0,
+};
+
+const OF_FOUR: OpSpec = OpSpec::Join {
+    by: By::Account,
+    width: 60,
+    rows: 4,
+    column: Column::Symbol,
+    compare: Compare::Equal,
+    limit: 0,
+};
+
+// Cash and trades of a minute, and cash of the next one.
+const MINUTE: &[Numbers] = &[
+    (34200, 7, 0, 0, 500),
+    (34201, 7, 1, 1, 100),
+    (34202, 7, 0, 0, -100),
+    (34203, 7, 1, 2, 200),
+    (34260, 7, 0, 0, 900),
+];
+
+// Cash of two minutes, and a trade of each.
+const TWO_MINUTES: &[Numbers] = &[
+    (60, 7, 0, 0, 5),
+    (120, 7, 0, 0, 7),
+    (61, 7, 1, 1, 1),
+    (121, 7, 1, 1, 1),
+];
+
+const CASES: &[Case] = &[
+    (
+        OF_TWO,
+        &[Step::Answers(
+            MINUTE,
+            &[
+                (34201, 7, 0, 1, 600),
+                (34202, 7, 0, 1, 0),
+                (34203, 7, 0, 2, 700),
+                (34203, 7, 0, 2, 100),
+            ],
+        )],
+    ),
+    // The last two rows of cash are kept, and those of trades.
+    (
+        OF_TWO,
+        &[
+            Step::Take(MINUTE),
+            Step::Counts(4),
+            Step::Keeps(&[
+                (7, 0, 0, -100, 570),
+                (7, 1, 0, 900, 571),
+                (7, 4, 1, 100, 570),
+                (7, 5, 2, 200, 570),
+            ]),
+        ],
+    ),
+    // The last rows count, also where they lie in another window.
+    (OF_ONE, &[Step::Answers(TWO_MINUTES, &[(121, 7, 0, 1, 8)])]),
+    (
+        OF_FOUR,
+        &[Step::Answers(TWO_MINUTES, &[(61, 7, 0, 1, 6), (121, 7, 0, 1, 8)])],
+    ),
+    // Sums of two rows stop at plus and minus nine quintillions.
+    (
+        OF_FOUR,
+        &[Step::Answers(
+            &[(60, 7, 0, BIG, -BIG), (61, 7, 1, 5, -5)],
+            &[(61, 7, 0, BIG, -BIG)],
+        )],
+    ),
+];
 
 #[test]
 fn pairs_cash_with_the_trades_of_its_minute(rt: HostRuntime) -> Result<(), Fail> {
-    let alloc = rt.alloc();
-    let rows = [
-        row(34200, 7, 0, 0, 500),
-        row(34201, 7, 1, 1, 100),
-        row(34202, 7, 0, 0, -100),
-        row(34203, 7, 1, 2, 200),
-        row(34260, 7, 0, 0, 900),
-    ];
-    assert_eq!(rt;
-        answers(&rt, alloc, by_minute(2), &rows)?.as_slice(),
-        [
-            row(34201, 7, 0, 1, 600),
-            row(34202, 7, 0, 1, 0),
-            row(34203, 7, 0, 2, 700),
-            row(34203, 7, 0, 2, 100),
-        ]
-        .as_slice()
-    );
-    let state = stepped(&rt, alloc, by_minute(2), &rows)?;
-    assert_eq!(rt; state.entry_count(), 4);
-    assert_eq!(rt;
-        state.entries(alloc)?.as_slice(),
-        [
-            entry(7, 0, 0, (0, -100), 570),
-            entry(7, 0, 1, (0, 900), 571),
-            entry(7, 0, 4, (1, 100), 570),
-            entry(7, 0, 5, (2, 200), 570),
-        ]
-        .as_slice()
-    );
-    Ok(())
-}
-
-// The last rows count, also where they lie in another window.
-#[test]
-fn pairs_with_the_last_rows_alone(rt: HostRuntime) -> Result<(), Fail> {
-    let alloc = rt.alloc();
-    let rows = [
-        row(60, 7, 0, 0, 5),
-        row(120, 7, 0, 0, 7),
-        row(61, 7, 1, 1, 1),
-        row(121, 7, 1, 1, 1),
-    ];
-    assert_eq!(rt;
-        answers(&rt, alloc, by_minute(1), &rows)?.as_slice(),
-        [row(121, 7, 0, 1, 8)].as_slice()
-    );
-    assert_eq!(rt;
-        answers(&rt, alloc, by_minute(4), &rows)?.as_slice(),
-        [row(61, 7, 0, 1, 6), row(121, 7, 0, 1, 8)].as_slice()
-    );
-    Ok(())
-}
-
-// Sums of two rows stop at plus and minus nine quintillions.
-#[test]
-fn stops_at_the_bounds(rt: HostRuntime) -> Result<(), Fail> {
-    let alloc = rt.alloc();
-    let most = tuple_edge::BIG;
-    let rows = [row(60, 7, 0, most, -most), row(61, 7, 1, 5, -5)];
-    assert_eq!(rt;
-        answers(&rt, alloc, by_minute(4), &rows)?.as_slice(),
-        [row(61, 7, 0, most, -most)].as_slice()
-    );
-    Ok(())
+    check(rt.alloc(), CASES)
 }

@@ -6,12 +6,14 @@
 #[cfg(test)]
 mod answers;
 #[cfg(test)]
-mod fixture;
+mod chance;
 #[cfg(test)]
 mod join_state;
 #[cfg(test)]
 mod joins;
 #[cfg(test)]
 mod many_keys;
+#[cfg(test)]
+mod steps;
 #[cfg(test)]
 mod watches;
