@@ -1,189 +1,203 @@
 // A move between the two replicas of a pair.
-use crate::fixture::{Event, Node, ONE, after, control, edge, item, replica};
+use crate::fixture::{A, B, CONTROL, Event, IN_EDGE, Node, ONE, Step, first_wrong, opened};
 use replica_node::Mode;
 use std::alloc::Global;
-use std::process::Abort;
 use std::test::Fail;
-use tuple_edge::{Body, Entry, Key, NodeId, OutOfMemory, Which, Worked};
+use tuple_edge::{Body, Entry, Key, NodeId, OutOfMemory, Which};
 
-// A survivor that has merged three items and serves its partner's second incarnation.
-fn survivor(rt: &impl Abort, alloc: Global) -> Result<Node, OutOfMemory> {
-    let serve = Body::Serve { inc: 1, target: 2 };
-    let steps = [
-        (Event::Merge(1, 3), None),
-        (Event::Give(control(1), serve), None),
-    ];
-    after(rt, alloc, ONE, Which::A, &steps)
-}
+// A survivor has merged three items and serves its partner's second incarnation.
+const SURVIVOR: &[Step] = &[
+    Step::Does(Event::Merge(1, 3)),
+    Step::Does(Event::Give(CONTROL, Body::Serve { inc: 1, target: 2 })),
+];
 
-// The next part of the survivor's move.
-fn part_of(rt: &impl Abort, survivor: &mut Node) -> Result<Body, OutOfMemory> {
-    assert!(rt; survivor.replica.may_work());
-    survivor.out.clear();
-    let did = survivor.replica.work(&mut survivor.out)?;
-    assert!(rt; did == Worked::Did);
-    let Some((to, body)) = survivor.out.get(0) else {
-        return Err(OutOfMemory);
-    };
-    assert!(rt; to == replica(1, Which::B));
-    Ok(body)
-}
+// Its partner begins anew in its second incarnation; an order to stop the first one comes late.
+const BEGINS: Step = Step::Does(Event::Give(CONTROL, Body::Begin { inc: 2 }));
 
-// A partner that began anew in its second incarnation; an order to stop the first one comes late.
-fn newcomer(rt: &impl Abort, alloc: Global) -> Result<Node, OutOfMemory> {
-    let steps = [
-        (Event::Give(control(1), Body::Begin { inc: 2 }), None),
-        (Event::Give(control(1), Body::Stop { inc: 1 }), None),
-    ];
-    after(rt, alloc, ONE, Which::B, &steps)
-}
+const STOPS_LATE: Step = Step::Does(Event::Give(CONTROL, Body::Stop { inc: 1 }));
 
-// How many entries it took, where it gathers.
-fn taken(node: &Node) -> Option<u64> {
-    Some(node.replica.newcomer()?.taken())
-}
-
-// It takes a part of its move and sends what is said; so many entries are taken then.
-fn takes(
-    rt: &impl Abort,
-    node: &mut Node,
-    part: Body,
-    packet: Option<(NodeId, Body)>,
-    entries: Option<u64>,
-) -> Result<(), OutOfMemory> {
-    node.goes(rt, &[(Event::Give(replica(1, Which::A), part), packet)])?;
-    assert!(rt; taken(node) == entries);
-    Ok(())
-}
-
-// The first two parts of the survivor's move.
-fn first_parts(rt: &impl Abort, alloc: Global) -> Result<[Body; 2], OutOfMemory> {
-    let mut survivor = survivor(rt, alloc)?;
-    let first = part_of(rt, &mut survivor)?;
-    let second = part_of(rt, &mut survivor)?;
-    Ok([first, second])
-}
-
-// These two come in this order, with the end before and repeats between. The first one makes the
-// newcomer want the items above the mark that it tells.
-fn in_any_order(first: Body, second: Body) -> [(Body, bool, u64); 5] {
-    [
-        (Body::ChunkEnd { inc: 2, count: 7 }, false, 0),
-        (second, false, 0),
-        (first, true, 1),
-        (first, false, 1),
-        (second, false, 2),
-    ]
-}
-
-// It wants the items of ingress above the move's mark.
-fn wanted() -> (NodeId, Body) {
-    let (edge, from) = (edge(0), 4);
-    (NodeId::Ingress, Body::Want { edge, from })
-}
-
-// It takes these parts one after another, and so many entries are taken then.
-fn takes_all(
-    rt: &impl Abort,
-    node: &mut Node,
-    parts: &[(Body, bool, u64)],
-) -> Result<(), OutOfMemory> {
-    for (part, wants, entries) in parts {
-        let packet = if *wants { Some(wanted()) } else { None };
-        takes(rt, node, *part, packet, Some(*entries))?;
+// The next part of the survivor's move, which goes to its partner.
+fn part_of(survivor: &mut Node) -> Result<Option<Body>, OutOfMemory> {
+    if !survivor.does(Event::Work)? {
+        return Ok(None);
     }
-    Ok(())
+    Ok(match survivor.out.get(0) {
+        Some((to, body)) if to == B => Some(body),
+        _ => None,
+    })
+}
+
+// The first two parts of the survivor's move, if it gives them.
+fn two_parts(alloc: Global, survivor: &mut Node) -> Result<(Option<Body>, Option<Body>), Fail> {
+    if !survivor.goes(alloc, SURVIVOR)? {
+        return Ok((None, None));
+    }
+    let first = part_of(survivor)?;
+    let second = part_of(survivor)?;
+    Ok((first, second))
+}
+
+fn first_parts(alloc: Global) -> Result<(Option<Body>, Option<Body>), Fail> {
+    let mut survivor = opened(alloc, ONE, Which::A)?;
+    let parts = two_parts(alloc, &mut survivor);
+    drop(survivor);
+    parts
+}
+
+// It takes a part of its move.
+fn takes(part: Body) -> Step {
+    Step::Does(Event::Give(A, part))
+}
+
+// It takes a part of its move, and wants the items of ingress above the move's mark.
+fn wants(part: Body) -> Step {
+    let (edge, from) = (IN_EDGE, 4);
+    Step::Sends(
+        Event::Give(A, part),
+        NodeId::Ingress,
+        Body::Want { edge, from },
+    )
+}
+
+// These two come in this order, with the end before and repeats between. The first one makes the newcomer want the items
+// above the mark that it tells.
+fn in_any_order(first: Body, second: Body) -> [Step; 12] {
+    [
+        BEGINS,
+        STOPS_LATE,
+        takes(Body::ChunkEnd { inc: 2, count: 7 }),
+        Step::Taken(0),
+        takes(second),
+        Step::Taken(0),
+        wants(first),
+        Step::Taken(1),
+        takes(first),
+        Step::Taken(1),
+        takes(second),
+        Step::Taken(2),
+    ]
 }
 
 // Chunks are taken in their order, each once; the end counts only after the last of them.
 #[test]
 fn chunks_come_in_any_order(rt: HostRuntime) -> Result<(), Fail> {
-    let [first, second] = first_parts(&rt, rt.alloc())?;
-    let mut node = newcomer(&rt, rt.alloc())?;
-    takes_all(&rt, &mut node, &in_any_order(first, second))?;
+    let (Some(first), Some(second)) = first_parts(rt.alloc())? else {
+        return Err(Fail::new("no two parts"));
+    };
+    let steps = in_any_order(first, second);
+    assert_eq!(rt; first_wrong(rt.alloc(), ONE, Which::B, &steps)?, None);
     Ok(())
 }
 
-// The next part of the move goes from the survivor to its partner, whatever that sends.
-fn passes(rt: &impl Abort, survivor: &mut Node, node: &mut Node) -> Result<(), OutOfMemory> {
-    assert!(rt; node.replica.mode() == Mode::Gathering);
-    let part = part_of(rt, survivor)?;
-    let from = replica(1, Which::A);
-    assert!(rt; node.replica.admits(&node.plan, from, &part));
-    node.out.clear();
-    node.replica.on(from, &part, &mut node.out)
-}
-
-// A partner that began anew and holds these items.
-fn holding(rt: &impl Abort, alloc: Global, held: &[u64]) -> Result<Node, OutOfMemory> {
-    let mut node = newcomer(rt, alloc)?;
-    for number in held {
-        node.goes(rt, &[(item(*number), None)])?;
+// The next part of the move goes from the survivor to its partner, which gathers, whatever that sends.
+fn passes(survivor: &mut Node, node: &mut Node) -> Result<bool, OutOfMemory> {
+    if node.replica.mode() != Mode::Gathering {
+        return Ok(false);
     }
-    Ok(node)
+    match part_of(survivor)? {
+        Some(part) => node.does(Event::Give(A, part)),
+        None => Ok(false),
+    }
 }
 
 // The survivor gives its whole move.
-fn passes_all(rt: &impl Abort, alloc: Global, node: &mut Node) -> Result<(), OutOfMemory> {
-    let mut survivor = survivor(rt, alloc)?;
+fn passes_all(survivor: &mut Node, node: &mut Node) -> Result<bool, OutOfMemory> {
+    let mut all = true;
     for _part in 0..8u32 {
-        passes(rt, &mut survivor, node)?;
+        all = all && passes(survivor, node)?;
     }
-    assert!(rt; survivor.replica.mover().is_none());
-    Ok(())
+    Ok(all && survivor.replica.mover().is_none())
 }
 
-// Takes the whole move; these items were held before.
-fn moved(rt: &impl Abort, alloc: Global, held: &[u64]) -> Result<Node, OutOfMemory> {
-    let mut node = holding(rt, alloc, held)?;
-    passes_all(rt, alloc, &mut node)?;
-    assert!(rt; node.out.get(0) == Some((control(1), Body::Caught { inc: 2 })));
-    Ok(node)
+// A survivor gives its whole move to a newcomer, which tells its controller.
+fn gives_all(alloc: Global, survivor: &mut Node, node: &mut Node) -> Result<bool, OutOfMemory> {
+    Ok(
+        survivor.goes(alloc, SURVIVOR)?
+            && passes_all(survivor, node)?
+            && node.out.get(0) == Some((CONTROL, Body::Caught { inc: 2 })),
+    )
 }
 
-// What was held is folded in as far as it follows the move's mark without a gap.
-#[test]
-fn a_newcomer_runs_with_what_it_held(rt: HostRuntime) -> Result<(), Fail> {
-    let tables: [(&[u64], u64); 3] = [(&[], 3), (&[4, 5], 5), (&[5], 3)];
-    for (held, mark) in tables {
-        let node = moved(&rt, rt.alloc(), held)?;
-        let replica = &node.replica;
-        assert!(rt; (replica.mode(), replica.inc()) == (Mode::Running, 2));
-        assert!(rt; (replica.count(), replica.served()) == (3, 0));
-        assert!(rt; node.mark() == Some(mark));
-        assert!(rt; node.buffered() == Some((0, 3)));
-    }
-    Ok(())
-}
-
-// Its operator keeps these entries.
-fn keeps(
-    rt: &impl Abort,
-    alloc: Global,
-    node: &Node,
-    entries: &[Entry],
-) -> Result<(), OutOfMemory> {
-    let Some(state) = node.replica.state() else {
-        return Err(OutOfMemory);
-    };
-    let kept = state.entries(alloc)?;
-    assert!(rt; kept.as_slice() == entries);
-    Ok(())
+fn catches_up(alloc: Global, node: &mut Node) -> Result<bool, Fail> {
+    let mut survivor = opened(alloc, ONE, Which::A)?;
+    let given = gives_all(alloc, &mut survivor, node);
+    drop(survivor);
+    Ok(given?)
 }
 
 // What a total of account 7 keeps of four rows.
-fn sum_of_four() -> Entry {
-    let (account, symbol) = (7, 0);
-    let key = Key { account, symbol };
-    let (slot, a, b, c) = (0, 4, 400, 0);
-    Entry::Keyed { key, slot, a, b, c }
+const SUM_OF_FOUR: Entry = Entry::Keyed {
+    key: Key {
+        account: 7,
+        symbol: 0,
+    },
+    slot: 0,
+    a: 4,
+    b: 400,
+    c: 0,
+};
+
+// What is done with the newcomer before the whole move, and what comes of it then.
+const MOVES: &[(&[Step], &[Step])] = &[
+    // It runs with what it held: that is folded in as far as it follows the move's mark without a gap.
+    (
+        &[BEGINS, STOPS_LATE],
+        &[
+            Step::Is(Mode::Running, 2),
+            Step::Count(3),
+            Step::Served(0),
+            Step::Mark(3),
+            Step::Buffered(0, 3),
+        ],
+    ),
+    (
+        &[
+            BEGINS,
+            STOPS_LATE,
+            Step::Does(Event::Item(4)),
+            Step::Does(Event::Item(5)),
+        ],
+        &[
+            Step::Is(Mode::Running, 2),
+            Step::Count(3),
+            Step::Served(0),
+            Step::Mark(5),
+            Step::Buffered(0, 3),
+        ],
+    ),
+    (
+        &[BEGINS, STOPS_LATE, Step::Does(Event::Item(5))],
+        &[
+            Step::Is(Mode::Running, 2),
+            Step::Count(3),
+            Step::Served(0),
+            Step::Mark(3),
+            Step::Buffered(0, 3),
+        ],
+    ),
+    // The operator goes on with the sums of the items that were merged before the move.
+    (
+        &[BEGINS, STOPS_LATE, Step::Does(Event::Item(4))],
+        &[Step::Does(Event::Work), Step::Keeps(&[SUM_OF_FOUR])],
+    ),
+];
+
+// Whether a newcomer that comes to this before the whole move comes to that after it.
+fn moves_so(alloc: Global, node: &mut Node, before: &[Step], then: &[Step]) -> Result<bool, Fail> {
+    Ok(node.goes(alloc, before)? && catches_up(alloc, node)? && node.goes(alloc, then)?)
 }
 
-// The operator goes on with the sums of the items that were merged before the move.
+fn newcomer_moves_so(alloc: Global, before: &[Step], then: &[Step]) -> Result<bool, Fail> {
+    let mut node = opened(alloc, ONE, Which::B)?;
+    let well = moves_so(alloc, &mut node, before, then);
+    drop(node);
+    well
+}
+
 #[test]
-fn a_newcomer_goes_on_from_there(rt: HostRuntime) -> Result<(), Fail> {
-    let mut node = moved(&rt, rt.alloc(), &[4])?;
-    node.goes(&rt, &[(Event::Work, None)])?;
-    keeps(&rt, rt.alloc(), &node, &[sum_of_four()])?;
+fn a_newcomer_goes_on_from_the_move(rt: HostRuntime) -> Result<(), Fail> {
+    for (nth, (before, then)) in MOVES.iter().enumerate() {
+        assert!(rt; newcomer_moves_so(rt.alloc(), before, then)?, "at {nth}");
+    }
     Ok(())
 }

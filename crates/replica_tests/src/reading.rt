@@ -1,78 +1,63 @@
-// What can be read of a replica, and items that it takes straight from their producer.
-use crate::fixture::{Event, Node, ONE, after, bought, control};
-use std::process::Abort;
+// What can be read of a replica, items that it takes straight from their producer, and what it tells its controller.
+use crate::fixture::{CONTROL, Case, Event, ONE, Step, check};
+use replica_node::Mode;
 use std::test::Fail;
-use tuple_edge::{Body, OutOfMemory, Which};
+use tuple_edge::{Body, Which};
 
-// Whether it has a consumer, a producer, an operator, a move, and a newcomer.
-fn has(node: &Node) -> [bool; 5] {
-    let replica = &node.replica;
-    [
-        replica.consumer().is_some(),
-        replica.producer().is_some(),
-        replica.state().is_some(),
-        replica.mover().is_some(),
-        replica.newcomer().is_some(),
-    ]
-}
-
-#[test]
-fn it_has_what_its_mode_needs(rt: HostRuntime) -> Result<(), Fail> {
-    let down = Body::Down { inc: 2 };
-    let mut node = after(
-        &rt,
-        rt.alloc(),
+const CASES: &[Case] = &[
+    // It has what its mode needs: while it runs, gives its state to its partner, gathers, and is gone.
+    (
         ONE,
         Which::B,
-        &[(Event::Merge(1, 3), None)],
-    )?;
-    assert_eq!(rt; has(&node), [true, true, true, false, false]);
-    let serve = Body::Serve { inc: 1, target: 2 };
-    let begin = Body::Begin { inc: 2 };
-    for (event, packet, parts, served, count) in [
-        (
-            Event::Give(control(1), serve),
-            None,
-            [true, true, true, true, false],
-            2,
-            3,
-        ),
-        (
-            Event::Give(control(1), begin),
-            None,
-            [false, false, false, false, true],
-            0,
-            0,
-        ),
-        (Event::Fail, Some((control(1), down)), [false; 5], 0, 0),
-    ] {
-        node.goes(&rt, &[(event, packet)])?;
-        assert!(rt; has(&node) == parts);
-        assert!(rt; (node.replica.served(), node.replica.count()) == (served, count));
-    }
-    Ok(())
-}
-
-// Takes the next item of its in-edge straight from its producer.
-fn pulls(rt: &impl Abort, node: &mut Node, number: u64) -> Result<(), OutOfMemory> {
-    assert!(rt; node.replica.may_pull(0));
-    node.replica.pull(0, bought(number))?;
-    assert!(rt; node.mark() == Some(number));
-    Ok(())
-}
+        &[
+            Step::Does(Event::Merge(1, 3)),
+            Step::Has([true, true, true, false, false]),
+            Step::Does(Event::Give(CONTROL, Body::Serve { inc: 1, target: 2 })),
+            Step::Has([true, true, true, true, false]),
+            Step::Served(2),
+            Step::Count(3),
+            Step::Does(Event::Give(CONTROL, Body::Begin { inc: 2 })),
+            Step::Has([false, false, false, false, true]),
+            Step::Served(0),
+            Step::Count(0),
+            Step::Sends(Event::Fail, CONTROL, Body::Down { inc: 2 }),
+            Step::Has([false, false, false, false, false]),
+            Step::Served(0),
+            Step::Count(0),
+        ],
+    ),
+    // Items are pulled while it runs, of the edge that it has.
+    (
+        ONE,
+        Which::B,
+        &[
+            Step::MayPull(1, false),
+            Step::Does(Event::Pull(1)),
+            Step::Mark(1),
+            Step::Does(Event::Pull(2)),
+            Step::Mark(2),
+            Step::Does(Event::Pull(3)),
+            Step::Mark(3),
+            Step::Does(Event::Work),
+            Step::Sends(Event::Fail, CONTROL, Body::Down { inc: 1 }),
+            Step::MayPull(0, false),
+        ],
+    ),
+    // Failures and requests go to the controller, in the incarnation that it is in.
+    (
+        ONE,
+        Which::A,
+        &[
+            Step::Sends(Event::AskStop, CONTROL, Body::AskStop { inc: 1 }),
+            Step::Sends(Event::AskBack, CONTROL, Body::AskBack),
+            Step::Does(Event::Give(CONTROL, Body::Begin { inc: 4 })),
+            Step::Sends(Event::Fail, CONTROL, Body::Down { inc: 4 }),
+            Step::Is(Mode::Gone, 4),
+        ],
+    ),
+];
 
 #[test]
-fn items_are_pulled_while_it_runs(rt: HostRuntime) -> Result<(), Fail> {
-    let mut node = after(&rt, rt.alloc(), ONE, Which::B, &[])?;
-    assert!(rt; !node.replica.may_pull(1));
-    for number in 1..=3u64 {
-        pulls(&rt, &mut node, number)?;
-    }
-    let down = Body::Down { inc: 1 };
-    node.goes(
-        &rt,
-        &[(Event::Work, None), (Event::Fail, Some((control(1), down)))],
-    )?;
-    assert!(rt; !node.replica.may_pull(0));
-    Ok(())
+fn it_is_what_its_mode_says(rt: HostRuntime) -> Result<(), Fail> {
+    check(rt.alloc(), CASES)
 }

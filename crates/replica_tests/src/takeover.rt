@@ -1,101 +1,142 @@
 // A pair's takeover, as one replica shows it, and what it takes of an edge.
-use crate::fixture::{Event, Node, ONE, TWO, after, control, edge, item, replica, total};
-use std::process::Abort;
+use crate::fixture::{CONTROL, Case, Event, IN_EDGE, ONE, OUT_EDGE, Step, TWO, check};
 use std::test::Fail;
 use tuple_edge::{Body, NodeId, Which};
 
-// The second stage acknowledges the first one's items.
-fn acknowledged(upto: u64) -> Event {
-    let edge = edge(1);
-    Event::Give(control(2), Body::Ack { edge, upto })
-}
+// The replicas of the second stage, and their controller.
+const NEXT_A: NodeId = NodeId::Replica {
+    stage: 2,
+    part: 0,
+    which: Which::A,
+};
 
-// The item of this number goes to a replica of the second stage.
-fn sent(number: u64, which: Which) -> Option<(NodeId, Body)> {
-    let edge = edge(1);
-    let item = total(number);
-    Some((replica(2, which), Body::Tuple { edge, number, item }))
-}
+const NEXT_B: NodeId = NodeId::Replica {
+    stage: 2,
+    part: 0,
+    which: Which::B,
+};
 
-// It has this mark, and these numbers of its out-edge.
-fn stands_at(rt: &impl Abort, node: &Node, mark: u64, buffered: (u64, u64)) {
-    assert!(rt; node.mark() == Some(mark));
-    assert!(rt; node.buffered() == Some(buffered));
-}
+const NEXT_CONTROL: NodeId = NodeId::Control { stage: 2, part: 0 };
 
-// What the dead leader may have sent is sent again: all that is not acknowledged, to both replicas.
+// The second stage acknowledges the first one's items up to the seventh, or to the twentieth.
+const SEVEN: Event = Event::Give(
+    NEXT_CONTROL,
+    Body::Ack {
+        edge: OUT_EDGE,
+        upto: 7,
+    },
+);
+
+const TWENTY: Event = Event::Give(
+    NEXT_CONTROL,
+    Body::Ack {
+        edge: OUT_EDGE,
+        upto: 20,
+    },
+);
+
+// It has taken an item of its in-edge.
+const REPORT: Body = Body::Report {
+    inc: 1,
+    edge: IN_EDGE,
+    upto: 1,
+};
+
+// All items of the first stage are wanted.
+const WANT: Body = Body::Want {
+    edge: OUT_EDGE,
+    from: 1,
+};
+
+const CASES: &[Case] = &[
+    // What the dead leader may have sent is sent again: all that is not acknowledged, to both replicas.
+    (
+        TWO,
+        Which::B,
+        &[
+            Step::Does(Event::Merge(1, 10)),
+            Step::Does(SEVEN),
+            Step::Does(Event::Give(CONTROL, Body::Lead { inc: 1, term: 2 })),
+            Step::SendsTotal(NEXT_A, 8),
+            Step::SendsTotal(NEXT_B, 8),
+            Step::SendsTotal(NEXT_A, 9),
+            Step::SendsTotal(NEXT_B, 9),
+            Step::SendsTotal(NEXT_A, 10),
+            Step::SendsTotal(NEXT_B, 10),
+            Step::Mark(10),
+            Step::Buffered(7, 10),
+        ],
+    ),
+    // A lead of another incarnation says nothing, and a replica that doesn't lead sends nothing but its report.
+    (
+        TWO,
+        Which::B,
+        &[
+            Step::Does(Event::Merge(1, 1)),
+            Step::Does(Event::Give(CONTROL, Body::Lead { inc: 2, term: 2 })),
+            Step::Sends(Event::Work, CONTROL, REPORT),
+            Step::Does(Event::Rest),
+            Step::Mark(1),
+            Step::Buffered(0, 1),
+        ],
+    ),
+    // An acknowledgement may come before the item: what is behind is let go as it is produced.
+    (
+        TWO,
+        Which::B,
+        &[
+            Step::Does(Event::Merge(1, 10)),
+            Step::Does(TWENTY),
+            Step::Mark(10),
+            Step::Buffered(20, 10),
+            Step::Does(Event::Merge(11, 20)),
+            Step::Mark(20),
+            Step::Buffered(20, 20),
+        ],
+    ),
+    // Items are taken by their numbers: a repeat and a gap change nothing.
+    (
+        ONE,
+        Which::A,
+        &[
+            Step::Does(Event::Item(1)),
+            Step::Mark(1),
+            Step::Buffered(0, 0),
+            Step::Does(Event::Item(1)),
+            Step::Mark(1),
+            Step::Buffered(0, 0),
+            Step::Does(Event::Item(1)),
+            Step::Mark(1),
+            Step::Buffered(0, 0),
+            Step::Does(Event::Item(3)),
+            Step::Mark(1),
+            Step::Buffered(0, 0),
+            Step::Does(Event::Item(2)),
+            Step::Mark(2),
+            Step::Buffered(0, 0),
+            Step::Does(Event::Item(3)),
+            Step::Mark(3),
+            Step::Buffered(0, 0),
+        ],
+    ),
+    // The items of an edge reach the replica that wants them again, and the other one is not disturbed.
+    (
+        TWO,
+        Which::A,
+        &[
+            Step::Does(Event::Merge(1, 2)),
+            Step::SendsTotal(NEXT_A, 1),
+            Step::SendsTotal(NEXT_B, 1),
+            Step::Does(Event::Give(NEXT_B, WANT)),
+            Step::SendsTotal(NEXT_B, 1),
+            Step::SendsTotal(NEXT_A, 2),
+            Step::Mark(2),
+            Step::Buffered(0, 2),
+        ],
+    ),
+];
+
 #[test]
-fn a_new_leader_sends_again_what_is_not_acknowledged(rt: HostRuntime) -> Result<(), Fail> {
-    let lead = Body::Lead { inc: 1, term: 2 };
-    let steps = [
-        (Event::Merge(1, 10), None),
-        (acknowledged(7), None),
-        (Event::Give(control(1), lead), None),
-        (Event::Work, sent(8, Which::A)),
-        (Event::Work, sent(8, Which::B)),
-        (Event::Work, sent(9, Which::A)),
-        (Event::Work, sent(9, Which::B)),
-        (Event::Work, sent(10, Which::A)),
-        (Event::Work, sent(10, Which::B)),
-    ];
-    let node = after(&rt, rt.alloc(), TWO, Which::B, &steps)?;
-    stands_at(&rt, &node, 10, (7, 10));
-    Ok(())
-}
-
-// A lead of another incarnation says nothing, and a replica that doesn't lead sends nothing but its report.
-#[test]
-fn only_a_leader_sends(rt: HostRuntime) -> Result<(), Fail> {
-    let (inc, edge, upto) = (1, edge(0), 1);
-    let report = Body::Report { inc, edge, upto };
-    let lead = Body::Lead { inc: 2, term: 2 };
-    let steps = [
-        (Event::Merge(1, 1), None),
-        (Event::Give(control(1), lead), None),
-        (Event::Work, Some((control(1), report))),
-        (Event::Rest, None),
-    ];
-    let node = after(&rt, rt.alloc(), TWO, Which::B, &steps)?;
-    stands_at(&rt, &node, 1, (0, 1));
-    Ok(())
-}
-
-// An acknowledgement may come before the item: what is behind is let go as it is produced.
-#[test]
-fn acknowledgements_may_be_ahead(rt: HostRuntime) -> Result<(), Fail> {
-    let steps = [(Event::Merge(1, 10), None), (acknowledged(20), None)];
-    let mut node = after(&rt, rt.alloc(), TWO, Which::B, &steps)?;
-    stands_at(&rt, &node, 10, (20, 10));
-    node.goes(&rt, &[(Event::Merge(11, 20), None)])?;
-    stands_at(&rt, &node, 20, (20, 20));
-    Ok(())
-}
-
-// A repeat and a gap change nothing.
-#[test]
-fn items_are_taken_by_their_numbers(rt: HostRuntime) -> Result<(), Fail> {
-    let mut node = after(&rt, rt.alloc(), ONE, Which::A, &[])?;
-    for (number, mark) in [(1, 1), (1, 1), (1, 1), (3, 1), (2, 2), (3, 3)] {
-        node.goes(&rt, &[(item(number), None)])?;
-        stands_at(&rt, &node, mark, (0, 0));
-    }
-    Ok(())
-}
-
-// The items of an edge reach the replica that wants them again, and the other one is not disturbed.
-#[test]
-fn a_want_is_for_its_own_replica(rt: HostRuntime) -> Result<(), Fail> {
-    let (edge, from) = (edge(1), 1);
-    let want = Event::Give(replica(2, Which::B), Body::Want { edge, from });
-    let steps = [
-        (Event::Merge(1, 2), None),
-        (Event::Work, sent(1, Which::A)),
-        (Event::Work, sent(1, Which::B)),
-        (want, None),
-        (Event::Work, sent(1, Which::B)),
-        (Event::Work, sent(2, Which::A)),
-    ];
-    let node = after(&rt, rt.alloc(), TWO, Which::A, &steps)?;
-    stands_at(&rt, &node, 2, (0, 2));
-    Ok(())
+fn items_go_over_edges_by_their_numbers(rt: HostRuntime) -> Result<(), Fail> {
+    check(rt.alloc(), CASES)
 }

@@ -1,8 +1,8 @@
 // A long walk of mixed calls beside a plain program on numbers.
-use crate::fixture::{Event, Node, ONE, after, control, edge, item, total};
-use std::process::Abort;
+use crate::fixture::{CONTROL, Event, IN_EDGE, Node, ONE, OUT_EDGE, Step, opened};
+use std::alloc::Global;
 use std::test::Fail;
-use tuple_edge::{Body, NodeId, OutOfMemory, Which};
+use tuple_edge::{Body, NodeId, Which};
 
 // What a leader of one stage has come to: the number of the last item taken, how many it merged, up to which
 // number its own items were sent and are acknowledged, and what it reported.
@@ -30,77 +30,66 @@ impl Plain {
     }
 
     // The next piece of work, if any, and the packet that it sends.
-    fn works(&mut self) -> (Event, Option<(NodeId, Body)>) {
+    fn works(&mut self) -> Step {
         if self.count < self.mark {
             self.count = self.count.saturating_add(1);
-            return (Event::Work, None);
+            return Step::Does(Event::Work);
         }
         if self.sent < self.count {
             self.sent = self.sent.saturating_add(1);
-            return (Event::Work, Some((NodeId::Egress, answer(self.sent))));
+            return Step::SendsTotal(NodeId::Egress, self.sent);
         }
         if self.told < self.mark {
             self.told = self.mark;
-            let (inc, edge, upto) = (1, edge(0), self.told);
-            return (
-                Event::Work,
-                Some((control(1), Body::Report { inc, edge, upto })),
-            );
+            return Step::Sends(Event::Work, CONTROL, report(self.told));
         }
-        (Event::Rest, None)
+        Step::Does(Event::Rest)
     }
 }
 
-// What the stage answers to its item of this number.
-fn answer(number: u64) -> Body {
-    let edge = edge(1);
-    let item = total(number);
-    Body::Tuple { edge, number, item }
+// What it reports to its controller once it took items up to this number.
+fn report(upto: u64) -> Body {
+    let (inc, edge) = (1, IN_EDGE);
+    Body::Report { inc, edge, upto }
 }
 
 // An event of the walk, by a number drawn at random, and the packet that it has to send.
-fn drawn_event(plain: &mut Plain, nth: u64, drawn: u64) -> (Event, Option<(NodeId, Body)>) {
+fn drawn_event(plain: &mut Plain, nth: u64, drawn: u64) -> Step {
     let near = drawn / 16;
     match drawn % 16 {
         0..=5 => {
             let number = (near % 4).saturating_add(plain.mark.saturating_sub(1));
             plain.offered(number);
-            (item(number), None)
+            Step::Does(Event::Item(number))
         }
         6 => {
             let upto = plain.sent.saturating_sub(near % 4);
-            let edge = edge(1);
+            let edge = OUT_EDGE;
             plain.acknowledged(upto);
-            (Event::Give(NodeId::Egress, Body::Ack { edge, upto }), None)
+            Step::Does(Event::Give(NodeId::Egress, Body::Ack { edge, upto }))
         }
         7 if near % 8 == 0 => {
             plain.sent = plain.low;
             let (inc, term) = (1, nth);
-            (Event::Give(control(1), Body::Lead { inc, term }), None)
+            Step::Does(Event::Give(CONTROL, Body::Lead { inc, term }))
         }
         _ => plain.works(),
     }
 }
 
 // One step of the walk: it stands where the plain program does.
-fn step(
-    rt: &impl Abort,
-    node: &mut Node,
-    plain: &mut Plain,
-    nth: u64,
-    drawn: u64,
-) -> Result<(), OutOfMemory> {
+fn step(plain: &mut Plain, nth: u64, drawn: u64) -> [Step; 4] {
     let event = drawn_event(plain, nth, drawn);
-    node.goes(rt, &[event])?;
-    assert!(rt; node.mark() == Some(plain.mark));
-    assert!(rt; node.replica.count() == plain.count);
-    assert!(rt; node.buffered() == Some((plain.low, plain.count)));
-    Ok(())
+    [
+        event,
+        Step::Mark(plain.mark),
+        Step::Count(plain.count),
+        Step::Buffered(plain.low, plain.count),
+    ]
 }
 
-#[test]
-fn a_leader_does_as_a_plain_program(rt: HostRuntime) -> Result<(), Fail> {
-    let mut node = after(&rt, rt.alloc(), ONE, Which::A, &[])?;
+// What the plain program has come to after the walk.
+fn walk(alloc: Global, node: &mut Node) -> Result<Plain, Fail> {
     let mut plain = Plain {
         mark: 0,
         count: 0,
@@ -111,8 +100,23 @@ fn a_leader_does_as_a_plain_program(rt: HostRuntime) -> Result<(), Fail> {
     let mut drawn: u64 = 7;
     for nth in 2..2002u64 {
         drawn = (drawn % 2_147_483_648 * 1_103_515_245 + 12_345) % 2_147_483_648;
-        step(&rt, &mut node, &mut plain, nth, drawn / 65_536)?;
+        if !node.goes(alloc, &step(&mut plain, nth, drawn / 65_536))? {
+            return Err(Fail::new(format_args!("not so at {nth}")));
+        }
     }
+    Ok(plain)
+}
+
+fn walked(alloc: Global) -> Result<Plain, Fail> {
+    let mut node = opened(alloc, ONE, Which::A)?;
+    let plain = walk(alloc, &mut node);
+    drop(node);
+    plain
+}
+
+#[test]
+fn a_leader_does_as_a_plain_program(rt: HostRuntime) -> Result<(), Fail> {
+    let plain = walked(rt.alloc())?;
     assert!(rt; plain.count > 150 && plain.low > 100);
     Ok(())
 }
