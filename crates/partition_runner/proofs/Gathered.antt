@@ -11,12 +11,12 @@ use Rattle.pair_machine.specs.Lists.{Each}
 use Rattle.pair_machine.specs.Numbers.{Node}
 use Rattle.pair_machine.specs.declared.order.Order.{Order}
 use Rattle.partition_runner.specs.Linked.{ids_of}
-use Rattle.partition_runner.specs.SoundNode.{TapFits}
+use Rattle.run_node.specs.SoundNode.{TapFits}
 use Rattle.tuple_edge.specs.declared.event.Stamped.{Stamped}
 use Rattle.tuple_edge.specs.declared.node.NodeId.{NodeId}
-use Rattle.partition_runner.specs.NodeView.{NodeName, NodeView, name_of}
+use Rattle.run_node.specs.NodeView.{NodeName, NodeView, name_of}
 use Rattle.partition_runner.specs.Runs.{IsJointCourse, IsRun, TapOfSome, any_tapped, ids_in, parts_in, parts_of}
-use Rattle.partition_runner.specs.declared.part.Part.{Part}
+use Rattle.run_node.specs.declared.part.Part.{Part}
 
 pub parts_in-more : {A : Type 0} (ps : List (Part A)) (p : Part A) → parts_in (ps ++ p ∷ []) ≡ parts_in ps ++ (p.state, p.history.items) ∷ []
 parts_in-more [] p = refl

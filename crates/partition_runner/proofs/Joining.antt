@@ -1,5 +1,5 @@
 -- Links that are made between nodes.
-use Rattle.std.proofs.Common.{◌≡◌, ◌⊎◌, ⊎_elim, ◌∙◌, ◌+◌, ◌<◌, ◌||◌, ◌&&◌, ◌==◌, ℕ, zero, suc, Bool, true, false, List, [], ◌∷◌, ◌++◌, Option, Some, length, get_or, set, take, refl, sym, ap, subst, arith, true≢false}
+use Rattle.std.proofs.Common.{◌≡◌, ◌⊎◌, ⊎_elim, ◌∙◌, ◌+◌, ◌<◌, ◌&&◌, ◌==◌, ℕ, zero, suc, Bool, true, false, List, [], ◌∷◌, ◌++◌, Option, Some, length, get_or, set, take, refl, sym, ap, subst, arith, true≢false}
 use Rattle.std.specs.Prelude.{if◌then◌else◌, IsSome, is_some, slice_get}
 use Rattle.flux_link.specs.Identity.{Identity}
 use Rattle.tuple_edge.specs.declared.node.NodeId.{NodeId}
@@ -15,10 +15,10 @@ use Rattle.pair_machine.proofs.Lists.{each_map}
 use Rattle.pair_machine.proofs.Names.{is_node-true, node_self}
 use Rattle.pair_machine.proofs.Tests.{nat_self}
 use Rattle.partition_runner.specs.Drafts.{Grows, LeadsTo, LeadsToAll}
-use Rattle.partition_runner.specs.Linked.{AreDistinct, AreLinked, IsFirstTo, IsLinkFrom, identity_to, ids_of, name_at}
+use Rattle.partition_runner.specs.Linked.{AreDistinct, AreLinked, IsLinkFrom, ids_of, name_at}
+use Rattle.run_node.specs.FirstLinks.{identity_to}
 use Rattle.std.proofs.lemmas.Bool.{eqb-true}
-use Rattle.partition_runner.specs.Ends.{OutEndView, OutLink, leads_to, links_of}
-use Rattle.partition_runner.specs.NodeView.{NodeName, out_names}
+use Rattle.run_node.specs.NodeView.{NodeName}
 
 -- ---- names that grow
 
@@ -208,23 +208,6 @@ module _ (ms : List NodeName) (i j : ℕ) (d : NodeName) (k : Identity) (i_in : 
       let here : IsLinkFrom zs (get_or zs j d).id (get_or ms i d).id k = subst (λ n. IsLinkFrom zs n (get_or ms i d).id k) (sym id) new_link in
       let its : AllLinked zs receiver = subst (AllLinked zs) (sym receives) (each_last (λ (l : NodeId × Identity). IsLinkFrom zs (get_or zs j d).id l.0 l.1) (get_or zs j d).ins ((get_or ms i d).id, k) (each_get (AllLinked zs) zs j d lt all) here) in
       all_later zs (set zs j receiver) second (set zs j receiver) (each_set (AllLinked zs) zs j receiver all its)
-
-pub leads_named : (ls : List OutLink) (n : NodeId) → IsSome (identity_to (out_names ls) n) → leads_to ls n ≡ true
-leads_named [] n h = cc
-leads_named (l ∷ ls) n h = go (is_node l.to n) h (λ k. leads_named ls n k)
-  where
-    go : (b : Bool) → IsSome (if b then Some l.identity else identity_to (out_names ls) n) → (IsSome (identity_to (out_names ls) n) → leads_to ls n ≡ true) → (b || leads_to ls n) ≡ true
-    go true k more = refl
-    go false k more = more k
-
-there : {X : Type 0} (xs : List X) (i : ℕ) → i < length xs → (x : X) × (slice_get xs i ≡ Some x)
-there [] i lt = absurd (omega arith)
-there (x ∷ xs) zero lt = (x, refl)
-there (x ∷ xs) (suc i) lt = there xs i (omega arith)
-
--- where the first link to a node stands somewhere, there is one
-pub first_some : (outs : List OutEndView) (to : NodeId) (place : ℕ) → IsFirstTo outs to place → is_some (identity_to (out_names (links_of outs)) to) ≡ true
-first_some outs to place first = let e = there outs place first.within in ap is_some (first.identity e.0 e.1)
 
 -- ---- links that the plan has
 

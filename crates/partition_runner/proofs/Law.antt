@@ -25,11 +25,12 @@ use Rattle.pair_machine.proofs.Lists.{each_map}
 use Rattle.pair_machine.proofs.Names.{is_node-true, node_self}
 use Rattle.pair_machine.proofs.RunLaw.{logs_legal, new_true, nodes_stand}
 use Rattle.pair_machine.proofs.WithinLogs.{logs_within}
-use Rattle.partition_runner.specs.Ends.{InLink, emitted_to}
-use Rattle.partition_runner.specs.Fits.{Came, Fit}
-use Rattle.partition_runner.specs.NodeView.{NodeView, name_of}
-use Rattle.partition_runner.proofs.Events.{some_left}
-use Rattle.partition_runner.specs.Runs.{AreSettled, IsJointCourse, IsSettled, IsTrueView, history_in, parts_of, view_at}
+use Rattle.run_node.specs.Ends.{InLink, emitted_to}
+use Rattle.run_node.specs.Fits.{Came, Fit}
+use Rattle.run_node.specs.NodeView.{NodeView, name_of}
+use Rattle.run_node.proofs.Events.{some_left}
+use Rattle.partition_runner.specs.Runs.{AreSettled, IsJointCourse, IsSettled, history_in, parts_of, view_at}
+use Rattle.run_node.specs.SoundNode.{IsTrueView}
 
 module _ {A : Type 0} (T : Type 0) (id : A → NodeId) (stands : PlanView → List Input → A → Node → Type 0) (plan : PlanView) (inputs : List Input) (script : List Order) where
   abbrev True : NodeView A T → Type 0

@@ -1,12 +1,6 @@
-pub mod Places
-pub mod SentPackets
-pub mod Events
 pub mod Law
 pub mod Settled
 pub mod Gathered
-pub mod Merged
-pub mod Room
-pub mod Acting
 pub mod Joining
 pub mod Sources
 pub mod NodeOrder

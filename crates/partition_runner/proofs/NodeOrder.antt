@@ -17,7 +17,7 @@ use Rattle.pair_machine.proofs.Names.{is_node-true, node_self}
 use Rattle.pair_machine.proofs.PlanNodes.{nodes_named}
 use Rattle.partition_runner.specs.Linked.{AreDistinct, ids_of}
 use Rattle.partition_runner.specs.NodeOrder.{nodes_before_egress, nodes_of, pair_nodes, stage_nodes, stages_nodes}
-use Rattle.partition_runner.specs.NodeView.{NodeName}
+use Rattle.run_node.specs.NodeView.{NodeName}
 
 -- ---- nodes that differ
 

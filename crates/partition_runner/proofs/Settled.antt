@@ -7,9 +7,10 @@ use Rattle.tuple_edge.specs.declared.node.NodeId.{NodeId}
 use Rattle.pair_machine.specs.Lists.{Each}
 use Rattle.pair_machine.specs.Numbers.{is_node}
 use Rattle.pair_machine.proofs.Names.{is_node-true, node_self}
-use Rattle.partition_runner.specs.Ends.{InLink, emitted_to}
-use Rattle.partition_runner.specs.Linked.{AreLinked, IsLinkFrom, identity_to, name_at}
-use Rattle.partition_runner.specs.NodeView.{NodeName, NodeView, in_names, name_of, out_names}
+use Rattle.run_node.specs.Ends.{InLink, emitted_to}
+use Rattle.partition_runner.specs.Linked.{AreLinked, IsLinkFrom, name_at}
+use Rattle.run_node.specs.FirstLinks.{identity_to}
+use Rattle.run_node.specs.NodeView.{NodeName, NodeView, in_names, name_of, out_names}
 use Rattle.partition_runner.specs.Runs.{IsFirstWith, IsSettled, view_at}
 
 pub some_same : {X : Type 0} (o : Option X) (x y : X) → o ≡ Some x → o ≡ Some y → x ≡ y

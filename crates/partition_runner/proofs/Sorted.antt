@@ -25,11 +25,11 @@ use Rattle.partition_runner.specs.NodeOrder.{controls_among, nodes_before_egress
 use Rattle.partition_runner.specs.Ran.{IsLegalRun, history_of}
 use Rattle.partition_runner.specs.Runs.{IsRun, history_in, ids_in}
 use Rattle.partition_runner.specs.Sorted.{AreSorted, FoundEgress, FoundIngress, IsNoEgress, IsNoIngress, control_of, controls_in, named_histories, named_parts, replica_of, replicas_in}
-use Rattle.partition_runner.specs.States.{StandsFor, id_of}
+use Rattle.run_node.specs.States.{StandsFor, id_of}
 use Rattle.partition_runner.specs.declared.ran.Ran.{Ran}
 use Rattle.partition_runner.specs.declared.sorting.Sorted.{Sorted}
-use Rattle.partition_runner.specs.declared.state.NodeState.{NodeState}
-use Rattle.partition_runner.specs.declared.state.NodeState.TheVariants as state
+use Rattle.run_node.specs.declared.state.NodeState.{NodeState}
+use Rattle.run_node.specs.declared.state.NodeState.TheVariants as state
 use Rattle.partition_runner.proofs.NodeOrder.{ids_distinct, nodes_apart}
 
 -- ---- one part more

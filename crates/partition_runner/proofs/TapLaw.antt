@@ -22,9 +22,9 @@ use Rattle.pair_machine.proofs.Names.{is_node-true, node_self}
 use Rattle.ingress_egress.specs.EgressView.{EgressView}
 use Rattle.partition_runner.specs.NodeOrder.{nodes_of}
 use Rattle.partition_runner.specs.Runs.{IsRun, history_in, ids_in}
-use Rattle.partition_runner.specs.States.{StandsFor, id_of, rows_of}
-use Rattle.partition_runner.specs.declared.state.NodeState.{NodeState}
-use Rattle.partition_runner.specs.declared.state.NodeState.TheVariants as state
+use Rattle.run_node.specs.States.{StandsFor, id_of, rows_of}
+use Rattle.run_node.specs.declared.state.NodeState.{NodeState}
+use Rattle.run_node.specs.declared.state.NodeState.TheVariants as state
 use Rattle.partition_runner.proofs.NodeOrder.{Apart, ids_distinct, nodes_apart}
 
 prefix_more : (xs ys zs : List Row) → IsPrefix xs ys → IsPrefix ys zs → IsPrefix xs zs

@@ -13,9 +13,10 @@ use Rattle.pair_machine.proofs.PlanNodes.{nodes_named}
 use Rattle.pair_machine.specs.Courses.{Pairwise}
 use Rattle.pair_machine.specs.Lists.{Each}
 use Rattle.partition_runner.specs.Drafts.{Grows, LeadsTo, LeadsToAll, all_unlinked, unlinked}
-use Rattle.partition_runner.specs.Linked.{AreDistinct, AreLinked, IsLinkFrom, identity_to, ids_of}
+use Rattle.partition_runner.specs.Linked.{AreDistinct, AreLinked, IsLinkFrom, ids_of}
+use Rattle.run_node.specs.FirstLinks.{identity_to}
 use Rattle.partition_runner.specs.NodeOrder.{nodes_before_egress, nodes_of}
-use Rattle.partition_runner.specs.NodeView.{NodeName}
+use Rattle.run_node.specs.NodeView.{NodeName}
 use Rattle.partition_runner.specs.Ready.{HaveTheirLinks}
 use Rattle.partition_runner.specs.Runs.{any_tapped}
 use Rattle.partition_runner.proofs.Joining.{same_ids}

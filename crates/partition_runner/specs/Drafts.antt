@@ -1,28 +1,14 @@
 -- A node while its links are made.
-use Rattle.std.specs.Prelude.{◌≡◌, true, false, List, [], ◌∷◌, ◌++◌, Option, IsSome}
-use Rattle.tuple_edge.specs.Input.{Input}
+use Rattle.std.specs.Prelude.{◌≡◌, true, false, List, [], ◌∷◌, ◌++◌, IsSome}
 use Rattle.tuple_edge.specs.declared.node.NodeId.{NodeId}
 use Rattle.tuple_edge.specs.declared.node.NodeId.TheVariants as node
-use Rattle.tuple_edge.specs.declared.row.Row.{Row}
 use Rattle.plan_reader.specs.Nodes.{has_link}
 use Rattle.plan_reader.specs.PlanView.{PlanView}
 use Rattle.pair_machine.specs.Links.{link}
 use Rattle.pair_machine.specs.Lists.{Each}
-use Rattle.pair_machine.specs.Machine.{new_node}
-use Rattle.partition_runner.specs.Ends.{OutLink}
-use Rattle.partition_runner.specs.Linked.{identity_to}
+use Rattle.run_node.specs.FirstLinks.{identity_to}
+use Rattle.run_node.specs.NodeView.{NodeName}
 use Rattle.partition_runner.specs.NodeOrder.{nodes_before_egress}
-use Rattle.partition_runner.specs.NodeView.{NodeName}
-use Rattle.partition_runner.specs.SoundNode.{TapFits}
-use Rattle.partition_runner.specs.States.{IsOfPlan, StandsFor, id_of, rows_of}
-use Rattle.partition_runner.specs.declared.state.NodeState.{NodeState}
-
--- a node of the plan as it opens, on whose links nothing was sent, with a tap that gave nothing that it hadn't emitted
-pub record IsFresh {T : Type 0} (given : T → List Row) (plan : PlanView) (inputs : List Input) (state : NodeState) (outs : List OutLink) (tap : Option T) : Type 0 where
-  pub of_plan : IsOfPlan plan state
-  pub opening : StandsFor plan inputs state (new_node (id_of state))
-  pub unsent : Each (λ l. l.emitted ≡ []) outs
-  pub gave : TapFits given rows_of tap state
 
 -- a node has a link to another one, where the plan has it
 abbrev pub LeadsTo : PlanView → NodeName → NodeId → Type 0

@@ -1,13 +1,6 @@
-pub mod Ends
-pub mod Sends
-pub mod Fits
-pub mod Tasks
-pub mod NodeView
-pub mod SoundNode
 pub mod Linked
 pub mod Runs
 pub mod NodeOrder
-pub mod States
 pub mod Ran
 pub mod Drafts
 pub mod Ready

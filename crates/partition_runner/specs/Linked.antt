@@ -1,21 +1,16 @@
 -- How the links of nodes fit together.
-use Rattle.std.specs.Prelude.{◌≡◌, ℕ, false, List, [], ◌∷◌, Option, None, Some, if◌then◌else◌, ◌<◌, length, map, slice_get}
+use Rattle.std.specs.Prelude.{◌≡◌, false, List, [], ◌∷◌, Option, None, Some, if◌then◌else◌, map}
 use Rattle.flux_link.specs.Identity.{Identity}
 use Rattle.tuple_edge.specs.declared.node.NodeId.{NodeId}
 use Rattle.pair_machine.specs.Lists.{Each}
 use Rattle.pair_machine.specs.Numbers.{is_node}
-use Rattle.partition_runner.specs.Ends.{OutEndView, emitted_to, links_of}
-use Rattle.partition_runner.specs.NodeView.{NodeName, out_names}
+use Rattle.run_node.specs.FirstLinks.{identity_to}
+use Rattle.run_node.specs.NodeView.{NodeName}
 
 -- the name of the first node with an id
 abbrev pub name_at : List NodeName → NodeId → Option NodeName
 name_at [] n = None
 name_at (m ∷ ms) n = if is_node m.id n then Some m else name_at ms n
-
--- the first link to a node
-abbrev pub identity_to : List (NodeId × Identity) → NodeId → Option Identity
-identity_to [] n = None
-identity_to (l ∷ ls) n = if is_node l.0 n then Some l.1 else identity_to ls n
 
 -- a node's in-link comes from another node, whose link to it is this one
 pub record IsLinkFrom (names : List NodeName) (me from : NodeId) (identity : Identity) : Type 0 where
@@ -32,12 +27,6 @@ AreLinked all names = Each (λ n. Each (λ l. IsLinkFrom all n.id l.0 l.1) n.ins
 abbrev pub AreDistinct : List NodeName → Type 0
 AreDistinct [] = Unit {0}
 AreDistinct (n ∷ ns) = Each (λ m. is_node n.id m.id ≡ false) ns × AreDistinct ns
-
--- the first link to a node stands at this place
-pub record IsFirstTo (outs : List OutEndView) (to : NodeId) (place : ℕ) : Type 0 where
-  pub within : place < length outs
-  pub identity : (e : OutEndView) → slice_get outs place ≡ Some e → identity_to (out_names (links_of outs)) to ≡ Some e.link.identity
-  pub emitted : (e : OutEndView) → slice_get outs place ≡ Some e → emitted_to (links_of outs) to ≡ e.link.emitted
 
 abbrev pub ids_of : List NodeName → List NodeId
 ids_of names = map (λ m. m.id) names

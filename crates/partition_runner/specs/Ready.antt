@@ -5,7 +5,7 @@ use Rattle.pair_machine.specs.Lists.{Each}
 use Rattle.partition_runner.specs.Drafts.{LeadsToAll}
 use Rattle.partition_runner.specs.Linked.{AreLinked, ids_of}
 use Rattle.partition_runner.specs.NodeOrder.{nodes_of}
-use Rattle.partition_runner.specs.NodeView.{NodeName}
+use Rattle.run_node.specs.NodeView.{NodeName}
 use Rattle.partition_runner.specs.Runs.{any_tapped}
 
 -- these are the plan's nodes in their order, each in-link is another one's link to it, and one has a tap

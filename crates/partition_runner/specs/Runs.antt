@@ -9,7 +9,6 @@ use Rattle.tuple_edge.specs.declared.node.NodeId.{NodeId}
 use Rattle.tuple_edge.specs.declared.row.Row.{Row}
 use Rattle.plan_reader.specs.PlanView.{PlanView}
 use Rattle.pair_machine.specs.Counts.{flow_of}
-use Rattle.pair_machine.specs.Courses.{Arrivals}
 use Rattle.pair_machine.specs.Joint.{AreRising, IsLog, Logged, logged_events}
 use Rattle.pair_machine.specs.Legal.{IsLegal}
 use Rattle.pair_machine.specs.Lists.{Among, Each}
@@ -18,11 +17,9 @@ use Rattle.pair_machine.specs.Numbers.{Node, is_node}
 use Rattle.pair_machine.specs.Scripts.{AreWithin}
 use Rattle.pair_machine.specs.Sound.{IsSound}
 use Rattle.pair_machine.specs.declared.order.Order.{Order}
-use Rattle.partition_runner.specs.Ends.{InLink, emitted_to}
-use Rattle.partition_runner.specs.Fits.{Fit}
-use Rattle.partition_runner.specs.NodeView.{NodeName, NodeView}
-use Rattle.partition_runner.specs.SoundNode.{IsCourse}
-use Rattle.partition_runner.specs.declared.part.Part.{Part}
+use Rattle.run_node.specs.Ends.{InLink, emitted_to}
+use Rattle.run_node.specs.NodeView.{NodeName, NodeView}
+use Rattle.run_node.specs.declared.part.Part.{Part}
 
 -- ---- what is left of nodes: their own parts, each with its history
 
@@ -69,10 +66,6 @@ any_tapped [] = false
 any_tapped (n ∷ ns) = n.tapped || any_tapped ns
 
 -- ---- nodes in one hand
-
--- what is true of a node's course, whatever packets came under their indexes, as far as all that links gave fits
-abbrev pub IsTrueView : {A T : Type 0} → (A → NodeId) → (PlanView → List Input → A → Node → Type 0) → PlanView → List Input → List Order → NodeView A T → Type 0
-IsTrueView id stands plan inputs script v = (arrived : Arrivals) → Fit arrived v.ins → IsCourse id stands plan inputs script v.state v.outs v.history arrived
 
 module _ {A T : Type 0} (id : A → NodeId) where
   -- the first node with an id

@@ -3,14 +3,11 @@ ghost use Rattle.pair_machine.specs.Courses.{Pairwise};
 ghost use Rattle.pair_machine.specs.Lists.{Each};
 ghost use Rattle.partition_runner.specs.Drafts.{Grows, LeadsTo, LeadsToAll};
 ghost use Rattle.partition_runner.specs.Linked.{AreDistinct, AreLinked, ids_of};
-ghost use Rattle.partition_runner.specs.NodeView.{NodeName};
+ghost use Rattle.run_node.specs.NodeView.{NodeName};
 ghost use Rattle.std.specs.Prelude.{◌≡◌, ◌<◌, OnOk, Some, length, slice_get};
 
-use crate::draft::Draft;
-use crate::links::Links;
-use crate::names::RunNames;
-use crate::tap::Tap;
 use plan_reader::Plan;
+use run_node::{Draft, Links, RunNames, Tap};
 use std::alloc::Global;
 use tuple_edge::{LinkId, OutOfMemory};
 

@@ -1,19 +1,17 @@
 // The fork of the workers, and what comes back.
 ghost use Rattle.claim_board.specs.Board.{AllHoldNone, AreAll, HoldsNone, IsBack, IsSeatOf, opening_of};
-ghost use Rattle.partition_runner.specs.NodeView.{name_of};
+ghost use Rattle.run_node.specs.NodeView.{name_of};
 ghost use Rattle.std.specs.Prelude.{◌≡◌, ◌<◌, ℕ, All, length, map, slice_index_or};
 
-use crate::acts::Acts;
 use crate::gate::Gate;
-use crate::limits::MOST_WORKERS;
-use crate::links::Links;
-use crate::names::RunNames;
-use crate::node::Node;
-use crate::tap::Tap;
 use crate::worker::{Shared, work};
 use claim_board::{Board, BoardSeat};
+use run_node::{Acts, Links, Node, RunNames, Tap};
 use std::thread;
 use std::thread::Threads;
+
+// A run has no more workers.
+const MOST_WORKERS: usize = 16;
 
 // Each seat in a thread of its own.
 fn work_each<N: RunNames, A: Acts + Send, M: Links, T: Tap + Send, R: Threads + Sync, G: Gate>(

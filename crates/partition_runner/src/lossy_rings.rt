@@ -3,8 +3,8 @@ ghost use Rattle.flux_link.specs.Arrivals.{WasSent};
 ghost use Rattle.flux_link.specs.LossyInlets.{choices_of, given_by, inner_arrivals, inner_of};
 ghost use Rattle.std.specs.Prelude.{◌≡◌, [], All, IfOk};
 
-use crate::links::Links;
 use flux_link::{Choice, LossyIn, RingIn, RingOut, ring};
+use run_node::Links;
 use std::alloc::Global;
 use tuple_edge::{LinkId, OutOfMemory};
 

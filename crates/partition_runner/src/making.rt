@@ -1,23 +1,18 @@
 // The nodes of a run are made, with their links.
 ghost use Rattle.pair_machine.specs.Lists.{Each};
 ghost use Rattle.partition_runner.specs.Drafts.{all_unlinked, unlinked};
-ghost use Rattle.partition_runner.specs.NodeView.{name_of};
 ghost use Rattle.partition_runner.specs.Ready.{AreNodesOf, HaveTheirLinks};
-ghost use Rattle.partition_runner.specs.States.{id_of};
 ghost use Rattle.plan_reader.specs.Nodes.{has_node};
+ghost use Rattle.run_node.specs.NodeView.{name_of};
+ghost use Rattle.run_node.specs.States.{id_of};
 ghost use Rattle.std.specs.Prelude.{◌≡◌, [], true, IfOk, IfSome, IsTrue, is_some, map};
 ghost use Rattle.trade_text.specs.TradesView.{inputs_in};
 
 use crate::connecting::connect_all;
-use crate::draft::Draft;
-use crate::links::Links;
-use crate::names::RunNames;
-use crate::node::Node;
 use crate::opening::opening_state;
 use crate::order::nodes_before_egress;
-use crate::state::NodeState;
-use crate::tap::Tap;
 use plan_reader::Plan;
+use run_node::{Draft, Links, Node, NodeState, RunNames, Tap};
 use std::alloc::Global;
 use trade_text::Trades;
 use tuple_edge::{NodeId, OutOfMemory};

@@ -2,18 +2,18 @@
 ghost use Rattle.pair_control.specs.StandsFor as control;
 ghost use Rattle.pair_machine.specs.Counts.{flow_of};
 ghost use Rattle.pair_machine.specs.Machine.{new_node};
-ghost use Rattle.partition_runner.specs.States.{IsOfPlan, StandsFor, id_of};
 ghost use Rattle.plan_reader.specs.Nodes.{has_node};
+ghost use Rattle.run_node.specs.States.{IsOfPlan, StandsFor, id_of};
 ghost use Rattle.std.specs.Prelude.{◌≡◌, IfOk, IsTrue, List};
 ghost use Rattle.tuple_edge.specs.Input.{Input};
 ghost use Rattle.trade_text.specs.TradesView.{inputs_in};
 ghost use Rattle.tuple_edge.specs.declared.node.NodeId.TheVariants as node;
 
-use crate::state::NodeState;
 use ingress_egress::{Egress, Ingress};
 use pair_control::PairControl;
 use plan_reader::Plan;
 use replica_node::Replica;
+use run_node::NodeState;
 use std::alloc::Global;
 use trade_text::Trades;
 use tuple_edge::{NodeId, OutOfMemory};

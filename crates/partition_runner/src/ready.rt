@@ -2,24 +2,19 @@
 ghost use Rattle.partition_runner.specs.NodeOrder.{nodes_of};
 ghost use Rattle.partition_runner.specs.Runs.{IsRun, TapOfSome, parts_in};
 ghost use Rattle.partition_runner.specs.Sorted.{AreSorted};
-ghost use Rattle.partition_runner.specs.States.{StandsFor, id_of, rows_of};
+ghost use Rattle.run_node.specs.States.{StandsFor, id_of, rows_of};
 ghost use Rattle.std.specs.Prelude.{◌≡◌, ◌<◌, [], Some};
 ghost use Rattle.trade_text.specs.TradesView.{inputs_in};
 
 use crate::gate::Gate;
-use crate::links::Links;
 use crate::making::make_nodes;
-use crate::names::RunNames;
-use crate::node::Node;
-use crate::part::Part;
 use crate::running::run_linked;
 use crate::sorting::Sorted;
-use crate::state::NodeState;
-use crate::tap::Tap;
 use crate::worker::Shared;
 use claim_board::{Board, BoardSeat};
 use failure_script::Script;
 use plan_reader::Plan;
+use run_node::{Links, Node, NodeState, Part, RunNames, Tap};
 use std::alloc::Global;
 use std::marker::Model;
 use std::sync::atomic::AtomicBool;
@@ -41,10 +36,10 @@ pub(crate) struct Ready<N: RunNames, M: Links, T: Tap> {
 
 impl<N: RunNames, M: Links, T: Tap> Model for Ready<N, M, T> {
     ghost use Rattle.claim_board.specs.Board.{AllHoldNone, AreAll, opening_of};
-    ghost use Rattle.partition_runner.specs.NodeView.{NodeName, name_of};
     ghost use Rattle.partition_runner.specs.Ready.{AreNodesOf};
     ghost use Rattle.partition_runner.specs.Sorted.{AreSorted};
-    ghost use Rattle.partition_runner.specs.States.{id_of};
+    ghost use Rattle.run_node.specs.NodeView.{NodeName, name_of};
+    ghost use Rattle.run_node.specs.States.{id_of};
     ghost use Rattle.std.specs.Prelude.{◌≡◌, ◌<◌, ◌≤◌, [], List, length, map, vec_capacity, vec_len};
 
     ghost Value = { List NodeName };

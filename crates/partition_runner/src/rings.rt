@@ -1,6 +1,6 @@
 // Links that are rings.
-use crate::links::Links;
 use flux_link::{RingIn, RingOut, ring};
+use run_node::Links;
 use std::alloc::Global;
 use tuple_edge::{LinkId, OutOfMemory};
 

@@ -1,22 +1,17 @@
 // A run of nodes that are linked: the fork, and what its histories come to.
 ghost use Rattle.claim_board.specs.Board.{AllHoldNone, AreAll, opening_of};
 ghost use Rattle.partition_runner.specs.Linked.{AreDistinct, AreLinked, ids_of};
-ghost use Rattle.partition_runner.specs.NodeView.{name_of};
 ghost use Rattle.partition_runner.specs.Runs.{AreSettled, IsRun, TapOfSome, any_tapped, parts_in};
 ghost use Rattle.plan_reader.specs.PlanView.{IsPlan};
+ghost use Rattle.run_node.specs.NodeView.{name_of};
 ghost use Rattle.std.specs.Prelude.{◌≡◌, ◌<◌, ◌≤◌, is_some, length, map, vec_capacity, vec_len};
 
-use crate::acts::Acts;
 use crate::floating::float;
 use crate::gate::Gate;
-use crate::links::Links;
-use crate::names::RunNames;
-use crate::node::Node;
-use crate::part::Part;
 use crate::settling::settle_all;
-use crate::tap::Tap;
 use crate::worker::Shared;
 use claim_board::{Board, BoardSeat};
+use run_node::{Acts, Links, Node, Part, RunNames, Tap};
 use std::thread::Threads;
 
 // What is left of the nodes, in their order, and the tap of the last one that has one.

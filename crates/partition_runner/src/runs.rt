@@ -6,15 +6,13 @@ ghost use Rattle.std.specs.Prelude.{◌≡◌, ◌≤◌, [], IfOk, MatchResult}
 ghost use Rattle.trade_text.specs.TradesView.{inputs_in};
 
 use crate::gate::Gate;
-use crate::links::Links;
-use crate::names::RunNames;
 use crate::ran::Ran;
 use crate::ready::{Ended, Ready, make_ready, run_ready};
 use crate::rings::Rings;
 use crate::sorting::ran_of;
-use crate::tap::{NoTap, Tap};
 use failure_script::Script;
 use plan_reader::Plan;
+use run_node::{Links, NoTap, RunNames, Tap};
 use std::alloc::Global;
 use std::marker::Brand;
 use std::thread::Threads;

@@ -4,20 +4,17 @@ ghost use Rattle.partition_runner.specs.NodeOrder.{nodes_of};
 ghost use Rattle.partition_runner.specs.Ran.{IsLegalRun};
 ghost use Rattle.partition_runner.specs.Runs.{IsRun, parts_in};
 ghost use Rattle.partition_runner.specs.Sorted.{AreSorted};
-ghost use Rattle.partition_runner.specs.States.{StandsFor, id_of};
-ghost use Rattle.partition_runner.specs.declared.state.NodeState.{NodeState};
-ghost use Rattle.partition_runner.specs.declared.state.NodeState.TheVariants as state;
+ghost use Rattle.run_node.specs.States.{StandsFor, id_of};
+ghost use Rattle.run_node.specs.declared.state.NodeState.TheVariants as state;
+ghost use Rattle.run_node.specs.declared.state.NodeState.{NodeState};
 ghost use Rattle.std.specs.Prelude.{◌++◌, ◌∷◌, [], IfOk, List};
 ghost use Rattle.tuple_edge.specs.declared.event.Stamped.{Stamped};
 
-use crate::acts::Acts;
-use crate::names::RunNames;
-use crate::part::Part;
 use crate::ran::Ran;
-use crate::state::NodeState;
 use ingress_egress::{Egress, Ingress};
 use pair_control::PairControl;
 use replica_node::Replica;
+use run_node::{Acts, NodeState, Part, RunNames};
 use std::alloc::Global;
 use tuple_edge::{History, OutOfMemory};
 

@@ -2,16 +2,12 @@
 ghost use Rattle.claim_board.specs.Board.{HoldsNone, IsBack, IsSeatOf, opening_of};
 ghost use Rattle.std.specs.Prelude.{◌≡◌, ◌<◌, length};
 
-use crate::acts::Acts;
 use crate::gate::Gate;
-use crate::links::Links;
-use crate::names::RunNames;
-use crate::node::Node;
-use crate::tap::Tap;
 use claim_board::{Board, BoardSeat};
 use crossbeam_utils::CachePadded;
 use failure_script::Script;
 use plan_reader::Plan;
+use run_node::{Acts, Links, Node, RunNames, Tap};
 use std::hint::spin_loop;
 use std::sync::atomic::AtomicBool;
 use std::sync::atomic::Ordering::SeqCst;

@@ -1,9 +1,9 @@
 use Rattle.std.proofs.Common.{◌<◌, length, subst, arith}
 use Rattle.partition_runner.specs.Drafts.{LeadsToAll}
 use Rattle.partition_runner.specs.Linked.{ids_of}
-use Rattle.partition_runner.specs.NodeView.{NodeName}
+use Rattle.run_node.specs.NodeView.{NodeName}
 use Rattle.partition_runner.proofs.Joining.{all_more, all_same, first_led, same_ids, same_length, still_distinct}
-use Rattle.partition_runner.proofs.Places.{each_take_by}
+use Rattle.run_node.proofs.Places.{each_take_by}
 use Rattle.partition_runner.proofs.connecting.connect_all.Goals as goal
 
 pub loop-from-init : goal.loop-from-init

@@ -2,7 +2,7 @@ use Rattle.std.proofs.Common.{◌<◌, length, subst, arith}
 use Rattle.partition_runner.specs.Drafts.{LeadsTo}
 use Rattle.partition_runner.specs.Linked.{ids_of}
 use Rattle.partition_runner.proofs.Joining.{all_later_led, all_more, all_same, at_after, at_before, many_ids, same_length, still_distinct}
-use Rattle.partition_runner.proofs.Places.{each_take_by}
+use Rattle.run_node.proofs.Places.{each_take_by}
 use Rattle.partition_runner.proofs.connecting.connect_from.Goals as goal
 
 pub loop-to-init : goal.loop-to-init

@@ -3,7 +3,7 @@ use Rattle.std.specs.Prelude.{Some, slice_get}
 use Rattle.pair_machine.specs.Courses.{Pairwise}
 use Rattle.partition_runner.specs.Drafts.{Grows, LeadsToAll}
 use Rattle.partition_runner.specs.Linked.{AreLinked, ids_of}
-use Rattle.partition_runner.specs.NodeView.{NodeName}
+use Rattle.run_node.specs.NodeView.{NodeName}
 use Rattle.partition_runner.proofs.connecting.connect_from.Given as goal
 
 abbrev pub invariant-loop-to : goal.invariant-loop-to

@@ -2,8 +2,8 @@ use Rattle.std.proofs.Common.{◌≡◌, ◌∙◌, ◌++◌, ◌∷◌, [], ap,
 use Rattle.std.specs.Vec.Iter.{into_iter_items}
 use Rattle.plan_reader.specs.PlanView.{PlanView}
 use Rattle.replica_node.specs.Course.{AreTimely}
-use Rattle.partition_runner.specs.NodeView.{name_of}
-use Rattle.partition_runner.specs.States.{id_of}
+use Rattle.run_node.specs.NodeView.{name_of}
+use Rattle.run_node.specs.States.{id_of}
 use Rattle.partition_runner.proofs.Gathered.{empty_list}
 use Rattle.partition_runner.proofs.Sources.{are_timely}
 use Rattle.partition_runner.proofs.Unlinked.{IsFinished, is_finished, map_last}

@@ -1,8 +1,8 @@
 use Rattle.std.proofs.Common.{◌≡◌, ◌++◌}
 use Rattle.std.specs.Prelude.{map}
 use Rattle.std.specs.Vec.Iter.{into_iter_items}
-use Rattle.partition_runner.specs.NodeView.{name_of}
-use Rattle.partition_runner.specs.States.{id_of}
+use Rattle.run_node.specs.NodeView.{name_of}
+use Rattle.run_node.specs.States.{id_of}
 use Rattle.partition_runner.proofs.making.finished.Given as goal
 
 abbrev pub invariant-loop-draft : goal.invariant-loop-draft

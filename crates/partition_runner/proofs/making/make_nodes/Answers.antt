@@ -1,8 +1,8 @@
 use Rattle.std.proofs.Common.{◌≡◌, ◌∙◌, ◌++◌, List, length, take, drop, sym, subst, arith}
 use Rattle.partition_runner.specs.Linked.{AreDistinct, AreLinked}
-use Rattle.partition_runner.specs.NodeView.{NodeName}
+use Rattle.run_node.specs.NodeView.{NodeName}
 use Rattle.partition_runner.specs.Ready.{AreNodesOf, HaveTheirLinks}
-use Rattle.partition_runner.proofs.Places.{written}
+use Rattle.run_node.proofs.Places.{written}
 use Rattle.partition_runner.proofs.Unlinked.{all_distinct, all_linked, have_links}
 use Rattle.partition_runner.proofs.making.make_nodes.Goals as goal
 

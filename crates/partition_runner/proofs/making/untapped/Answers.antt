@@ -1,7 +1,7 @@
 use Rattle.std.proofs.Common.{◌≡◌, true, refl, arith}
 use Rattle.tuple_edge.specs.declared.node.NodeId.{NodeId}
 use Rattle.plan_reader.specs.Nodes.{has_node}
-use Rattle.partition_runner.proofs.Places.{each_at_place}
+use Rattle.run_node.proofs.Places.{each_at_place}
 use Rattle.partition_runner.proofs.Unlinked.{unlinked_next}
 use Rattle.partition_runner.proofs.making.untapped.Goals as goal
 

@@ -1,9 +1,9 @@
 use Rattle.std.proofs.Common.{map, subst, sym}
 use Rattle.claim_board.specs.Board.{opening_of}
 use Rattle.plan_reader.specs.PlanView.{IsPlan}
-use Rattle.partition_runner.specs.NodeView.{name_of}
+use Rattle.run_node.specs.NodeView.{name_of}
 use Rattle.partition_runner.specs.Runs.{IsRun, parts_in}
-use Rattle.partition_runner.specs.States.{StandsFor, id_of}
+use Rattle.run_node.specs.States.{StandsFor, id_of}
 use Rattle.partition_runner.proofs.NodeOrder.{Apart, names_distinct, nodes_apart}
 use Rattle.partition_runner.proofs.ready.run_ready.Goals as goal
 

@@ -5,8 +5,9 @@ use Rattle.pair_machine.proofs.Lists.{each_more}
 use Rattle.std.specs.Prelude.{map}
 use Rattle.pair_machine.specs.Joint.{AreRising}
 use Rattle.partition_runner.specs.Linked.{ids_of}
-use Rattle.partition_runner.specs.NodeView.{name_of}
-use Rattle.partition_runner.specs.Runs.{IsRun, IsTrueView, any_tapped, parts_of}
+use Rattle.run_node.specs.NodeView.{name_of}
+use Rattle.partition_runner.specs.Runs.{IsRun, any_tapped, parts_of}
+use Rattle.run_node.specs.SoundNode.{IsTrueView}
 use Rattle.partition_runner.proofs.Gathered.{empty_list, parts_more, run_of, some_more, tap_more}
 use Rattle.partition_runner.proofs.Law.{apart_of, runs}
 use Rattle.partition_runner.proofs.running.into_parts.Goals as goal

@@ -3,8 +3,9 @@ use Rattle.std.specs.Prelude.{is_some, map}
 use Rattle.std.specs.Vec.Iter.{into_iter_items}
 use Rattle.pair_machine.specs.Lists.{Each}
 use Rattle.pair_machine.specs.Joint.{AreRising}
-use Rattle.partition_runner.specs.NodeView.{name_of}
-use Rattle.partition_runner.specs.Runs.{IsTrueView, TapOfSome, any_tapped, parts_in, parts_of}
+use Rattle.run_node.specs.NodeView.{name_of}
+use Rattle.partition_runner.specs.Runs.{TapOfSome, any_tapped, parts_in, parts_of}
+use Rattle.run_node.specs.SoundNode.{IsTrueView}
 use Rattle.partition_runner.proofs.running.into_parts.Given as goal
 
 abbrev pub invariant-loop-node : goal.invariant-loop-node

@@ -11,10 +11,10 @@ use Rattle.pair_machine.specs.Output.{output}
 use Rattle.pair_machine.specs.declared.order.Order.{Order}
 use Rattle.partition_runner.specs.NodeOrder.{nodes_of}
 use Rattle.partition_runner.specs.Runs.{IsRun, parts_in}
-use Rattle.partition_runner.specs.States.{StandsFor, id_of, rows_of}
+use Rattle.run_node.specs.States.{StandsFor, id_of, rows_of}
 use Rattle.partition_runner.specs.declared.ran.Ran.{Ran}
-use Rattle.partition_runner.specs.declared.state.NodeState.{NodeState}
-use Rattle.partition_runner.specs.declared.state.NodeState.TheVariants as state
+use Rattle.run_node.specs.declared.state.NodeState.{NodeState}
+use Rattle.run_node.specs.declared.state.NodeState.TheVariants as state
 use Rattle.partition_runner.proofs.TapLaw.{tap_of_egress, tap_of_output}
 use Rattle.partition_runner.proofs.runs.run_named.Goals as goal
 

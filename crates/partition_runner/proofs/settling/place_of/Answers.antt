@@ -1,7 +1,7 @@
 use Rattle.std.proofs.Common.{◌≡◌, ◌∙◌, false, length, ap, sym, arith}
 use Rattle.pair_machine.specs.Numbers.{is_node}
-use Rattle.partition_runner.specs.NodeView.{NodeView}
-use Rattle.partition_runner.proofs.Places.{each_take_one, each_whole}
+use Rattle.run_node.specs.NodeView.{NodeView}
+use Rattle.run_node.proofs.Places.{each_take_one, each_whole}
 use Rattle.partition_runner.proofs.Settled.{first_with, none_with}
 use Rattle.partition_runner.proofs.settling.place_of.Goals as goal
 

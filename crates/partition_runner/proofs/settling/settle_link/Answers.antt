@@ -1,8 +1,8 @@
 use Rattle.std.proofs.Common.{◌≡◌, ◌∙◌, None, slice_index_or, ap, subst, arith}
 use Rattle.std.specs.Prelude.{Some, slice_get}
-use Rattle.partition_runner.specs.NodeView.{NodeView}
+use Rattle.run_node.specs.NodeView.{NodeView}
 use Rattle.partition_runner.specs.Runs.{IsFirstWith, IsSettled, view_at}
-use Rattle.partition_runner.proofs.Places.{get_there}
+use Rattle.run_node.proofs.Places.{get_there}
 use Rattle.partition_runner.proofs.Settled.{at_back, at_front, sender_links, sender_other, sender_there, settled_by, some_same}
 use Rattle.partition_runner.proofs.settling.settle_link.Goals as goal
 

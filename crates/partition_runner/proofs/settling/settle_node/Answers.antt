@@ -1,9 +1,9 @@
 use Rattle.std.proofs.Common.{◌≡◌, ◌∙◌, ◌<◌, length, slice_index_or, ap, subst, arith}
 use Rattle.std.specs.Prelude.{Some, slice_get}
-use Rattle.partition_runner.specs.Ends.{InLink}
-use Rattle.partition_runner.specs.NodeView.{NodeView}
+use Rattle.run_node.specs.Ends.{InLink}
+use Rattle.run_node.specs.NodeView.{NodeView}
 use Rattle.partition_runner.specs.Runs.{IsSettled}
-use Rattle.partition_runner.proofs.Places.{each_take_by, each_whole, get_there}
+use Rattle.run_node.proofs.Places.{each_take_by, each_whole, get_there}
 use Rattle.partition_runner.proofs.Settled.{some_same}
 use Rattle.partition_runner.proofs.settling.settle_node.Goals as goal
 

@@ -1,9 +1,9 @@
 use Rattle.std.proofs.Common.{◌∙◌, ◌++◌, ◌∷◌, [], Some, ap, refl, subst, sym}
 use Rattle.tuple_edge.specs.declared.event.History.{History}
 use Rattle.partition_runner.specs.Sorted.{AreSorted}
-use Rattle.partition_runner.specs.States.{id_of}
+use Rattle.run_node.specs.States.{id_of}
 use Rattle.partition_runner.specs.declared.sorting.Sorted.{Sorted}
-use Rattle.partition_runner.specs.declared.state.NodeState.{NodeState}
+use Rattle.run_node.specs.declared.state.NodeState.{NodeState}
 use Rattle.partition_runner.proofs.Sorted.{more_control, more_egress, more_ingress, more_replica}
 use Rattle.partition_runner.proofs.sorting.with_part.Goals as goal
 

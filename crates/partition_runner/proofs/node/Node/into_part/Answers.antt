@@ -1,6 +1,0 @@
-use Rattle.std.proofs.Common.{subst}
-use Rattle.partition_runner.specs.Runs.{IsTrueView}
-use Rattle.partition_runner.proofs.node.Node.into_part.Goals as goal
-
-pub returns-clause-course : goal.returns-clause-course
-returns-clause-course g c = subst (IsTrueView g.A.Acts.id g.A.Acts.stands g.N.RunNames.plan g.N.RunNames.inputs g.N.RunNames.script) c.self.view_is c.self.invariant.2.course

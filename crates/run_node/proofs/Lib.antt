@@ -1,0 +1,7 @@
+pub mod Places
+pub mod SentPackets
+pub mod FirstLinks
+pub mod Events
+pub mod Merged
+pub mod Room
+pub mod Acting

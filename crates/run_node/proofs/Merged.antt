@@ -1,0 +1,32 @@
+-- What orders stand on: who has merged so many items has merged fewer.
+use Rattle.std.proofs.Common.{◌≡◌, ◌≤◌, ℕ, None, Some, sym, arith}
+use Rattle.failure_script.specs.Orders.{partner_of}
+use Rattle.tuple_edge.specs.declared.node.NodeId.{NodeId}
+use Rattle.tuple_edge.specs.declared.node.NodeId.TheVariants as node
+use Rattle.pair_machine.specs.Machine.{partner_node}
+use Rattle.pair_machine.specs.Numbers.{Gathering, Gone, Replica, Running, other}
+use Rattle.pair_machine.specs.Courses.{Arrivals}
+use Rattle.pair_machine.specs.Scripts.{HasMerged}
+use Rattle.run_node.specs.Tasks.{CameFor, packet_of}
+use Rattle.run_node.specs.declared.acts.Task.{Task}
+use Rattle.run_node.specs.declared.acts.Task.TheVariants as task
+
+pub has_fewer : (r : Replica) (a b : ℕ) → a ≤ b → HasMerged b r → HasMerged a r
+has_fewer (Gone i) a b le h = h
+has_fewer (Running x) a b le h = omega arith
+has_fewer (Gathering g) a b le h = h
+
+pub partner_is : (n p : NodeId) → partner_of n ≡ Some p → p ≡ partner_node n
+partner_is node.Ingress p e = cc
+partner_is (node.Replica s q w) p e = let z : node.Replica s q (other w) ≡ p = cc e in sym z
+partner_is (node.Control s q) p e = cc
+partner_is node.Egress p e = cc
+
+-- a task that takes no packet waits for none
+pub untaken : (arrived : Arrivals) (t : Task) → packet_of t ≡ None → CameFor arrived t
+untaken arrived (task.Take from index packet) e = cc
+untaken arrived task.Work e = tt
+untaken arrived task.Make e = tt
+untaken arrived task.Kill e = tt
+untaken arrived task.AskStop e = tt
+untaken arrived task.AskBack e = tt

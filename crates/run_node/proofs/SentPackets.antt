@@ -1,0 +1,122 @@
+-- What was emitted, after packets were sent.
+use Rattle.std.proofs.Common.{◌≡◌, ◌<◌, ◌||◌, ℕ, zero, suc, Bool, true, false, List, [], ◌∷◌, ◌++◌, length, get_or, set, take, refl, sym, ap, ◌∙◌, arith, append_assoc, append-nil, true≢false}
+use Rattle.std.specs.Prelude.{None, Some, if◌then◌else◌, slice_get}
+use Rattle.run_node.specs.FirstLinks.{IsFirstTo, identity_to}
+use Rattle.tuple_edge.specs.declared.node.NodeId.{NodeId}
+use Rattle.tuple_edge.specs.declared.packet.Body.{Body}
+use Rattle.tuple_edge.specs.declared.packet.Packet.{Packet}
+use Rattle.pair_machine.specs.Courses.{packets_to}
+use Rattle.pair_machine.specs.Lists.{Each}
+use Rattle.pair_machine.specs.Numbers.{is_node}
+use Rattle.pair_machine.proofs.Names.{is_node-true, node_self}
+use Rattle.run_node.specs.Ends.{OutEndView, OutLink, emitted_to, leads_to, links_of}
+use Rattle.run_node.specs.NodeView.{out_names}
+use Rattle.run_node.specs.Sends.{with_all_sent, with_sent}
+
+abbrev one_if : Bool → Packet → List Packet
+one_if true p = p ∷ []
+one_if false p = []
+
+not_both : (b : Bool) → b ≡ true → b ≡ false → ⊥
+not_both b t f = true≢false (sym t ∙ f)
+
+emitted-with_sent : (to n : NodeId) (p : Packet) (ls : List OutLink) → leads_to ls to ≡ true → emitted_to (with_sent to p ls) n ≡ emitted_to ls n ++ one_if (is_node to n) p
+emitted-with_sent to n p [] h = cc
+emitted-with_sent to n p (l ∷ ls) h = go (is_node l.to to) refl (is_node to n) refl (is_node l.to n) refl h (emitted-with_sent to n p ls)
+  where
+    first : (d : Bool) → is_node l.to n ≡ d → emitted_to ((record l { emitted = l.emitted ++ p ∷ [] }) ∷ ls) n ≡ (if d then l.emitted ++ p ∷ [] else emitted_to ls n)
+    first d e = ap (λ x. if x then l.emitted ++ p ∷ [] else emitted_to ls n) e
+
+    later : (d : Bool) → is_node l.to n ≡ d → emitted_to (l ∷ with_sent to p ls) n ≡ (if d then l.emitted else emitted_to (with_sent to p ls) n)
+    later d e = ap (λ x. if x then l.emitted else emitted_to (with_sent to p ls) n) e
+
+    same : is_node l.to to ≡ true → (c d : Bool) → is_node to n ≡ c → is_node l.to n ≡ d → c ≡ d
+    same b c d ec ed = sym ec ∙ (ap (λ k. is_node k n) (sym (is_node-true l.to to b)) ∙ ed)
+
+    go : (b : Bool) → is_node l.to to ≡ b → (c : Bool) → is_node to n ≡ c → (d : Bool) → is_node l.to n ≡ d → (b || leads_to ls to) ≡ true →
+        (leads_to ls to ≡ true → emitted_to (with_sent to p ls) n ≡ emitted_to ls n ++ one_if (is_node to n) p) →
+        emitted_to (if b then (record l { emitted = l.emitted ++ p ∷ [] }) ∷ ls else l ∷ with_sent to p ls) n ≡ (if d then l.emitted else emitted_to ls n) ++ one_if c p
+    go true eb true ec true ed h old = first true ed
+    go true eb false ec false ed h old = first false ed ∙ sym (append-nil (emitted_to ls n))
+    go true eb true ec false ed h old = absurd (true≢false (same eb true false ec ed))
+    go true eb false ec true ed h old = absurd (true≢false (sym (same eb false true ec ed)))
+    go false eb c ec false ed h old = later false ed ∙ (old h ∙ ap (λ x. emitted_to ls n ++ one_if x p) ec)
+    go false eb false ec true ed h old = later true ed ∙ sym (append-nil l.emitted)
+    go false eb true ec true ed h old =
+        let to_n = is_node-true to n ec in
+        let l_n = is_node-true l.to n ed in
+        let yes : is_node l.to to ≡ true = ap (λ k. is_node k to) (l_n ∙ sym to_n) ∙ node_self to in
+        absurd (not_both (is_node l.to to) yes eb)
+
+leads-with_sent : (to n : NodeId) (p : Packet) (ls : List OutLink) → leads_to (with_sent to p ls) n ≡ leads_to ls n
+leads-with_sent to n p [] = refl
+leads-with_sent to n p (l ∷ ls) = go (is_node l.to to) (leads-with_sent to n p ls)
+  where
+    go : (b : Bool) → leads_to (with_sent to p ls) n ≡ leads_to ls n → leads_to (if b then (record l { emitted = l.emitted ++ p ∷ [] }) ∷ ls else l ∷ with_sent to p ls) n ≡ (is_node l.to n || leads_to ls n)
+    go true old = refl
+    go false old = ap (λ x. is_node l.to n || x) old
+
+names-with_sent : (to : NodeId) (p : Packet) (ls : List OutLink) → out_names (with_sent to p ls) ≡ out_names ls
+names-with_sent to p [] = refl
+names-with_sent to p (l ∷ ls) = go (is_node l.to to) (names-with_sent to p ls)
+  where
+    go : (b : Bool) → out_names (with_sent to p ls) ≡ out_names ls → out_names (if b then (record l { emitted = l.emitted ++ p ∷ [] }) ∷ ls else l ∷ with_sent to p ls) ≡ (l.to, l.identity) ∷ out_names ls
+    go true old = refl
+    go false old = ap (λ x. (l.to, l.identity) ∷ x) old
+
+-- ---- all packets of an event
+
+pub leads-with_all_sent : (clock : ℕ) (n : NodeId) (xs : List (NodeId × Body)) (ls : List OutLink) → leads_to (with_all_sent clock xs ls) n ≡ leads_to ls n
+leads-with_all_sent clock n [] ls = refl
+leads-with_all_sent clock n (x ∷ xs) ls = leads-with_all_sent clock n xs (with_sent x.0 (record { at = clock; body = x.1 }) ls) ∙ leads-with_sent x.0 n (record { at = clock; body = x.1 }) ls
+
+pub names-with_all_sent : (clock : ℕ) (xs : List (NodeId × Body)) (ls : List OutLink) → out_names (with_all_sent clock xs ls) ≡ out_names ls
+names-with_all_sent clock [] ls = refl
+names-with_all_sent clock (x ∷ xs) ls = names-with_all_sent clock xs (with_sent x.0 (record { at = clock; body = x.1 }) ls) ∙ names-with_sent x.0 (record { at = clock; body = x.1 }) ls
+
+pub emitted-with_all_sent : (clock : ℕ) (n : NodeId) (xs : List (NodeId × Body)) (ls : List OutLink) → Each (λ x. leads_to ls x.0 ≡ true) xs →
+    emitted_to (with_all_sent clock xs ls) n ≡ emitted_to ls n ++ packets_to clock n xs
+emitted-with_all_sent clock n [] ls h = sym (append-nil (emitted_to ls n))
+emitted-with_all_sent clock n (x ∷ xs) ls h =
+    let p : Packet = record { at = clock; body = x.1 } in
+    let later : Each (λ (y : NodeId × Body). leads_to (with_sent x.0 p ls) y.0 ≡ true) xs = still xs h.1 in
+    emitted-with_all_sent clock n xs (with_sent x.0 p ls) later
+    ∙ (ap (λ l. l ++ packets_to clock n xs) (emitted-with_sent x.0 n p ls h.0) ∙ (append_assoc (emitted_to ls n) (one_if (is_node x.0 n) p) (packets_to clock n xs) ∙ ap (λ l. emitted_to ls n ++ l) (go (is_node x.0 n))))
+  where
+    still : (ys : List (NodeId × Body)) → Each (λ (y : NodeId × Body). leads_to ls y.0 ≡ true) ys → Each (λ (y : NodeId × Body). leads_to (with_sent x.0 (record { at = clock; body = x.1 }) ls) y.0 ≡ true) ys
+    still [] k = tt
+    still (y ∷ ys) k = (leads-with_sent x.0 y.0 (record { at = clock; body = x.1 }) ls ∙ k.0, still ys k.1)
+
+    go : (b : Bool) → one_if b (record { at = clock; body = x.1 }) ++ packets_to clock n xs ≡ (if b then record { at = clock; body = x.1 } ∷ packets_to clock n xs else packets_to clock n xs)
+    go true = refl
+    go false = refl
+
+-- ---- one packet, by the place of its link
+
+pub sent_nowhere : (to : NodeId) (p : Packet) (es : List OutEndView) → Each (λ e. is_node e.link.to to ≡ false) es → with_sent to p (links_of es) ≡ links_of es
+sent_nowhere to p [] h = refl
+sent_nowhere to p (e ∷ es) h = let n = h.0 in simp n (ap (λ l. e.link ∷ l) (sent_nowhere to p es h.1))
+
+pub sent_at_place : (to : NodeId) (p : Packet) (es : List OutEndView) (i : ℕ) (d new : OutEndView) → i < length es →
+    Each (λ e. is_node e.link.to to ≡ false) (take i es) → is_node (get_or es i d).link.to to ≡ true → new.link ≡ record (get_or es i d).link { emitted = (get_or es i d).link.emitted ++ p ∷ [] } →
+    links_of (set es i new) ≡ with_sent to p (links_of es)
+sent_at_place to p [] i d new lt none leads e = absurd (omega arith)
+sent_at_place to p (x ∷ es) zero d new lt none leads e = simp leads (ap (λ l. l ∷ links_of es) e)
+sent_at_place to p (x ∷ es) (suc i) d new lt none leads e =
+    let n = none.0 in simp n (ap (λ l. x.link ∷ l) (sent_at_place to p es i d new (omega arith) none.1 leads e))
+
+-- ---- the first link to a node
+
+pub first_to : (to : NodeId) (es : List OutEndView) (i : ℕ) (d : OutEndView) → i < length es → Each (λ e. is_node e.link.to to ≡ false) (take i es) → is_node (get_or es i d).link.to to ≡ true → IsFirstTo es to i
+first_to to es i d lt none leads = record { within = lt; identity = λ e at. (both es i e lt none leads at).0; emitted = λ e at. (both es i e lt none leads at).1 }
+  where
+    both : (es : List OutEndView) (i : ℕ) (e : OutEndView) → i < length es → Each (λ e. is_node e.link.to to ≡ false) (take i es) → is_node (get_or es i d).link.to to ≡ true → slice_get es i ≡ Some e →
+        (identity_to (out_names (links_of es)) to ≡ Some e.link.identity) × (emitted_to (links_of es) to ≡ e.link.emitted)
+    both [] i e lt none leads at = absurd (omega arith)
+    both (x ∷ es) zero e lt none leads at = let same : x ≡ e = cc at in
+        let here : is_node x.link.to to ≡ true = leads in (simp here (ap (λ (k : OutEndView). Some k.link.identity) same), simp here (ap (λ (k : OutEndView). k.link.emitted) same))
+    both (x ∷ es) (suc i) e lt none leads at = let n = none.0 in let r = both es i e (omega arith) none.1 leads at in (simp n r.0, simp n r.1)
+
+pub none_to : (to : NodeId) (es : List OutEndView) → Each (λ e. is_node e.link.to to ≡ false) es → identity_to (out_names (links_of es)) to ≡ None
+none_to to [] h = refl
+none_to to (e ∷ es) h = let n = h.0 in simp n (none_to to es h.1)

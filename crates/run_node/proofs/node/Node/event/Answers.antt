@@ -1,0 +1,72 @@
+use Rattle.std.proofs.Common.{Ok, ◌≡◌, ◌∙◌, ◌+◌, ◌<◌, ◌^◌, ◌++◌, ◌∷◌, [], ap, sym, subst, arith, List, false}
+use Rattle.std.specs.Prelude.{is_some}
+use Rattle.tuple_edge.specs.declared.event.Stamped.{Stamped}
+use Rattle.run_node.specs.Ends.{OutsView}
+use Rattle.pair_machine.specs.Courses.{Arrivals}
+use Rattle.pair_machine.specs.Numbers.{Node}
+use Rattle.pair_machine.specs.Scripts.{IsAllowedAt}
+use Rattle.run_node.specs.Fits.{Fit}
+use Rattle.run_node.specs.NodeView.{NodeView, NodeName, name_of, out_names, in_names}
+use Rattle.run_node.specs.Sends.{with_all_sent}
+use Rattle.run_node.specs.SoundNode.{IsSoundNode}
+use Rattle.run_node.specs.Tasks.{CameFor, clock_of, event_of, fired_after, repeats}
+use Rattle.run_node.proofs.Events.{sound_after, sound_still, tap_later}
+use Rattle.run_node.proofs.SentPackets.{names-with_all_sent}
+use Rattle.run_node.proofs.node.Node.event.Goals as goal
+
+pub invariant_of-self-2 : goal.invariant_of-self-2
+invariant_of-self-2 g c =
+    let n = c.self.inside in
+    let c_new = c.max-clock.result + 1 in
+    let packets = c.act.new.out.packets in
+    let reserved = c.reserve-2.ensures.links in
+    let sent = c.send_all.ensures ∙ ap (with_all_sent c_new packets) reserved in
+    let flushed : c.flush.new.self.links ≡ with_all_sent c_new packets n.outs.links = ap (λ (o : OutsView). o.links) c.flush.ensures ∙ sent in
+    let did = c.in_ok-act.was ∙ ap Ok c.in-Did.is in
+    let came = subst (λ (v : NodeView _ _). (arrived : Arrivals) → Fit arrived v.ins → CameFor arrived c.args.task) (sym c.self.view_is) c.requires.came in
+    let allowed = subst (λ (v : NodeView _ _). (x : Node) → g.A.Acts.stands g.N.RunNames.plan g.N.RunNames.inputs v.state x → IsAllowedAt g.N.RunNames.script (event_of (g.A.Acts.id v.state) c.args.task) x) (sym c.self.view_is) c.requires.allowed in
+    let later : n.clock < c_new = omega (arith, c.max-clock.ensures) in
+    let after : clock_of c.args.task < c_new = omega (arith, c.max-clock.ensures, c.clock.ensures) in
+    let small : c_new < 2 ^ 62 = omega (arith, c.if-clock-ge-LAST_CLOCK.false) in
+    let fresh : repeats n.fired c.args.task ≡ false = sym c.repeats.ensures ∙ c.if-repeats.false in
+    let sound = sound_after g.A.Acts.id g.A.Acts.of_plan g.A.Acts.stands g.N.RunNames.plan g.N.RunNames.inputs g.N.RunNames.script n.state n.ins.items n.outs.links n.kept n.clock n.fired n.history.items c.self.invariant.2
+    c.args.task c.act.new.self packets c_new came later after small fresh c.act.ensures.id (c.act.ensures.of_plan g.N.RunNames.plan c.self.invariant.2.named)
+    (c.act.ensures.here did) (c.act.ensures.step did) (c.act.ensures.linked did g.N.RunNames.plan c.self.invariant.2.named) allowed in
+    let fired : fired_after n.fired c.args.task ≡ c.after-self-inside.result = sym c.after-self-inside.ensures in
+    let event = c.event_at-event.ensures ∙ ap (λ k. event_of k c.args.task) c.id.ensures in
+    let history = c.push_reserved.ensures.items ∙ (ap (λ l. l ++ record { clock = c_new; event = c.event_at-event.result } ∷ []) c.reserve.ensures.items ∙ ap (λ e. n.history.items ++ record { clock = c_new; event = e } ∷ []) event) in
+    let at_links = subst (λ l. IsSoundNode g.A.Acts.id g.A.Acts.of_plan g.A.Acts.stands g.N.RunNames.plan g.N.RunNames.inputs g.N.RunNames.script c.act.new.self n.ins.items l n.kept c_new c.after-self-inside.result (n.history.items ++ record { clock = c_new; event = event_of (g.A.Acts.id n.state) c.args.task } ∷ [])) (sym flushed) (subst (λ f. IsSoundNode g.A.Acts.id g.A.Acts.of_plan g.A.Acts.stands g.N.RunNames.plan g.N.RunNames.inputs g.N.RunNames.script c.act.new.self n.ins.items (with_all_sent c_new packets n.outs.links) n.kept c_new f (n.history.items ++ record { clock = c_new; event = event_of (g.A.Acts.id n.state) c.args.task } ∷ [])) fired sound) in
+    (c.clear.ensures.packets, tap_later g.T.Tap.given g.A.Acts.rows n.tap n.state c.act.new.self c.act.ensures.rows c.self.invariant.1, subst (λ (l : List Stamped). IsSoundNode g.A.Acts.id g.A.Acts.of_plan g.A.Acts.stands g.N.RunNames.plan g.N.RunNames.inputs g.N.RunNames.script c.act.new.self n.ins.items c.flush.new.self.links n.kept c_new c.after-self-inside.result l) (sym history) at_links)
+
+pub returns-clause-name : goal.returns-clause-name
+returns-clause-name g c =
+    let n = c.self.inside in
+    let c_new = c.max-clock.result + 1 in
+    let packets = c.act.new.out.packets in
+    let reserved = c.reserve-2.ensures.links in
+    let sent = c.send_all.ensures ∙ ap (with_all_sent c_new packets) reserved in
+    let flushed : c.flush.new.self.links ≡ with_all_sent c_new packets n.outs.links = ap (λ (o : OutsView). o.links) c.flush.ensures ∙ sent in
+    let outs : out_names c.flush.new.self.links ≡ out_names n.outs.links = ap out_names flushed ∙ names-with_all_sent c_new packets n.outs.links in
+    let id = c.act.ensures.id in
+    let names : ◌≡◌ {A = NodeName} (record { id = g.A.Acts.id c.act.new.self; ins = in_names n.ins.items; outs = out_names c.flush.new.self.links; tapped = is_some n.tap }) (record { id = g.A.Acts.id n.state; ins = in_names n.ins.items; outs = out_names n.outs.links; tapped = is_some n.tap }) =
+    (λ i. record { id = id i; ins = in_names n.ins.items; outs = outs i; tapped = is_some n.tap }) in
+    names ∙ ap (name_of g.A.Acts.id) c.self.view_is
+
+pub invariant_of-self-in_err-act : goal.invariant_of-self-in_err-act
+invariant_of-self-in_err-act g c =
+    let n = c.self.inside in
+    let sound = c.self.invariant.2 in
+    let same = c.reserve-2.ensures.links in
+    let still = sound_still g.A.Acts.id g.A.Acts.of_plan g.A.Acts.stands g.N.RunNames.plan g.N.RunNames.inputs g.N.RunNames.script n.state n.ins.items n.outs.links n.kept n.clock n.fired n.history.items sound
+    c.act.new.self c.reserve-2.new.self.links c.reserve.new.self.items same c.reserve.ensures.items c.act.ensures.id (c.act.ensures.of_plan g.N.RunNames.plan sound.named) (λ x h. c.in_err-act.ensures.unchanged g.N.RunNames.plan g.N.RunNames.inputs x h) in
+    (c.in_err-act.ensures.unsent, tap_later g.T.Tap.given g.A.Acts.rows n.tap n.state c.act.new.self c.act.ensures.rows c.self.invariant.1, still)
+
+pub invariant_of-self-in-Idle : goal.invariant_of-self-in-Idle
+invariant_of-self-in-Idle g c =
+    let n = c.self.inside in
+    let sound = c.self.invariant.2 in
+    let same = c.reserve-2.ensures.links in
+    let idle = c.act.ensures.idle (c.in_ok-act.was ∙ ap Ok c.in-Idle.is) in
+    let still = sound_still g.A.Acts.id g.A.Acts.of_plan g.A.Acts.stands g.N.RunNames.plan g.N.RunNames.inputs g.N.RunNames.script n.state n.ins.items n.outs.links n.kept n.clock n.fired n.history.items sound
+    c.act.new.self c.reserve-2.new.self.links c.reserve.new.self.items same c.reserve.ensures.items c.act.ensures.id (c.act.ensures.of_plan g.N.RunNames.plan sound.named) (λ x h. subst (λ st. g.A.Acts.stands g.N.RunNames.plan g.N.RunNames.inputs st x) (sym idle.0) h) in
+    (idle.1, tap_later g.T.Tap.given g.A.Acts.rows n.tap n.state c.act.new.self c.act.ensures.rows c.self.invariant.1, still)

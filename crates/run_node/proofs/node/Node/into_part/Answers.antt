@@ -1,0 +1,6 @@
+use Rattle.std.proofs.Common.{subst}
+use Rattle.run_node.specs.SoundNode.{IsTrueView}
+use Rattle.run_node.proofs.node.Node.into_part.Goals as goal
+
+pub returns-clause-course : goal.returns-clause-course
+returns-clause-course g c = subst (IsTrueView g.A.Acts.id g.A.Acts.stands g.N.RunNames.plan g.N.RunNames.inputs g.N.RunNames.script) c.self.view_is c.self.invariant.2.course

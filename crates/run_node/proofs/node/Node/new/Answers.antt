@@ -1,0 +1,13 @@
+use Rattle.std.proofs.Common.{None, ap, subst, sym}
+use Rattle.run_node.specs.Ends.{OutsView, links_of}
+use Rattle.run_node.specs.SoundNode.{IsSoundNode}
+use Rattle.run_node.proofs.Events.{sound_new}
+use Rattle.run_node.proofs.node.Node.new.Goals as goal
+
+pub invariant_of-result : goal.invariant_of-result
+invariant_of-result g c =
+    let r = c.requires in
+    let sound = sound_new g.A.Acts.id g.A.Acts.of_plan g.A.Acts.stands g.N.RunNames.plan g.N.RunNames.inputs g.N.RunNames.script c.args.state c.args.ins.items (links_of c.args.outs.items) c.nothing.result r.planned r.timely r.named r.there r.opening r.linked r.fresh in
+    let linked = subst (λ l. IsSoundNode g.A.Acts.id g.A.Acts.of_plan g.A.Acts.stands g.N.RunNames.plan g.N.RunNames.inputs g.N.RunNames.script c.args.state c.args.ins.items l None 0 c.nothing.result _)
+    (sym (ap (λ (o : OutsView). o.links) c.new.ensures)) sound in
+    (c.new-2.ensures, r.tap, subst (IsSoundNode g.A.Acts.id g.A.Acts.of_plan g.A.Acts.stands g.N.RunNames.plan g.N.RunNames.inputs g.N.RunNames.script c.args.state c.args.ins.items c.new.result.links None 0 c.nothing.result) (sym c.new-3.ensures.items) linked)

@@ -1,0 +1,15 @@
+use Rattle.std.proofs.Common.{◌≤◌, sym, subst, arith}
+use Rattle.pair_machine.specs.Machine.{replica_in}
+use Rattle.run_node.specs.NodeView.{NodeView}
+use Rattle.run_node.proofs.Merged.{has_fewer, untaken}
+use Rattle.run_node.proofs.node.Node.obey.Goals as goal
+
+pub event-requires-clause-came : goal.event-requires-clause-came
+event-requires-clause-came g c κs within = λ arrived fit. untaken arrived c.args.task c.requires.order
+
+pub event-requires-clause-allowed : goal.event-requires-clause-allowed
+event-requires-clause-allowed g c κs within = λ x k.
+    let stands = subst (λ (v : NodeView _ _). g.A.Acts.stands g.N.RunNames.plan g.N.RunNames.inputs v.state x) (sym c.self.view_is) k in
+    let enough : c.args.count ≤ c.in-Some.merged = omega (arith, c.if-merged-count.false) in
+    c.requires.allowed c.if-not-is_due.false x
+    (has_fewer (replica_in x) c.args.count c.in-Some.merged enough (c.in-Some.ensures g.N.RunNames.plan g.N.RunNames.inputs x stands))

@@ -1,0 +1,18 @@
+use Rattle.std.proofs.Common.{◌≡◌, ◌∙◌, ◌≤◌, ◌+◌, ◌-◌, ◌++◌, List, length, take, drop, subst, sym, arith}
+use Rattle.run_node.specs.Ends.{HaveRoom, OutEndView, OutsView}
+use Rattle.run_node.proofs.Places.{written}
+use Rattle.run_node.proofs.outs.Outs.send_all.Goals as goal
+
+pub invariant_of-self : goal.invariant_of-self
+invariant_of-self g c =
+    let n = c.self.inside in
+    let sent = c.send_all-self-inside in
+    let left = n.room - c.len.result in
+    let all = length c.args.outbox.now.packets in
+    let few : all ≤ n.room = subst (λ (v : OutsView). all ≤ v.room) (sym c.self.view_is) c.requires in
+    let whole : n.room ≡ left + all = omega (arith, few, c.len.ensures) in
+    let long : length c.deref_mut.result.now ≡ n.ends.len = omega (arith, c.deref_mut.ensures.len) in
+    let ends : List OutEndView = take n.ends.len (sent.new.outs ++ drop (length sent.new.outs) n.ends.items) in
+    let same : ends ≡ sent.new.outs = written n.ends.len sent.new.outs n.ends.items (sent.auto.outs ∙ long) in
+    let room : HaveRoom n.room c.deref_mut.result.now = subst (HaveRoom n.room) (sym c.deref_mut.ensures.value) c.self.invariant in
+    subst (HaveRoom left) (sym same) (sent.ensures.room left (subst (λ k. HaveRoom k c.deref_mut.result.now) whole room))

@@ -1,0 +1,34 @@
+use Rattle.std.proofs.Common.{◌∙◌, ◌<◌, ◌+◌, ◌%◌, ◌∷◌, [], length, slice_index_or, ap, subst, arith}
+use Rattle.std.proofs.lemmas.Nat.{mod_below}
+use Rattle.pair_machine.specs.Lists.{Each}
+use Rattle.run_node.specs.Ends.{InLink}
+use Rattle.run_node.specs.Fits.{Came, Fit}
+use Rattle.run_node.specs.NodeView.{in_names}
+use Rattle.run_node.proofs.Places.{each_front, each_last, each_set_at, each_unset, map_set_same}
+use Rattle.run_node.proofs.receiving.receive.Goals as goal
+
+pub returns-in-Some-clause-names : goal.returns-in-Some-clause-names
+returns-in-Some-clause-names g c =
+    let end = slice_index_or c.loop-step.ins (((c.args.round.now.next + c.loop-step.step) % 18446744073709551616) % length c.args.ins.now) c.index-ins-place.result in
+    map_set_same (λ (l : InLink). (l.from, l.identity)) c.loop-step.ins _ c.next.new.self c.index-ins-place.result (ap (λ (l : InLink). (l.from, l.identity)) c.in-Some.ensures)
+    ∙ ap in_names c.loop-step.invariant
+
+pub returns-in-Some-clause-fits : goal.returns-in-Some-clause-fits
+returns-in-Some-clause-fits g c = λ arrived fit.
+    let end = slice_index_or c.loop-step.ins (((c.args.round.now.next + c.loop-step.step) % 18446744073709551616) % length c.args.ins.now) c.index-ins-place.result in
+    let a = c.in-Some.arrival in
+    let back : Each (Came arrived c.next.new.self.from) c.next.new.self.given → Each (Came arrived end.from) end.given = λ h.
+    each_front (Came arrived end.from) end.given (a ∷ []) (subst (λ (l : InLink). Each (Came arrived l.from) l.given) c.in-Some.ensures h) in
+    subst (Fit arrived) c.loop-step.invariant (each_unset (λ (l : InLink). Each (Came arrived l.from) l.given) c.loop-step.ins _ c.next.new.self c.index-ins-place.result back fit)
+
+pub returns-in-Some-clause-came : goal.returns-in-Some-clause-came
+returns-in-Some-clause-came g c = λ arrived fit.
+    let end = slice_index_or c.loop-step.ins (((c.args.round.now.next + c.loop-step.step) % 18446744073709551616) % length c.args.ins.now) c.index-ins-place.result in
+    let a = c.in-Some.arrival in
+    let some : 0 < length c.args.ins.now = omega (arith, c.loop-step-test.true) in
+    let below = mod_below ((c.args.round.now.next + c.loop-step.step) % 18446744073709551616) (length c.args.ins.now) some in
+    let lt : ((c.args.round.now.next + c.loop-step.step) % 18446744073709551616) % length c.args.ins.now < length c.loop-step.ins = omega (arith, below, c.loop-step.auto.ins) in
+    let here : Each (Came arrived c.next.new.self.from) c.next.new.self.given = each_set_at (λ (l : InLink). Each (Came arrived l.from) l.given) c.loop-step.ins _ c.next.new.self lt fit in
+    let all = subst (λ (l : InLink). Each (Came arrived l.from) l.given) c.in-Some.ensures here in
+    let last : Came arrived end.from a = each_last (Came arrived end.from) end.given a all in
+    ap (λ n. arrived n a.index) (c.from.ensures ∙ ap (λ (l : InLink). l.from) c.in-Some.ensures) ∙ last

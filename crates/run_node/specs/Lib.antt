@@ -1,0 +1,9 @@
+pub mod Ends
+pub mod Sends
+pub mod Fits
+pub mod Tasks
+pub mod NodeView
+pub mod FirstLinks
+pub mod SoundNode
+pub mod States
+pub mod Fresh

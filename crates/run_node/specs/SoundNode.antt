@@ -1,0 +1,87 @@
+-- What is true of a node: whatever it took, its history is a true course within the script, and it stands for the numbers after it.
+use Rattle.std.specs.Prelude.{◌≡◌, ◌≤◌, ◌<◌, ◌^◌, ℕ, List, Option, Some, None, IsTrue, true, false}
+use mathlib.Core.List.{IsPrefix}
+use Rattle.tuple_edge.specs.Input.{Input}
+use Rattle.tuple_edge.specs.declared.event.Event.{Event}
+use Rattle.tuple_edge.specs.declared.event.Event.TheVariants as event
+use Rattle.tuple_edge.specs.declared.event.Stamped.{Stamped}
+use Rattle.tuple_edge.specs.declared.node.NodeId.{NodeId}
+use Rattle.tuple_edge.specs.declared.row.Row.{Row}
+use Rattle.plan_reader.specs.Nodes.{has_link}
+use Rattle.plan_reader.specs.PlanView.{IsPlan, PlanView}
+use Rattle.pair_machine.specs.Asked.{Asks}
+use Rattle.pair_machine.specs.Contents.{BodyStands}
+use Rattle.pair_machine.specs.Counts.{flow_of}
+use Rattle.pair_machine.specs.Courses.{Arrivals, IsTrueNode}
+use Rattle.pair_machine.specs.Joint.{AreRising}
+use Rattle.pair_machine.specs.Links.{HasNode, link}
+use Rattle.pair_machine.specs.Lists.{Each}
+use Rattle.pair_machine.specs.Numbers.{Node}
+use Rattle.pair_machine.specs.Within.{IsWithinScript}
+use Rattle.pair_machine.specs.declared.order.Order.{Order}
+use Rattle.replica_node.specs.Course.{AreTimely}
+use Rattle.run_node.specs.Ends.{InLink, OutLink, emitted_to, leads_to}
+use Rattle.run_node.specs.Fits.{Came, Fit}
+use Rattle.run_node.specs.NodeView.{NodeView}
+use Rattle.run_node.specs.declared.fired.Fired.{Fired}
+use Rattle.run_node.specs.declared.kept.Kept.{Kept}
+
+-- what is kept came under its index
+abbrev pub KeptCame : Arrivals → Option Kept → Type 0
+KeptCame arrived None = Unit {0}
+KeptCame arrived (Some k) = Came arrived k.from k.arrival
+
+-- a node's tap gave on the first of the rows that it emitted
+abbrev pub TapFits : {A T : Type 0} → (T → List Row) → (A → List Row) → Option T → A → Type 0
+TapFits given rows None state = Unit {0}
+TapFits given rows (Some t) state = IsPrefix (given t) (rows state)
+
+-- ---- what has happened once
+
+-- no failure, and no request to be stopped
+abbrev pub IsNoStop : Event → Type 0
+IsNoStop (event.Kill n) = ⊥
+IsNoStop (event.AskStop n) = ⊥
+IsNoStop e = Unit {0}
+
+-- no request for a partner
+abbrev pub IsNoRecall : Event → Type 0
+IsNoRecall (event.AskBack n) = ⊥
+IsNoRecall e = Unit {0}
+
+-- what is not noted as having happened has not
+pub record IsNoted (fired : Fired) (history : List Stamped) : Type 0 where
+  pub stopped : fired.stopped ≡ false → Each (λ h. IsNoStop h.event) history
+  pub recalled : fired.recalled ≡ false → Each (λ h. IsNoRecall h.event) history
+
+-- ---- the course
+
+-- As far as all that links gave fits what came: the history is a true course, and the node stands for the numbers after it; and the history is
+-- within the script.
+pub record IsCourse {A : Type 0} (id : A → NodeId) (stands : PlanView → List Input → A → Node → Type 0) (plan : PlanView) (inputs : List Input) (script : List Order)
+    (state : A) (outs : List OutLink) (history : List Stamped) (arrived : Arrivals) : Type 0 where
+  pub course : IsTrueNode (flow_of plan inputs) (BodyStands plan inputs) (Asks (flow_of plan inputs)) (id state) (stands plan inputs state) arrived (emitted_to outs) history
+  pub within : IsWithinScript plan inputs script (id state) arrived (emitted_to outs) history
+
+-- what is true of a node of a plan with this part and these links
+pub record IsSoundNode {A : Type 0} (id : A → NodeId) (of_plan : PlanView → A → Type 0) (stands : PlanView → List Input → A → Node → Type 0) (plan : PlanView) (inputs : List Input) (script : List Order)
+    (state : A) (ins : List InLink) (outs : List OutLink) (kept : Option Kept) (clock : ℕ) (fired : Fired) (history : List Stamped) : Type 0 where
+  -- the plan and the inputs are within their limits
+  pub planned : IsPlan plan
+  pub timely : AreTimely inputs
+  -- it is a node of the plan, and has a link for each of the plan's links from it
+  pub named : of_plan plan state
+  pub there : HasNode (flow_of plan inputs) (id state)
+  pub linked : (to : NodeId) → IsTrue (has_link plan (link (id state) to)) → leads_to outs to ≡ true
+  -- its clocks rise, up to its own
+  pub small : clock < 2 ^ 62
+  pub past : Each (λ h. h.clock ≤ clock) history
+  pub rises : AreRising history
+  pub noted : IsNoted fired history
+  -- whatever packets came under their indexes, as far as all that links gave fits
+  pub kept_came : (arrived : Arrivals) → Fit arrived ins → KeptCame arrived kept
+  pub course : (arrived : Arrivals) → Fit arrived ins → IsCourse id stands plan inputs script state outs history arrived
+
+-- what is true of a node's course, whatever packets came under their indexes, as far as all that links gave fits
+abbrev pub IsTrueView : {A T : Type 0} → (A → NodeId) → (PlanView → List Input → A → Node → Type 0) → PlanView → List Input → List Order → NodeView A T → Type 0
+IsTrueView id stands plan inputs script v = (arrived : Arrivals) → Fit arrived v.ins → IsCourse id stands plan inputs script v.state v.outs v.history arrived

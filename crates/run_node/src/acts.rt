@@ -1,0 +1,128 @@
+// What a node does.
+ghost use Rattle.run_node.specs.Tasks.{DoesStep, clock_of, event_of, most_packets};
+ghost use Rattle.run_node.specs.declared.acts.Task.{Task};
+ghost use mathlib.Core.List.{IsPrefix};
+ghost use Rattle.pair_machine.specs.Machine.{at_node, replica_in};
+ghost use Rattle.pair_machine.specs.Numbers.{Node};
+ghost use Rattle.pair_machine.specs.Receivers.{GoOverLinks};
+ghost use Rattle.pair_machine.specs.Scripts.{HasMerged};
+ghost use Rattle.plan_reader.specs.PlanView.{PlanView};
+ghost use Rattle.std.specs.Prelude.{◌≡◌, ◌≤◌, [], List, IfSome, Ok, OnErr, IsTrue, length};
+ghost use Rattle.tuple_edge.specs.Input.{Input};
+ghost use Rattle.tuple_edge.specs.declared.event.Worked.TheVariants.{Did, Idle};
+ghost use Rattle.tuple_edge.specs.declared.node.NodeId.{NodeId};
+ghost use Rattle.tuple_edge.specs.declared.row.Row.{Row};
+
+use plan_reader::Plan;
+use tuple_edge::{Event, LinkId, NodeId, OutOfMemory, Outbox, Packet, Row, Worked};
+
+/// What a node is to do in one event.
+#[derive(Clone, Copy, Debug, PartialEq, Eq)]
+pub enum Task {
+    /// To take the packet that a node sent to it at this index.
+    Take {
+        from: NodeId,
+        index: u64,
+        packet: Packet,
+    },
+    /// To do the first piece of work that is due.
+    Work,
+    /// To make the next input into items.
+    Make,
+    /// To fail.
+    Kill,
+    /// To ask to be stopped.
+    AskStop,
+    /// To ask for its partner.
+    AskBack,
+}
+
+/// A node's own part: what it does, without its links and its history.
+pub trait Acts: Send + Drop {
+    /// Its name.
+    ghost id: { Self → NodeId };
+
+    /// It is a node of this plan.
+    ghost of_plan: { PlanView → Self → Type 0 };
+
+    /// It stands for a node's numbers, under a plan and its inputs.
+    ghost stands: { PlanView → List Input → Self → Node → Type 0 };
+
+    /// It may do this.
+    ghost may: { Self → Task → Type 0 };
+
+    /// The rows that it emitted.
+    ghost rows: { Self → List Row };
+
+    /// Its name.
+    fn id(&self) -> NodeId
+        ensures { result ≡ id self.now };
+
+    /// Whether it may do this: no number passes its limit, and a packet is one that it admits.
+    fn may(&self, plan: &Plan, task: &Task) -> bool
+        ensures { IsTrue result → may self.now task.now };
+
+    /// Does it: the machine's step. Idle where there is nothing to do.
+    fn act(&mut self, task: &Task, out: &mut Outbox) -> Result<Worked, OutOfMemory>
+        requires may { may self.old task.now }
+        requires empty { out.old.packets ≡ [] }
+        requires room { most_packets ≤ out.old.spare }
+        // It is a step of the machine at this node, in each plan, and sends a few packets over links of its plan alone.
+        ensures here { result ≡ Ok Did → at_node (event_of (id self.old) task.now) ≡ id self.old }
+        ensures step { result ≡ Ok Did → DoesStep id stands task.now self.old self.new out.new.packets }
+        ensures few { result ≡ Ok Did → length out.new.packets ≤ most_packets }
+        ensures linked { result ≡ Ok Did → (plan : PlanView) → of_plan plan self.old → GoOverLinks plan (id self.old) out.new.packets }
+        // Where there was nothing to do, or no memory, it stands for the same numbers, and nothing is sent.
+        ensures idle { result ≡ Ok Idle → (self.new ≡ self.old) × (out.new.packets ≡ []) }
+        ensures unsent { OnErr result (out.new.packets ≡ []) }
+        ensures unchanged { OnErr result ((plan : PlanView) (inputs : List Input) (x : Node) → stands plan inputs self.old x → stands plan inputs self.new x) }
+        // It stays the same node of the same plans, and the rows that it emitted stay.
+        ensures id { id self.new ≡ id self.old }
+        ensures of_plan { (plan : PlanView) → of_plan plan self.old → of_plan plan self.new }
+        ensures rows { IsPrefix (rows self.old) (rows self.new) };
+
+    /// How many items it has merged, where it is a replica that runs.
+    fn merged(&self) -> Option<u64>
+        ensures { IfSome result (λ k. (plan : PlanView) (inputs : List Input) (x : Node) → stands plan inputs self.now x → HasMerged k (replica_in x)) };
+
+    /// Whether egress has merged its end.
+    fn is_done(&self) -> bool;
+
+    /// Whether rows are to be made: ingress, while each of its edges holds fewer items than the plan says.
+    fn wants_rows(&self, plan: &Plan) -> bool;
+
+    /// The rows that egress emitted.
+    fn emitted(&self) -> &[Row]
+        ensures { result.now ≡ rows self.now };
+}
+
+impl Task {
+    /// The clock of the packet that it takes.
+    pub(crate) fn clock(&self) -> u64
+        ensures { result ≡ clock_of self.now }
+    {
+        match self {
+            Task::Take { packet, .. } => packet.at,
+            _ => 0,
+        }
+    }
+
+    /// The event that it is at a node.
+    pub(crate) fn event_at(&self, node: NodeId) -> Event
+        ensures { result ≡ event_of node self.now }
+    {
+        match *self {
+            Task::Take { from, index, .. } => Event::Take {
+                link: LinkId { from, to: node },
+                index,
+            },
+            Task::Work => Event::Work { node },
+            Task::Make => Event::Make,
+            Task::Kill => Event::Kill { node },
+            Task::AskStop => Event::AskStop { node },
+            Task::AskBack => Event::AskBack {
+                node: node.partner(),
+            },
+        }
+    }
+}

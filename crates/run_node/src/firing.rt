@@ -1,0 +1,61 @@
+// What the orders of a script make a node do.
+ghost use Rattle.pair_machine.specs.Machine.{replica_in};
+ghost use Rattle.pair_machine.specs.Numbers.{Node as NodeNumbers};
+ghost use Rattle.pair_machine.specs.Scripts.{HasMerged, IsAllowedAt};
+ghost use Rattle.run_node.specs.NodeView.{name_of};
+ghost use Rattle.run_node.specs.Tasks.{event_of, packet_of};
+ghost use Rattle.std.specs.Prelude.{◌≡◌, None, IsTrue};
+
+use crate::acts::{Acts, Task};
+use crate::links::Links;
+use crate::names::RunNames;
+use crate::node::Node;
+use crate::tap::Tap;
+use failure_script::Script;
+use plan_reader::Plan;
+use tuple_edge::OutOfMemory;
+
+impl<N: RunNames, A: Acts, M: Links, T: Tap> Node<N, A, M, T> {
+    /// Obeys the orders that are due, each once.
+    pub(crate) fn fire(&mut self, plan: &Plan, script: &Script) -> Result<bool, OutOfMemory>
+        requires { script.now ≡ N.script }
+        ensures { name_of A.id self.new ≡ name_of A.id self.old }
+    {
+        if script.orders().is_empty() || self.fired.is_all() {
+            return Ok(false);
+        }
+        let Some(count) = self.state.merged() else {
+            return Ok(false);
+        };
+        let due = script.due_for(self.state.id(), count);
+        let failed = self.obey(plan, due.kill, count, Task::Kill)?;
+        let stopped = self.obey(plan, due.stop, count, Task::AskStop)?;
+        let recalled = self.obey(plan, due.back, count, Task::AskBack)?;
+        Ok(failed || stopped || recalled)
+    }
+
+    // Does what an order wants, if that is due where so many items are merged. A node that doesn't run any more, since
+    // it failed in this turn, has merged none.
+    fn obey(
+        &mut self,
+        plan: &Plan,
+        is_due: bool,
+        count: u64,
+        task: Task,
+    ) -> Result<bool, OutOfMemory>
+        requires order { packet_of task ≡ None }
+        requires allowed { IsTrue is_due → (x : NodeNumbers) → HasMerged count (replica_in x) → IsAllowedAt N.script (event_of (A.id self.old.state) task) x }
+        ensures { name_of A.id self.new ≡ name_of A.id self.old }
+    {
+        if !is_due {
+            return Ok(false);
+        }
+        let Some(merged) = self.state.merged() else {
+            return Ok(false);
+        };
+        if merged < count {
+            return Ok(false);
+        }
+        self.event(plan, task)
+    }
+}

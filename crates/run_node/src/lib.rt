@@ -1,0 +1,45 @@
+//! A node of a run: its own part, the ends of its links with what waits there, the arrival that it keeps, its clock and its
+//! history.
+//!
+//! A [`Draft`] is a node as it opens, which gets its links one after another; then it is a [`Node`]. A node is turned, and
+//! one method does whatever happens to it. Whatever packets came under which index, its history has rising clocks and is a
+//! true course within the script, and it stands for the numbers after it; its name stays. With a node in one hand and the
+//! sender of one of its in-links in the other, `settle` shows that what the node took there was sent to it.
+//!
+//! It stands on the nodes (`ingress_egress`, `replica_node`, `pair_control`) for what is done, which is [`NodeState`] behind
+//! [`Acts`], on `flux_link` for the ends of links, on `failure_script` for orders, and on the laws of `pair_machine` for
+//! histories. Of `claim_board` it takes only that a node has a name there.
+#![tactic(auto)]
+
+mod acts;
+mod draft;
+mod fired;
+mod firing;
+mod in_end;
+mod kept;
+mod limits;
+mod links;
+mod named;
+mod names;
+mod node;
+mod out_end;
+mod outs;
+mod part;
+mod place_range;
+mod receiving;
+mod round;
+mod sending;
+mod settling;
+mod state;
+mod tap;
+mod turn;
+
+pub use acts::{Acts, Task};
+pub use draft::Draft;
+pub use fired::Fired;
+pub use links::Links;
+pub use names::RunNames;
+pub use node::Node;
+pub use part::Part;
+pub use state::NodeState;
+pub use tap::{NoTap, Tap};

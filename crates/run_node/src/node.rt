@@ -1,0 +1,243 @@
+// A node of a run.
+ghost use Rattle.pair_machine.specs.Counts.{flow_of};
+ghost use Rattle.pair_machine.specs.Courses.{Arrivals};
+ghost use Rattle.pair_machine.specs.Links.{HasNode, link};
+ghost use Rattle.pair_machine.specs.Lists.{Each};
+ghost use Rattle.pair_machine.specs.Machine.{new_node};
+ghost use Rattle.pair_machine.specs.Joint.{AreRising};
+ghost use Rattle.pair_machine.specs.Numbers.{Node as NodeNumbers};
+ghost use Rattle.pair_machine.specs.Scripts.{IsAllowedAt};
+ghost use Rattle.plan_reader.specs.Nodes.{has_link};
+ghost use Rattle.plan_reader.specs.PlanView.{IsPlan};
+ghost use Rattle.replica_node.specs.Course.{AreTimely};
+ghost use Rattle.run_node.specs.Ends.{leads_to, links_of};
+ghost use Rattle.run_node.specs.Fits.{Came, Fit};
+ghost use Rattle.run_node.specs.NodeView.{name_of};
+ghost use Rattle.run_node.specs.SoundNode.{IsTrueView, TapFits};
+ghost use Rattle.run_node.specs.Tasks.{CameFor, event_of};
+ghost use Rattle.std.specs.Prelude.{◌≡◌, [], true, IfSome, IsTrue, None, Some};
+ghost use Rattle.tuple_edge.specs.declared.node.NodeId.{NodeId};
+
+use crate::acts::{Acts, Task};
+use crate::fired::Fired;
+use crate::in_end::InEnd;
+use crate::kept::Kept;
+use crate::limits::MOST_PACKETS;
+use crate::links::Links;
+use crate::names::RunNames;
+use crate::out_end::OutEnd;
+use crate::outs::Outs;
+use crate::part::Part;
+use crate::receiving::receive;
+use crate::round::Round;
+use crate::tap::Tap;
+use plan_reader::Plan;
+use std::alloc::Global;
+use std::marker::{Model, PhantomData};
+use tuple_edge::{NUMBER_LIMIT, OutOfMemory, Outbox, Stamped, Worked};
+
+// No clock passes it.
+const LAST_CLOCK: u64 = NUMBER_LIMIT - 1;
+
+/// A node with its links, the arrival that it keeps, its clock and its history.
+#[derive(Drop)]
+pub struct Node<N: RunNames, A: Acts, M: Links, T: Tap> {
+    pub(crate) state: A,
+    pub(crate) ins: Vec<InEnd<M::In>>,
+    pub(crate) outs: Outs<M::Out>,
+    pub(crate) kept: Option<Kept>,
+    // Empty between events.
+    outbox: Outbox,
+    clock: u64,
+    pub(crate) history: Vec<Stamped>,
+    // What the orders of the script have made it do.
+    pub(crate) fired: Fired,
+    // Which in-links this turn is still to look at.
+    round: Round,
+    pub(crate) tap: Option<T>,
+    of: PhantomData<N>,
+}
+
+impl<N: RunNames, A: Acts, M: Links, T: Tap> Model for Node<N, A, M, T> {
+    ghost use Rattle.run_node.specs.NodeView.{NodeView};
+    ghost use Rattle.run_node.specs.SoundNode.{IsSoundNode, TapFits};
+    ghost use Rattle.std.specs.Prelude.{◌≡◌, []};
+
+    ghost Value = { NodeView A T };
+
+    ghost view = { λ n. record {
+      state = n.state;
+      ins = n.ins.items;
+      outs = n.outs.links;
+      kept = n.kept;
+      history = n.history.items;
+      tap = n.tap;
+    } };
+
+    ghost invariant = { λ n. (n.outbox.packets ≡ []) × TapFits T.given A.rows n.tap n.state
+        × IsSoundNode A.id A.of_plan A.stands N.plan N.inputs N.script n.state n.ins.items n.outs.links n.kept n.clock n.fired n.history.items };
+}
+
+impl<N: RunNames, A: Acts, M: Links, T: Tap> Node<N, A, M, T> {
+    /// A node before its first event.
+    pub(crate) fn new(
+        alloc: Global,
+        state: A,
+        ins: Vec<InEnd<M::In>>,
+        outs: Vec<OutEnd<M::Out>>,
+        tap: Option<T>,
+    ) -> Node<N, A, M, T>
+        requires planned { IsPlan N.plan }
+        requires timely { AreTimely N.inputs }
+        requires named { A.of_plan N.plan state }
+        requires there { HasNode (flow_of N.plan N.inputs) (A.id state) }
+        requires opening { A.stands N.plan N.inputs state (new_node (A.id state)) }
+        requires linked { (to : NodeId) → IsTrue (has_link N.plan (link (A.id state) to)) → leads_to (links_of outs.items) to ≡ true }
+        requires fresh { Each (λ l. l.emitted ≡ []) (links_of outs.items) }
+        requires tap { TapFits T.given A.rows tap state }
+        ensures { result ≡ record { state = state; ins = ins.items; outs = links_of outs.items; kept = None; history = []; tap = tap } }
+    {
+        Node {
+            state,
+            ins,
+            outs: Outs::new(outs),
+            kept: None,
+            outbox: Outbox::new(alloc),
+            clock: 0,
+            history: Vec::new(alloc),
+            fired: Fired::nothing(),
+            round: Round::none(),
+            tap,
+            of: PhantomData,
+        }
+    }
+
+    /// What is left of it: its own part and its history, which is a true course, and its tap.
+    pub fn into_part(self) -> (Part<A>, Option<T>)
+        ensures part { (result.0.state ≡ self.state) × (result.0.history.items ≡ self.history) }
+        ensures tap { (result.1 ≡ self.tap) × TapFits T.given A.rows result.1 result.0.state }
+        ensures course { IsTrueView A.id A.stands N.plan N.inputs N.script self }
+        ensures rising { AreRising self.history }
+    {
+        let Node {
+            state,
+            ins: _,
+            outs: _,
+            kept: _,
+            outbox: _,
+            clock: _,
+            history,
+            fired: _,
+            round: _,
+            tap,
+            of: _,
+        } = self;
+        (Part { state, history }, tap)
+    }
+
+    // One event, if it is one: its room first, then what it does, and then what it sends.
+    pub(crate) fn event(&mut self, plan: &Plan, task: Task) -> Result<bool, OutOfMemory>
+        requires came { (arrived : Arrivals) → Fit arrived self.old.ins → CameFor arrived task }
+        requires allowed { (x : NodeNumbers) → A.stands N.plan N.inputs self.old.state x → IsAllowedAt N.script (event_of (A.id self.old.state) task) x }
+        ensures name { name_of A.id self.new ≡ name_of A.id self.old }
+        ensures ins { self.new.ins ≡ self.old.ins }
+        ensures kept { self.new.kept ≡ self.old.kept }
+    {
+        let clock = self.clock.max(task.clock());
+        if clock >= LAST_CLOCK || self.fired.repeats(&task) || !self.state.may(plan, &task) {
+            return Ok(false);
+        }
+        self.history.reserve(1)?;
+        self.outs.reserve(MOST_PACKETS)?;
+        self.outbox.reserve(MOST_PACKETS)?;
+        let event = task.event_at(self.state.id());
+        match self.state.act(&task, &mut self.outbox)? {
+            Worked::Idle => return Ok(false),
+            Worked::Did => {}
+        }
+        self.clock = clock + 1;
+        self.fired = self.fired.after(&task);
+        self.history.push_reserved(Stamped {
+            clock: self.clock,
+            event,
+        });
+        self.outs.send_all(&self.outbox, self.clock);
+        self.outbox.clear();
+        self.outs.flush();
+        Ok(true)
+    }
+
+    // The arrival that is kept, or the next one, which is kept then.
+    fn fetch(&mut self) -> Option<Kept>
+        ensures name { name_of A.id self.new ≡ name_of A.id self.old }
+        ensures kept { IfSome result (λ k. self.new.kept ≡ Some k) }
+        ensures came { IfSome result (λ k. (arrived : Arrivals) → Fit arrived self.new.ins → Came arrived k.from k.arrival) }
+    {
+        if let Some(kept) = self.kept {
+            return Some(kept);
+        }
+        self.kept = receive(&mut self.ins, &mut self.round);
+        self.kept
+    }
+
+    // Takes the arrival that is kept, or the next one, if it may be taken.
+    pub(crate) fn take(&mut self, plan: &Plan) -> Result<bool, OutOfMemory>
+        ensures { name_of A.id self.new ≡ name_of A.id self.old }
+    {
+        let Some(Kept { from, arrival }) = self.fetch() else {
+            return Ok(false);
+        };
+        let index = arrival.index;
+        let packet = arrival.packet;
+        let took = self.event(
+            plan,
+            Task::Take {
+                from,
+                index,
+                packet,
+            },
+        )?;
+        if took {
+            self.kept = None;
+        }
+        Ok(took)
+    }
+
+    // One piece of work, if nothing waits.
+    pub(crate) fn work(&mut self, plan: &Plan) -> Result<bool, OutOfMemory>
+        ensures { name_of A.id self.new ≡ name_of A.id self.old }
+    {
+        if self.outs.some_wait() {
+            return Ok(false);
+        }
+        self.event(plan, Task::Work)
+    }
+
+    // One row, if one is to be made.
+    pub(crate) fn make(&mut self, plan: &Plan) -> Result<bool, OutOfMemory>
+        ensures { name_of A.id self.new ≡ name_of A.id self.old }
+    {
+        if !self.state.wants_rows(plan) {
+            return Ok(false);
+        }
+        self.event(plan, Task::Make)
+    }
+
+    // Offers its tap, if it has one, all rows that it emitted.
+    pub(crate) fn offer(&mut self)
+        ensures { name_of A.id self.new ≡ name_of A.id self.old }
+    {
+        let Some(tap) = &mut self.tap else {
+            return;
+        };
+        tap.offer(self.state.emitted());
+    }
+
+    // Pushes what waits, and begins a round over its in-links.
+    pub(crate) fn begin_turn(&mut self)
+        ensures { name_of A.id self.new ≡ name_of A.id self.old }
+    {
+        self.outs.flush();
+        self.round = self.round.renewed(self.ins.len());
+    }
+}

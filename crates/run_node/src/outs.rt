@@ -1,0 +1,88 @@
+// All ends of links on which a node sends.
+ghost use Rattle.run_node.specs.Ends.{links_of};
+ghost use Rattle.run_node.specs.Sends.{with_all_sent};
+ghost use Rattle.std.specs.Prelude.{◌≡◌, ◌≤◌, OnOk, length};
+
+use crate::out_end::OutEnd;
+use crate::place_range::PlaceRange;
+use crate::sending::{flush_all, reserve_all, send_all};
+use flux_link::Outlet;
+use std::marker::Model;
+use tuple_edge::{OutOfMemory, Outbox};
+
+// Room is made for so many packets at once, so that not each event goes over all links for it.
+const ROOM: usize = 96;
+
+/// The ends of the links on which a node sends.
+#[derive(Drop)]
+pub(crate) struct Outs<O: Outlet + Drop> {
+    pub(crate) ends: Vec<OutEnd<O>>,
+    // At each end so many further packets may wait without memory.
+    room: usize,
+    // At no other end does a packet wait.
+    waiting: PlaceRange,
+}
+
+impl<O: Outlet + Drop> Model for Outs<O> {
+    ghost use Rattle.run_node.specs.Ends.{HaveRoom, OutsView, links_of};
+
+    ghost Value = { OutsView };
+
+    ghost view = { λ o. record { links = links_of o.ends.items; room = o.room } };
+
+    ghost invariant = { λ o. HaveRoom o.room o.ends.items };
+}
+
+impl<O: Outlet + Drop> Outs<O> {
+    /// These ends.
+    pub(crate) fn new(ends: Vec<OutEnd<O>>) -> Outs<O>
+        ensures { result ≡ record { links = links_of ends.items; room = 0 } }
+    {
+        let waiting = PlaceRange {
+            first: 0,
+            beyond: ends.len(),
+        };
+        Outs {
+            ends,
+            room: 0,
+            waiting,
+        }
+    }
+
+    /// Makes room for this many further packets on each link, where there is less.
+    pub(crate) fn reserve(&mut self, packets: usize) -> Result<(), OutOfMemory>
+        ensures links { self.new.links ≡ self.old.links }
+        ensures room { OnOk result (packets ≤ self.new.room) }
+    {
+        if packets <= self.room {
+            return Ok(());
+        }
+        let room = packets.max(ROOM);
+        self.room = 0;
+        reserve_all(&mut self.ends, room)?;
+        self.room = room;
+        Ok(())
+    }
+
+    /// Puts all packets of an outbox on their links, in order, each with the clock.
+    pub(crate) fn send_all(&mut self, outbox: &Outbox, clock: u64)
+        requires { length outbox.now.packets ≤ self.old.room }
+        ensures { self.new.links ≡ with_all_sent clock outbox.now.packets self.old.links }
+    {
+        let left = self.room - outbox.len();
+        self.waiting = send_all(&mut self.ends, outbox, clock, self.waiting);
+        self.room = left;
+    }
+
+    /// Pushes what waits, on each link as far as it has room.
+    pub(crate) fn flush(&mut self)
+        ensures { self.new ≡ self.old }
+    {
+        self.waiting = flush_all(&mut self.ends, self.waiting);
+    }
+
+    /// Whether a packet waits for room on some link, once what waits was pushed.
+    pub(crate) fn some_wait(&self) -> bool {
+        !self.waiting.is_empty()
+    }
+}

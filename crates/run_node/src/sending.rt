@@ -1,0 +1,101 @@
+// What a node does with all its out-links.
+ghost use Rattle.run_node.specs.Ends.{HaveRoom, links_of};
+ghost use Rattle.run_node.specs.FirstLinks.{IsFirstTo, identity_to};
+ghost use Rattle.run_node.specs.NodeView.{out_names};
+ghost use Rattle.run_node.specs.Sends.{with_all_sent, with_sent};
+ghost use Rattle.std.specs.Prelude.{◌≡◌, ◌+◌, ℕ, MatchOption, None, OnOk, length};
+
+use crate::out_end::OutEnd;
+use crate::place_range::PlaceRange;
+use flux_link::Outlet;
+use tuple_edge::{NodeId, OutOfMemory, Outbox, Packet};
+
+/// Makes room for this many further packets on each link.
+pub(crate) fn reserve_all<O: Outlet + Drop>(
+    outs: &mut [OutEnd<O>],
+    packets: usize,
+) -> Result<(), OutOfMemory>
+    ensures links { links_of outs.new ≡ links_of outs.old }
+    ensures room { OnOk result (HaveRoom packets outs.new) }
+{
+    for place in 0..outs.len() {
+        let end = &mut outs[place];
+        end.reserve(packets)?;
+    }
+    Ok(())
+}
+
+/// Pushes what waits at these places, on each link as far as it has room, and gives a range with the places
+/// where some still waits.
+pub(crate) fn flush_all<O: Outlet + Drop>(outs: &mut [OutEnd<O>], waiting: PlaceRange) -> PlaceRange
+    ensures links { links_of outs.new ≡ links_of outs.old }
+    ensures room { (k : ℕ) → HaveRoom k outs.old → HaveRoom k outs.new }
+{
+    let mut left = PlaceRange::none();
+    for place in waiting.first..waiting.beyond.min(outs.len()) {
+        let end = &mut outs[place];
+        end.flush();
+        if end.waits() {
+            left = left.with(place);
+        }
+    }
+    left
+}
+
+/// Puts a packet behind those that wait for its receiver, and gives the place of its link. Where no link leads
+/// there, nothing changes.
+pub(crate) fn send<O: Outlet + Drop>(
+    outs: &mut [OutEnd<O>],
+    to: NodeId,
+    packet: Packet,
+) -> Option<usize>
+    requires room { HaveRoom 1 outs.old }
+    ensures links { links_of outs.new ≡ with_sent to packet (links_of outs.old) }
+    ensures room { (k : ℕ) → HaveRoom (k + 1) outs.old → HaveRoom k outs.new }
+{
+    for place in 0..outs.len() {
+        let end = &mut outs[place];
+        if end.leads_to(to) {
+            end.put(packet);
+            return Some(place);
+        }
+    }
+    None
+}
+
+/// Puts all packets of an outbox on their links, in order, each with the clock, and adds their places to
+/// those where some wait.
+pub(crate) fn send_all<O: Outlet + Drop>(
+    outs: &mut [OutEnd<O>],
+    outbox: &Outbox,
+    clock: u64,
+    waiting: PlaceRange,
+) -> PlaceRange
+    requires room { HaveRoom (length outbox.now.packets) outs.old }
+    ensures links { links_of outs.new ≡ with_all_sent clock outbox.now.packets (links_of outs.old) }
+    ensures room { (k : ℕ) → HaveRoom (k + length outbox.now.packets) outs.old → HaveRoom k outs.new }
+{
+    let mut waiting = waiting;
+    for nth in 0..outbox.len() {
+        let Some((to, body)) = outbox.get(nth) else {
+            return waiting;
+        };
+        if let Some(place) = send(outs, to, Packet { at: clock, body }) {
+            waiting = waiting.with(place);
+        }
+    }
+    waiting
+}
+
+/// The place of the first link to a node.
+pub(crate) fn place_to<O: Outlet + Drop>(outs: &[OutEnd<O>], to: NodeId) -> Option<usize>
+    ensures { MatchOption result (identity_to (out_names (links_of outs.now)) to ≡ None) (λ place. IsFirstTo outs.now to place) }
+{
+    for place in 0..outs.len() {
+        let end = &outs[place];
+        if end.leads_to(to) {
+            return Some(place);
+        }
+    }
+    None
+}

@@ -1,0 +1,85 @@
+// One turn of a node.
+ghost use Rattle.run_node.specs.NodeView.{name_of};
+ghost use Rattle.std.specs.Prelude.{◌≡◌};
+
+use crate::acts::Acts;
+use crate::links::Links;
+use crate::names::RunNames;
+use crate::node::Node;
+use crate::tap::Tap;
+use failure_script::Script;
+use plan_reader::Plan;
+use tuple_edge::OutOfMemory;
+
+// How many packets, rows and pieces of work one turn has at most.
+const PORTION: u64 = 64;
+
+impl<N: RunNames, A: Acts, M: Links, T: Tap> Node<N, A, M, T> {
+    /// One turn: it pushes what it can, obeys the script's orders that are due, takes packets, makes rows and does
+    /// work. Then, also where memory is wanting, it offers its tap the rows that it emitted. Whether it did anything.
+    pub fn turn(&mut self, plan: &Plan, script: &Script) -> Result<bool, OutOfMemory>
+        requires { script.now ≡ N.script }
+        ensures { name_of A.id self.new ≡ name_of A.id self.old }
+    {
+        self.begin_turn();
+        let result = self.act_some(plan, script);
+        self.offer();
+        result
+    }
+
+    /// Whether egress has merged its end.
+    pub fn is_done(&self) -> bool {
+        self.state.is_done()
+    }
+
+    // What a turn does, up to where memory is wanting.
+    fn act_some(&mut self, plan: &Plan, script: &Script) -> Result<bool, OutOfMemory>
+        requires { script.now ≡ N.script }
+        ensures { name_of A.id self.new ≡ name_of A.id self.old }
+    {
+        let fired = self.fire(plan, script)?;
+        let took = self.take_some(plan)?;
+        let made = self.make_some(plan)?;
+        let did = self.work_some(plan)?;
+        Ok(fired || took || made || did)
+    }
+
+    fn take_some(&mut self, plan: &Plan) -> Result<bool, OutOfMemory>
+        ensures { name_of A.id self.new ≡ name_of A.id self.old }
+    {
+        let mut some = false;
+        for _ in 0..PORTION {
+            if !self.take(plan)? {
+                break;
+            }
+            some = true;
+        }
+        Ok(some)
+    }
+
+    fn make_some(&mut self, plan: &Plan) -> Result<bool, OutOfMemory>
+        ensures { name_of A.id self.new ≡ name_of A.id self.old }
+    {
+        let mut some = false;
+        for _ in 0..PORTION {
+            if !self.make(plan)? {
+                break;
+            }
+            some = true;
+        }
+        Ok(some)
+    }
+
+    fn work_some(&mut self, plan: &Plan) -> Result<bool, OutOfMemory>
+        ensures { name_of A.id self.new ≡ name_of A.id self.old }
+    {
+        let mut some = false;
+        for _ in 0..PORTION {
+            if !self.work(plan)? {
+                break;
+            }
+            some = true;
+        }
+        Ok(some)
+    }
+}
