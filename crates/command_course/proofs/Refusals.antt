@@ -12,7 +12,7 @@ use Rattle.plan_reader.specs.declared.error.PlanError.{PlanError}
 use Rattle.plan_reader.specs.declared.error.PlanError.TheVariants as plan_error
 use Rattle.trade_text.specs.Cash.{cash_of}
 use Rattle.trade_text.specs.Files.{file_of}
-use Rattle.trade_text.specs.Kinds.{Kind, cash_kind, trades_kind}
+use Rattle.trade_text.specs.Kinds.{cash_kind, trades_kind}
 use Rattle.trade_text.specs.Limits.{max_input_bytes}
 use Rattle.trade_text.specs.Messages.{fault_of}
 use Rattle.trade_text.specs.Refusals.{IsRefusalOf}
@@ -23,8 +23,8 @@ use Rattle.trade_text.specs.declared.error.Field.{Field}
 use Rattle.trade_text.specs.declared.error.ReadError.{ReadError}
 use Rattle.trade_text.specs.declared.error.ReadError.TheVariants as read_error
 use Rattle.command_course.specs.Course.{Reading}
-use Rattle.command_course.specs.Lines.{line_of}
-use Rattle.command_course.specs.Inputs.{cash_from, plan_from, plan_or_line, rows_or_line, trades_from}
+use Rattle.command_course.specs.Lines.{line_of, or_line}
+use Rattle.command_course.specs.Inputs.{cash_from, plan_from, trades_from}
 use Rattle.command_course.specs.Steps.{IsRefusedBy, StopsOn}
 use Rattle.command_course.specs.declared.stop.Stop.{Stop}
 use Rattle.command_course.specs.declared.stop.Stop.TheVariants as stop
@@ -37,6 +37,11 @@ refused reading line (stop.CannotRead said) P fails by = by
 refused reading line stop.CannotWrite P fails by = by
 refused reading line (stop.PairLost stage part said) P fails by = by
 refused reading line stop.OutOfMemory P fails by = tt
+
+-- what is read of a file is refused by the line of its fault
+pub line_refused : {E A : Type 0} (text : E → List ℕ) (name : List ℕ) (read : Result A E) (e : E) (why : Stop) → read ≡ Err e → IsRefusedBy why (line_of name (text e)) (Unit {0})
+    → StopsOn (or_line text name read) why
+line_refused text name read e why fails by = refused (or_line text name read) (line_of name (text e)) why (Unit {0}) (λ _. ap (or_line text name) fails) by
 
 -- the line about a file, where the text of its fault is told
 pub line_said : (line name : List ℕ) (fault : Option (List ℕ)) → IfSome (Some (codes "flux: ") ++? (Some name ++? (Some (codes ": ") ++? (fault ++? Some (codes "\n"))))) (λ text. line ≡ text)
@@ -57,7 +62,7 @@ plan_fails _ read fails known = fails
 pub plan_refused : (name bytes : List ℕ) (e : PlanError) (why : Stop) → Fails e (plan_of bytes) → e ≢ plan_error.OutOfMemory → IsRefusedBy why (line_of name (plan_fault e)) (Unit {0})
     → StopsOn (plan_from name bytes) why
 plan_refused name bytes e why fails known by =
-    refused (plan_from name bytes) (line_of name (plan_fault e)) why (Unit {0}) (λ _. ap (plan_or_line name) (plan_fails e (plan_of bytes) fails known)) by
+    line_refused plan_fault name (plan_of bytes) e why (plan_fails e (plan_of bytes) fails known) by
 
 plan_too_long : (bytes : List ℕ) → max_plan_bytes < length bytes → plan_of bytes ≡ Err (plan_error.TooLong (length bytes))
 unfolding plan_of
@@ -66,7 +71,7 @@ plan_too_long bytes long = let e : nat_lt max_plan_bytes (length bytes) ≡ true
 pub long_plan : (name bytes : List ℕ) (seen : ℕ) (why : Stop) → max_plan_bytes < length bytes → IsRefusedBy why (line_of name (plan_fault (plan_error.TooLong seen))) (Unit {0})
     → StopsOn (plan_from name bytes) why
 long_plan name bytes seen why long by =
-    refused (plan_from name bytes) (line_of name (plan_fault (plan_error.TooLong seen))) why (Unit {0}) (λ _. ap (plan_or_line name) (plan_too_long bytes long)) by
+    line_refused plan_fault name (plan_of bytes) (plan_error.TooLong (length bytes)) why (plan_too_long bytes long) by
 
 -- ---- files of rows
 
@@ -74,18 +79,15 @@ rows_fail : {F A : Type 0} (e : ReadError F) (read : Read F A) → IsRefusalOf e
 rows_fail read_error.OutOfMemory read fails known = absurd (known refl)
 rows_fail _ read fails known = fails
 
-rows_refused : {F A : Type 0} (kind : Kind F) (name : List ℕ) (read : Read F A) (e : ReadError F) (why : Stop) → IsRefusalOf e read → e ≢ read_error.OutOfMemory
-    → IsRefusedBy why (line_of name (fault_of kind e)) (Unit {0}) → StopsOn (rows_or_line kind name read) why
-rows_refused kind name read e why fails known by =
-    refused (rows_or_line kind name read) (line_of name (fault_of kind e)) why (Unit {0}) (λ _. ap (rows_or_line kind name) (rows_fail e read fails known)) by
-
 pub trades_refused : (name bytes : List ℕ) (e : ReadError Field) (why : Stop) → IsRefusalOf e (trades_of bytes) → e ≢ read_error.OutOfMemory
     → IsRefusedBy why (line_of name (fault_of trades_kind e)) (Unit {0}) → StopsOn (trades_from name bytes) why
-trades_refused name bytes e why fails known by = rows_refused trades_kind name (trades_of bytes) e why fails known by
+trades_refused name bytes e why fails known by =
+    line_refused (fault_of trades_kind) name (trades_of bytes) e why (rows_fail e (trades_of bytes) fails known) by
 
 pub cash_refused : (room : ℕ) (name bytes : List ℕ) (e : ReadError CashField) (why : Stop) → IsRefusalOf e (cash_of bytes room) → e ≢ read_error.OutOfMemory
     → IsRefusedBy why (line_of name (fault_of cash_kind e)) (Unit {0}) → StopsOn (cash_from room name bytes) why
-cash_refused room name bytes e why fails known by = rows_refused cash_kind name (cash_of bytes room) e why fails known by
+cash_refused room name bytes e why fails known by =
+    line_refused (fault_of cash_kind) name (cash_of bytes room) e why (rows_fail e (cash_of bytes room) fails known) by
 
 file_too_long : {F : Type 0} (bytes : List ℕ) → max_input_bytes < length bytes → file_of {F = F} bytes ≡ Err (read_error.TooLong (length bytes))
 unfolding file_of
@@ -99,15 +101,12 @@ cash_too_long : (bytes : List ℕ) (room : ℕ) → max_input_bytes < length byt
 unfolding cash_of
 cash_too_long bytes room long = rw (file_too_long {F = CashField} bytes long) refl
 
-rows_long : {F A : Type 0} (kind : Kind F) (name : List ℕ) (read : Read F A) (bytes seen : ℕ) (why : Stop) → read ≡ Err (read_error.TooLong bytes)
-    → IsRefusedBy why (line_of name (fault_of kind (read_error.TooLong seen))) (Unit {0}) → StopsOn (rows_or_line kind name read) why
-rows_long kind name read bytes seen why fails by =
-    refused (rows_or_line kind name read) (line_of name (fault_of kind (read_error.TooLong seen))) why (Unit {0}) (λ _. ap (rows_or_line kind name) fails) by
-
 pub long_trades : (name bytes : List ℕ) (seen : ℕ) (why : Stop) → max_input_bytes < length bytes
     → IsRefusedBy why (line_of name (fault_of trades_kind (read_error.TooLong seen))) (Unit {0}) → StopsOn (trades_from name bytes) why
-long_trades name bytes seen why long by = rows_long trades_kind name (trades_of bytes) (length bytes) seen why (trades_too_long bytes long) by
+long_trades name bytes seen why long by =
+    line_refused (fault_of trades_kind) name (trades_of bytes) (read_error.TooLong (length bytes)) why (trades_too_long bytes long) by
 
 pub long_cash : (room : ℕ) (name bytes : List ℕ) (seen : ℕ) (why : Stop) → max_input_bytes < length bytes
     → IsRefusedBy why (line_of name (fault_of cash_kind (read_error.TooLong seen))) (Unit {0}) → StopsOn (cash_from room name bytes) why
-long_cash room name bytes seen why long by = rows_long cash_kind name (cash_of bytes room) (length bytes) seen why (cash_too_long bytes room long) by
+long_cash room name bytes seen why long by =
+    line_refused (fault_of cash_kind) name (cash_of bytes room) (read_error.TooLong (length bytes)) why (cash_too_long bytes room long) by

@@ -1,9 +1,15 @@
 -- The lines that are said of a file.
-use Rattle.std.specs.Prelude.{ℕ, List, ◌++◌, codes}
+use Rattle.std.specs.Prelude.{ℕ, List, ◌++◌, Result, Ok, Err, codes}
+use Rattle.command_course.specs.Course.{Reading}
 
 -- what is said of a file
 abbrev pub line_of : List ℕ → List ℕ → List ℕ
 line_of name fault = codes "flux: " ++ name ++ codes ": " ++ fault ++ codes "\n"
+
+-- what was read of a file, or the line that says its fault by this text
+abbrev pub or_line : {E A : Type 0} → (E → List ℕ) → List ℕ → Result A E → Reading A
+or_line text name (Ok x) = Ok x
+or_line text name (Err fault) = Err (line_of name (text fault))
 
 -- what is said of a file that can't be read
 abbrev pub cannot_read_line : List ℕ → List ℕ

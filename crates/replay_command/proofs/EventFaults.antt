@@ -19,23 +19,17 @@ use Rattle.run_journal.specs.declared.lined.Lined.{Lined}
 use Rattle.command_course.specs.Lines.{line_of}
 use Rattle.command_course.specs.Steps.{IsRefusedBy, StopsOn}
 use Rattle.command_course.specs.declared.stop.Stop.{Stop}
-use Rattle.command_course.proofs.Refusals.{refused}
-use Rattle.replay_command.specs.Courses.{events_from, events_or_line}
+use Rattle.command_course.proofs.Refusals.{line_refused}
+use Rattle.replay_command.specs.Courses.{events_from}
 
 events_fail : (e : EventsError) (read : Result (List Lined) EventsError) → Fails e read → e ≢ events_error.OutOfMemory → read ≡ Err e
-events_fail events_error.Header read fails known = fails
-events_fail (events_error.Grammar line) read fails known = fails
-events_fail (events_error.NoSuchNode line) read fails known = fails
-events_fail (events_error.Range line) read fails known = fails
-events_fail events_error.TooMany read fails known = fails
-events_fail (events_error.TooLong bytes) read fails known = fails
 events_fail events_error.OutOfMemory read fails known = absurd (known refl)
+events_fail _ read fails known = fails
 
 pub events_refused : (plan : PlanView) (name bytes : List ℕ) (e : EventsError) (why : Stop) → Fails e (events_of plan bytes) → e ≢ events_error.OutOfMemory
     → IsRefusedBy why (line_of name (events_fault e)) (Unit {0}) → StopsOn (events_from plan name bytes) why
 events_refused plan name bytes e why fails known by =
-    refused (events_from plan name bytes) (line_of name (events_fault e)) why (Unit {0})
-    (λ _. ap (events_or_line name) (events_fail e (events_of plan bytes) fails known)) by
+    line_refused events_fault name (events_of plan bytes) e why (events_fail e (events_of plan bytes) fails known) by
 
 events_too_long : (plan : PlanView) (bytes : List ℕ) → max_events_bytes < length bytes → events_of plan bytes ≡ Err (events_error.TooLong (length bytes))
 unfolding events_of
@@ -44,8 +38,7 @@ events_too_long plan bytes long = let e : nat_lt max_events_bytes (length bytes)
 pub long_events : (plan : PlanView) (name bytes : List ℕ) (seen : ℕ) (why : Stop) → max_events_bytes < length bytes
     → IsRefusedBy why (line_of name (events_fault (events_error.TooLong seen))) (Unit {0}) → StopsOn (events_from plan name bytes) why
 long_events plan name bytes seen why long by =
-    refused (events_from plan name bytes) (line_of name (events_fault (events_error.TooLong seen))) why (Unit {0})
-    (λ _. ap (events_or_line name) (events_too_long plan bytes long)) by
+    line_refused events_fault name (events_of plan bytes) (events_error.TooLong (length bytes)) why (events_too_long plan bytes long) by
 
 is_named : (plan : PlanView) (e : Event) → IsNamed plan e → names_event plan e ≡ true
 is_named plan (event.Take link index) h = h.0

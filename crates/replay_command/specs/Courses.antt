@@ -8,22 +8,17 @@ use Rattle.pair_machine.specs.Flow.{Flow}
 use Rattle.pair_machine.specs.Machine.{State, egress_in, opening}
 use Rattle.run_journal.specs.Events.{events_of}
 use Rattle.run_journal.specs.Messages.{events_fault}
-use Rattle.run_journal.specs.declared.error.EventsError.{EventsError}
 use Rattle.run_journal.specs.declared.lined.Lined.{Lined}
 use Rattle.command_course.specs.Course.{Course, Reading, Refuses, Writes, reads}
 use Rattle.command_course.specs.FeedView.{FeedView}
 use Rattle.command_course.specs.Feeds.{with_feed}
-use Rattle.command_course.specs.Lines.{line_of}
+use Rattle.command_course.specs.Lines.{line_of, or_line}
 use Rattle.state_text.specs.StateText.{state_text}
 use Rattle.replay_command.specs.Replaying.{RefusedAt, refused_text, replayed}
 
-abbrev pub events_or_line : List ℕ → Result (List Lined) EventsError → Reading (List Lined)
-events_or_line name (Ok events) = Ok events
-events_or_line name (Err fault) = Err (line_of name (events_fault fault))
-
 -- the events that a file with these bytes says to a plan
 abbrev pub events_from : PlanView → List ℕ → List ℕ → Reading (List Lined)
-events_from plan name bytes = events_or_line name (events_of plan bytes)
+events_from plan name bytes = or_line events_fault name (events_of plan bytes)
 
 abbrev pub flow_for : FeedView → Flow
 flow_for feed = flow_of feed.plan feed.inputs

@@ -12,22 +12,17 @@ use Rattle.failure_script.specs.declared.error.ScriptError.TheVariants as script
 use Rattle.command_course.specs.Lines.{line_of}
 use Rattle.command_course.specs.Steps.{IsRefusedBy, StopsOn}
 use Rattle.command_course.specs.declared.stop.Stop.{Stop}
-use Rattle.command_course.proofs.Refusals.{refused}
-use Rattle.run_command.specs.Scripts.{script_from, script_or_line}
+use Rattle.command_course.proofs.Refusals.{line_refused}
+use Rattle.run_command.specs.Scripts.{script_from}
 
 script_fails : (e : ScriptError) (read : Result (List Order) ScriptError) → Fails e read → e ≢ script_error.OutOfMemory → read ≡ Err e
 script_fails script_error.OutOfMemory read fails known = absurd (known refl)
-script_fails (script_error.Grammar line) read fails known = fails
-script_fails (script_error.NoSuchReplica line) read fails known = fails
-script_fails (script_error.Range line) read fails known = fails
-script_fails (script_error.Twice line) read fails known = fails
-script_fails (script_error.TooLong bytes) read fails known = fails
+script_fails _ read fails known = fails
 
 pub script_refused : (plan : PlanView) (name bytes : List ℕ) (e : ScriptError) (why : Stop) → Fails e (script_of plan bytes) → e ≢ script_error.OutOfMemory
     → IsRefusedBy why (line_of name (script_fault e)) (Unit {0}) → StopsOn (script_from plan name bytes) why
 script_refused plan name bytes e why fails known by =
-    refused (script_from plan name bytes) (line_of name (script_fault e)) why (Unit {0})
-    (λ _. ap (script_or_line name) (script_fails e (script_of plan bytes) fails known)) by
+    line_refused script_fault name (script_of plan bytes) e why (script_fails e (script_of plan bytes) fails known) by
 
 script_too_long : (plan : PlanView) (bytes : List ℕ) → max_script_bytes < length bytes → script_of plan bytes ≡ Err (script_error.TooLong (length bytes))
 unfolding script_of
@@ -36,5 +31,4 @@ script_too_long plan bytes long = let e : nat_lt max_script_bytes (length bytes)
 pub long_script : (plan : PlanView) (name bytes : List ℕ) (seen : ℕ) (why : Stop) → max_script_bytes < length bytes
     → IsRefusedBy why (line_of name (script_fault (script_error.TooLong seen))) (Unit {0}) → StopsOn (script_from plan name bytes) why
 long_script plan name bytes seen why long by =
-    refused (script_from plan name bytes) (line_of name (script_fault (script_error.TooLong seen))) why (Unit {0})
-    (λ _. ap (script_or_line name) (script_too_long plan bytes long)) by
+    line_refused script_fault name (script_of plan bytes) (script_error.TooLong (length bytes)) why (script_too_long plan bytes long) by

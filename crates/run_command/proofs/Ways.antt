@@ -3,13 +3,14 @@ use Rattle.std.proofs.Common.{ℕ, ◌≡◌, Bool, List, [], ap, sym, subst, Op
 use Rattle.std.specs.Prelude.{IfErr, IfOk, Result}
 use Rattle.pair_machine.specs.declared.order.Order.{Order}
 use Rattle.trade_text.specs.Kinds.{trades_kind}
+use Rattle.trade_text.specs.Messages.{fault_of}
 use Rattle.trade_text.specs.Trades.{trades_of}
 use Rattle.trade_text.specs.TradesView.{TradesView}
 use Rattle.trade_maker.specs.MadeText.{made_text}
 use Rattle.command_line.specs.Forms.{Options}
 use Rattle.command_course.specs.Course.{Between, Came, Course, Runs, Way, ◌>>=◌}
 use Rattle.command_course.specs.FeedView.{FeedView}
-use Rattle.command_course.specs.Inputs.{rows_or_line}
+use Rattle.command_course.specs.Lines.{or_line}
 use Rattle.command_course.specs.Steps.{GivesBy, StopsOf}
 use Rattle.command_course.specs.declared.stop.Stop.{Stop}
 use Rattle.command_course.specs.declared.stop.Stop.TheVariants as stop
@@ -59,7 +60,7 @@ err_run_on told there_told old mid new way onward value (Err why) same gives sto
 
 -- made trades are read on the spot
 pub made_is : (start count : ℕ) (trades : TradesView) (next : TradesView → Course) → trades_of (made_text start count) ≡ Ok trades → with_made start count next ≡ next trades
-made_is start count trades next is = ap (λ r. rows_or_line trades_kind [] r >>= next) is
+made_is start count trades next is = ap (λ r. or_line (fault_of trades_kind) [] r >>= next) is
 
 pub ok_made : (told : Option Names) (old new : Option (List Call)) (start count : ℕ) (trades : TradesView) (next : TradesView → Course) (result : Result Outcome Stop)
     → trades_of (made_text start count) ≡ Ok trades → IfOk result (λ o. CameToRun told old new (next trades) o) → IfOk result (λ o. CameToRun told old new (with_made start count next) o)

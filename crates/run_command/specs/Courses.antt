@@ -3,6 +3,7 @@ use Rattle.std.specs.Prelude.{ℕ, Bool, false, true, List, []}
 use Rattle.command_line.specs.Forms.{Options}
 use Rattle.plan_reader.specs.PlanView.{PlanView}
 use Rattle.trade_text.specs.Kinds.{trades_kind}
+use Rattle.trade_text.specs.Messages.{fault_of}
 use Rattle.trade_text.specs.Trades.{trades_of}
 use Rattle.trade_text.specs.TradesView.{TradesView}
 use Rattle.trade_maker.specs.MadeText.{made_text}
@@ -10,7 +11,7 @@ use Rattle.pair_machine.specs.declared.order.Order.{Order}
 use Rattle.command_course.specs.Course.{Course, Run, Runs, Way, ◌>>=◌}
 use Rattle.command_course.specs.FeedView.{FeedView}
 use Rattle.command_course.specs.Feeds.{with_feed, with_movements, with_plan}
-use Rattle.command_course.specs.Inputs.{rows_or_line}
+use Rattle.command_course.specs.Lines.{or_line}
 use Rattle.run_command.specs.Scripts.{with_script}
 
 -- the run of a plan that is fed, with these options and under these orders
@@ -27,7 +28,7 @@ run_course plan trades options = with_feed plan trades options.cash (runs option
 
 -- The trades that are made from a number, read as those of a file. None of them is refused.
 abbrev pub with_made : (start count : ℕ) → Way TradesView
-with_made start count next = rows_or_line trades_kind [] (trades_of (made_text start count)) >>= next
+with_made start count next = or_line (fault_of trades_kind) [] (trades_of (made_text start count)) >>= next
 
 -- once the plan was read
 abbrev pub trial_with : (start count : ℕ) → Options → PlanView → Course

@@ -1,20 +1,15 @@
 -- What the file of a failure script says, or the line by which it is refused.
-use Rattle.std.specs.Prelude.{ℕ, List, [], Option, None, Some, Result, Ok, Err}
+use Rattle.std.specs.Prelude.{ℕ, List, [], Option, None, Some}
 use Rattle.plan_reader.specs.PlanView.{PlanView}
 use Rattle.pair_machine.specs.declared.order.Order.{Order}
 use Rattle.failure_script.specs.Messages.{script_fault}
 use Rattle.failure_script.specs.Script.{script_of}
-use Rattle.failure_script.specs.declared.error.ScriptError.{ScriptError}
 use Rattle.command_course.specs.Course.{Reading, Way, reads}
-use Rattle.command_course.specs.Lines.{line_of}
-
-abbrev pub script_or_line : List ℕ → Result (List Order) ScriptError → Reading (List Order)
-script_or_line name (Ok orders) = Ok orders
-script_or_line name (Err fault) = Err (line_of name (script_fault fault))
+use Rattle.command_course.specs.Lines.{or_line}
 
 -- the orders of a file with these bytes, for a plan
 abbrev pub script_from : PlanView → List ℕ → List ℕ → Reading (List Order)
-script_from plan name bytes = script_or_line name (script_of plan bytes)
+script_from plan name bytes = or_line script_fault name (script_of plan bytes)
 
 -- without a file there are no orders
 abbrev pub with_script : Option (List ℕ) → PlanView → Way (List Order)
