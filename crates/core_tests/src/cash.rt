@@ -1,12 +1,10 @@
 // Two sources at ingress: a pull from ingress takes of the first one what it has made, and then of the second.
-use crate::fixture::Story;
-use crate::nodes::{Made, Running, Taken, in_edge, out_edge_of_source, ran};
-use flux_core::Core;
-use plan_reader::read_plan;
+use crate::fixture::{Story, opened, plan_of, trades_of};
+use crate::nodes::{Made, Running, Seen, Taken};
+use crate::steps::{Step, go_from};
 use std::alloc::Global;
-use std::process::Abort;
 use std::test::Fail;
-use trade_text::{read_cash, read_trades};
+use trade_text::{Trades, read_cash};
 use tuple_edge::{OutOfMemory, Which};
 
 const PLAN: &[u8] = b"flux 2\nstage 1 parts 1 by account total account\n";
@@ -15,67 +13,86 @@ const TRADES: &[u8] = b"time,account,symbol,side,qty,price\n34200,7,A,B,1,1\n342
 
 const CASH: &[u8] = b"time,account,amount\n34205,7,-2.50\n34210,7,1\n";
 
-// The core of two trades and two movements, as it opens.
-fn opened(alloc: Global) -> Result<Story, OutOfMemory> {
-    let Ok(plan) = read_plan(alloc, PLAN) else {
-        return Err(OutOfMemory);
-    };
-    let Ok(mut trades) = read_trades(alloc, TRADES) else {
-        return Err(OutOfMemory);
-    };
+// Two trades and two movements.
+fn inputs(alloc: Global) -> Result<Trades, OutOfMemory> {
+    let mut trades = trades_of(alloc, TRADES)?;
     let room = 100_000 - trades.rows().len() as u32;
     let Ok(cash) = read_cash(alloc, CASH, room) else {
         return Err(OutOfMemory);
     };
     trades.merge_cash(&cash)?;
-    let core = Core::new(alloc, &plan, &trades)?;
-    Ok(Story { core })
+    Ok(trades)
 }
 
-// So many items of each source were taken by replica A.
-fn marks_are(rt: &impl Abort, core: &Core, marks: [u64; 2]) {
-    let [first, second] = marks;
+// The core of these, as it opens.
+fn both_sources(alloc: Global) -> Result<Story, OutOfMemory> {
+    opened(alloc, &plan_of(alloc, PLAN)?, &inputs(alloc)?)
+}
+
+// So many items of a source were taken by replica A.
+fn took(source: u32, mark: u64) -> Step {
     let told = 0;
-    for (source, mark) in [(0, first), (1, second)] {
-        let taken = in_edge(core, 1, Which::A, source);
-        assert_eq!(rt; taken, Some(Taken { mark, told }), "{source}");
-    }
+    Step::Sees(Seen::InEdge(1, Which::A, source, Taken { mark, told }))
+}
+
+const MADE: Made = Made {
+    low: 0,
+    made: 3,
+    a: 1,
+    b: Some(1),
+};
+
+const MERGED: Running = Running {
+    inc: 1,
+    term: 1,
+    leads: true,
+    served: 0,
+    count: 5,
+};
+
+fn both_pulled() -> [Step; 6] {
+    [
+        Step::Follows(b"events 1\nmake 5\npull in 1.0.a 6\nwork 1.0.a 5\n"),
+        Step::Sees(Seen::OutEdgeOfSource(0, MADE)),
+        Step::Sees(Seen::OutEdgeOfSource(1, MADE)),
+        Step::Sees(Seen::Ran(1, Which::A, MERGED)),
+        took(0, 3),
+        took(1, 3),
+    ]
 }
 
 #[test]
 fn both_sources_are_pulled(rt: HostRuntime) -> Result<(), Fail> {
-    let mut story = opened(rt.alloc())?;
-    let events = b"events 1\nmake 5\npull in 1.0.a 6\nwork 1.0.a 5\n";
-    story.follows(&rt, rt.alloc(), events)?;
-    let made = Made {
-        low: 0,
-        made: 3,
-        a: 1,
-        b: Some(1),
-    };
-    let merged = Running {
-        inc: 1,
-        term: 1,
-        leads: true,
-        served: 0,
-        count: 5,
-    };
-    assert_eq!(rt; out_edge_of_source(&story.core, 0), Some(made));
-    assert_eq!(rt; out_edge_of_source(&story.core, 1), Some(made));
-    assert_eq!(rt; ran(&story.core, 1, Which::A), Some(merged));
-    marks_are(&rt, &story.core, [3, 3]);
-    Ok(())
+    go_from(&rt, rt.alloc(), both_sources(rt.alloc())?, &both_pulled())
 }
 
 // The trades' source is pulled first, as far as it was made.
+fn one_by_one() -> [Step; 19] {
+    let pull = Step::Follows(b"events 1\npull in 1.0.a\n");
+    [
+        Step::Follows(b"events 1\nmake 5\n"),
+        pull,
+        took(0, 1),
+        took(1, 0),
+        pull,
+        took(0, 2),
+        took(1, 0),
+        pull,
+        took(0, 3),
+        took(1, 0),
+        pull,
+        took(0, 3),
+        took(1, 1),
+        pull,
+        took(0, 3),
+        took(1, 2),
+        pull,
+        took(0, 3),
+        took(1, 3),
+    ]
+}
+
 #[test]
 fn the_first_source_comes_first(rt: HostRuntime) -> Result<(), Fail> {
-    let mut story = opened(rt.alloc())?;
-    let pull = b"events 1\npull in 1.0.a\n";
-    story.follows(&rt, rt.alloc(), b"events 1\nmake 5\n")?;
-    for marks in [[1, 0], [2, 0], [3, 0], [3, 1], [3, 2], [3, 3]] {
-        story.follows(&rt, rt.alloc(), pull)?;
-        marks_are(&rt, &story.core, marks);
-    }
-    Ok(())
+    go_from(&rt, rt.alloc(), both_sources(rt.alloc())?, &one_by_one())
 }

@@ -1,12 +1,11 @@
 // Cores of small plans, driven by texts of events.
-ghost use Rattle.std.specs.Prelude.{◌≡◌, true};
+ghost use Rattle.std.specs.Prelude.{◌≡◌, IfOk, false, true};
 
 use flux_core::{ApplyError, Core, Stopped};
-use plan_reader::read_plan;
+use plan_reader::{Plan, read_plan};
 use run_journal::read_events;
 use std::alloc::Global;
-use std::process::Abort;
-use trade_text::read_trades;
+use trade_text::{Trades, read_trades};
 use tuple_edge::{Event, NodeId, OutOfMemory, Which};
 
 // One stage of one partition.
@@ -41,29 +40,28 @@ pub(crate) struct Story {
     ghost whole: { core.whole ≡ true },
 }
 
-// The core of a plan and such trades, as it opens.
-pub(crate) fn opened(alloc: Global, plan: &[u8], trades: u32) -> Result<Story, OutOfMemory> {
-    let Ok(plan) = read_plan(alloc, plan) else {
-        return Err(OutOfMemory);
-    };
-    let Ok(trades) = read_trades(alloc, &buys(alloc, trades)?) else {
-        return Err(OutOfMemory);
-    };
-    let core = Core::new(alloc, &plan, &trades)?;
-    Ok(Story { core })
+// The plan of a text.
+pub(crate) fn plan_of(alloc: Global, text: &[u8]) -> Result<Plan, OutOfMemory> {
+    match read_plan(alloc, text) {
+        Ok(plan) => Ok(plan),
+        Err(_) => Err(OutOfMemory),
+    }
 }
 
-// The core of a plan and so many trades, after a text of events.
-pub(crate) fn after(
-    rt: &impl Abort,
-    alloc: Global,
-    plan: &[u8],
-    trades: u32,
-    events: &[u8],
-) -> Result<Story, OutOfMemory> {
-    let mut story = opened(alloc, plan, trades)?;
-    story.follows(rt, alloc, events)?;
-    Ok(story)
+// The trades of a text.
+pub(crate) fn trades_of(alloc: Global, text: &[u8]) -> Result<Trades, OutOfMemory>
+    ensures { IfOk result (λ trades. trades.merged ≡ false) }
+{
+    match read_trades(alloc, text) {
+        Ok(trades) => Ok(trades),
+        Err(_) => Err(OutOfMemory),
+    }
+}
+
+// The core of a plan and its trades, as it opens.
+pub(crate) fn opened(alloc: Global, plan: &Plan, trades: &Trades) -> Result<Story, OutOfMemory> {
+    let core = Core::new(alloc, plan, trades)?;
+    Ok(Story { core })
 }
 
 impl Story {
@@ -82,23 +80,16 @@ impl Story {
         }
     }
 
-    // Each event of a text is a step of the core.
-    pub(crate) fn follows(
-        &mut self,
-        rt: &impl Abort,
-        alloc: Global,
-        events: &[u8],
-    ) -> Result<(), OutOfMemory> {
-        let stop = self.stop_at(alloc, events)?;
-        assert!(rt; stop.is_none(), "{stop:?}");
-        Ok(())
-    }
-
     // An event of the plan is applied; another one isn't.
     pub(crate) fn try_apply(&mut self, event: Event) -> Option<Result<(), ApplyError>> {
         if !self.core.plan().names(&event) {
             return None;
         }
         Some(self.core.apply(event))
+    }
+
+    // Whether an event is a step; one that isn't changes nothing.
+    pub(crate) fn is_step(&mut self, event: Event) -> bool {
+        self.try_apply(event) == Some(Ok(()))
     }
 }

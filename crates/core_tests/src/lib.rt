@@ -19,6 +19,8 @@ mod path;
 #[cfg(test)]
 mod refused;
 #[cfg(test)]
+mod steps;
+#[cfg(test)]
 mod takeover;
 #[cfg(test)]
 mod walk;

@@ -1,8 +1,8 @@
 // A million events on three stages: packets, pulls and work.
-use crate::fixture::{Story, opened, replica};
-use std::process::Abort;
+use crate::nodes::Seen;
+use crate::steps::{Step, check};
 use std::test::Fail;
-use tuple_edge::{Event, LinkId, NodeId, Which};
+use tuple_edge::Which;
 
 const THREE: &[u8] = b"flux 1
 stage 1 parts 1 by account total account
@@ -25,24 +25,16 @@ pull 3.0.a out 101563
 work out 101563
 ";
 
-// A replica of the first stage takes all packets of ingress.
-fn takes_all(rt: &impl Abort, story: &mut Story, which: Which) {
-    let to = replica(1, which);
-    let from = NodeId::Ingress;
-    for index in 1..=101_563u64 {
-        let link = LinkId { from, to };
-        assert!(rt; story.try_apply(Event::Take { link, index }) == Some(Ok(())));
-    }
-}
+const MANY: &[Step] = &[
+    Step::Follows(SENDS),
+    Step::TakesOfIngress(Which::A, 101_563),
+    Step::TakesOfIngress(Which::B, 101_563),
+    Step::Follows(PASSES),
+    Step::Sees(Seen::Done),
+    Step::Sees(Seen::EmittedSoMany(100_000)),
+];
 
 #[test]
 fn a_million_events(rt: HostRuntime) -> Result<(), Fail> {
-    let mut story = opened(rt.alloc(), THREE, 100_000)?;
-    story.follows(&rt, rt.alloc(), SENDS)?;
-    takes_all(&rt, &mut story, Which::A);
-    takes_all(&rt, &mut story, Which::B);
-    story.follows(&rt, rt.alloc(), PASSES)?;
-    assert!(rt; story.core.egress().done());
-    assert_eq!(rt; story.core.emitted().len(), 100_000);
-    Ok(())
+    check(&rt, rt.alloc(), THREE, 100_000, MANY)
 }

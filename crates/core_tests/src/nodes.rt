@@ -1,4 +1,4 @@
-// What can be read of the nodes of a core, of the first partition of each stage.
+// What can be seen of the nodes of a core, of the first partition of each stage.
 ghost use Rattle.std.specs.Prelude.{◌≤◌, IfSome, length};
 
 use flux_consumer::Consumer;
@@ -6,10 +6,10 @@ use flux_core::Core;
 use flux_producer::Producer;
 use pair_control::PairControl;
 use replica_node::{Mode, Replica};
-use tuple_edge::{NodeId, Status, Which};
+use tuple_edge::{NodeId, Row, Status, Which};
 
 // What a replica that runs tells of itself.
-#[derive(Clone, Copy, Debug, PartialEq, Eq)]
+#[derive(Clone, Copy, PartialEq, Eq)]
 pub(crate) struct Running {
     pub(crate) inc: u64,
     pub(crate) term: u64,
@@ -19,7 +19,7 @@ pub(crate) struct Running {
 }
 
 // The numbers of an in-edge: how many items were taken, and how many of them it has told of.
-#[derive(Clone, Copy, Debug, PartialEq, Eq)]
+#[derive(Clone, Copy, PartialEq, Eq)]
 pub(crate) struct Taken {
     pub(crate) mark: u64,
     pub(crate) told: u64,
@@ -27,7 +27,7 @@ pub(crate) struct Taken {
 
 // The numbers of an out-edge: up to where it is acknowledged, how many items were made, and the next one for each
 // replica of the consumers; egress is but one.
-#[derive(Clone, Copy, Debug, PartialEq, Eq)]
+#[derive(Clone, Copy, PartialEq, Eq)]
 pub(crate) struct Made {
     pub(crate) low: u64,
     pub(crate) made: u64,
@@ -36,7 +36,7 @@ pub(crate) struct Made {
 }
 
 // What a controller holds of a replica.
-#[derive(Clone, Copy, Debug, PartialEq, Eq)]
+#[derive(Clone, Copy, PartialEq, Eq)]
 pub(crate) struct Watched {
     pub(crate) status: Status,
     pub(crate) inc: u64,
@@ -45,11 +45,56 @@ pub(crate) struct Watched {
 }
 
 // What a controller knows of its first in-edge: up to where it is acknowledged, and what each replica reported.
-#[derive(Clone, Copy, Debug, PartialEq, Eq)]
+#[derive(Clone, Copy, PartialEq, Eq)]
 pub(crate) struct Reports {
     pub(crate) acked: u64,
     pub(crate) a: u64,
     pub(crate) b: u64,
+}
+
+/// Something that is seen of a node. What isn't there is not seen.
+#[derive(Clone, Copy)]
+pub(crate) enum Seen {
+    // So many inputs were made, or the end with them, and a source has this out-edge.
+    Makes(u64),
+    OutEdgeOfSource(u32, Made),
+    // A replica has this mode, in this incarnation.
+    Mode(u32, Which, Mode, u64),
+    // A replica runs, with these numbers; with this in-edge; with this out-edge.
+    Ran(u32, Which, Running),
+    InEdge(u32, Which, u32, Taken),
+    OutEdge(u32, Which, Made),
+    // A replica gathers its partner's state, and took so many entries of it.
+    Gathered(u32, Which, u64),
+    // A controller has this term and this leader; holds this of a replica; knows this of its first in-edge.
+    Led(u32, u64, Option<Which>),
+    Held(u32, Which, Watched),
+    Reported(u32, Reports),
+    // Egress has this in-edge; has emitted just these rows, or so many; has merged the end.
+    InEdgeOfEgress(Taken),
+    Emitted(&'static [Row]),
+    EmittedSoMany(usize),
+    Done,
+}
+
+// Whether it is seen of a core.
+pub(crate) fn is_seen(core: &Core, seen: &Seen) -> bool {
+    match *seen {
+        Seen::Makes(count) => core.ingress().makes() == count,
+        Seen::OutEdgeOfSource(source, made) => out_edge_of_source(core, source) == Some(made),
+        Seen::Mode(stage, which, kind, inc) => mode(core, stage, which) == Some((kind, inc)),
+        Seen::Ran(stage, which, running) => ran(core, stage, which) == Some(running),
+        Seen::InEdge(stage, which, from, taken) => in_edge(core, stage, which, from) == Some(taken),
+        Seen::OutEdge(stage, which, made) => out_edge(core, stage, which) == Some(made),
+        Seen::Gathered(stage, which, count) => gathered(core, stage, which) == Some(count),
+        Seen::Led(stage, term, leader) => led(core, stage) == Some((term, leader)),
+        Seen::Held(stage, which, watched) => held(core, stage, which) == Some(watched),
+        Seen::Reported(stage, reports) => reported(core, stage) == Some(reports),
+        Seen::InEdgeOfEgress(taken) => in_edge_of_egress(core) == Some(taken),
+        Seen::Emitted(rows) => core.emitted() == rows,
+        Seen::EmittedSoMany(count) => core.emitted().len() == count,
+        Seen::Done => core.egress().done(),
+    }
 }
 
 // A replica of a stage.
@@ -73,13 +118,13 @@ fn control_of(core: &Core, stage: u32) -> Option<&PairControl>
 }
 
 // The mode and the incarnation of a replica.
-pub(crate) fn mode(core: &Core, stage: u32, which: Which) -> Option<(Mode, u64)> {
+fn mode(core: &Core, stage: u32, which: Which) -> Option<(Mode, u64)> {
     let replica = replica_of(core, stage, which)?;
     Some((replica.mode(), replica.inc()))
 }
 
 // A replica that runs.
-pub(crate) fn ran(core: &Core, stage: u32, which: Which) -> Option<Running> {
+fn ran(core: &Core, stage: u32, which: Which) -> Option<Running> {
     let replica = replica_of(core, stage, which)?;
     let producer = replica.producer()?;
     Some(Running {
@@ -101,12 +146,12 @@ fn taken_by(consumer: &Consumer, from: u32) -> Option<Taken> {
 }
 
 // An in-edge of a replica that runs.
-pub(crate) fn in_edge(core: &Core, stage: u32, which: Which, from: u32) -> Option<Taken> {
+fn in_edge(core: &Core, stage: u32, which: Which, from: u32) -> Option<Taken> {
     taken_by(replica_of(core, stage, which)?.consumer()?, from)
 }
 
 // The first in-edge of egress.
-pub(crate) fn in_edge_of_egress(core: &Core) -> Option<Taken> {
+fn in_edge_of_egress(core: &Core) -> Option<Taken> {
     taken_by(core.egress().consumer(), 0)
 }
 
@@ -130,12 +175,12 @@ fn made_by(producer: &Producer) -> Option<Made> {
 }
 
 // The first out-edge of a replica that runs.
-pub(crate) fn out_edge(core: &Core, stage: u32, which: Which) -> Option<Made> {
+fn out_edge(core: &Core, stage: u32, which: Which) -> Option<Made> {
     made_by(replica_of(core, stage, which)?.producer()?)
 }
 
 // The first out-edge of a source of ingress.
-pub(crate) fn out_edge_of_source(core: &Core, source: u32) -> Option<Made> {
+fn out_edge_of_source(core: &Core, source: u32) -> Option<Made> {
     let ingress = core.ingress();
     if source >= ingress.sources() {
         return None;
@@ -144,13 +189,13 @@ pub(crate) fn out_edge_of_source(core: &Core, source: u32) -> Option<Made> {
 }
 
 // The term of a pair, and its leader.
-pub(crate) fn led(core: &Core, stage: u32) -> Option<(u64, Option<Which>)> {
+fn led(core: &Core, stage: u32) -> Option<(u64, Option<Which>)> {
     let control = control_of(core, stage)?;
     Some((control.term(), control.leader()))
 }
 
 // What the controller of a stage holds of a replica.
-pub(crate) fn held(core: &Core, stage: u32, which: Which) -> Option<Watched> {
+fn held(core: &Core, stage: u32, which: Which) -> Option<Watched> {
     let control = control_of(core, stage)?;
     Some(Watched {
         status: control.status(which),
@@ -161,7 +206,7 @@ pub(crate) fn held(core: &Core, stage: u32, which: Which) -> Option<Watched> {
 }
 
 // What the controller of a stage knows of its first in-edge.
-pub(crate) fn reported(core: &Core, stage: u32) -> Option<Reports> {
+fn reported(core: &Core, stage: u32) -> Option<Reports> {
     let control = control_of(core, stage)?;
     Some(Reports {
         acked: control.acked(0),
@@ -171,6 +216,6 @@ pub(crate) fn reported(core: &Core, stage: u32) -> Option<Reports> {
 }
 
 // How many entries a replica took that gathers its partner's state.
-pub(crate) fn gathered(core: &Core, stage: u32, which: Which) -> Option<u64> {
+fn gathered(core: &Core, stage: u32, which: Which) -> Option<u64> {
     Some(replica_of(core, stage, which)?.newcomer()?.taken())
 }

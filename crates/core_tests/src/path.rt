@@ -1,21 +1,30 @@
 // The way of the trades to egress, packet by packet.
-use crate::fixture::{ONE, after};
-use crate::nodes::{Taken, in_edge_of_egress};
-use flux_core::Core;
-use std::process::Abort;
+use crate::fixture::ONE;
+use crate::nodes::{Seen, Taken};
+use crate::steps::{Step, check};
 use std::test::Fail;
 use tuple_edge::Row;
 
-// What the total answers to the last of so many trades.
-pub(crate) fn total(qty: i64) -> Row {
-    Row {
-        time: 34_200,
-        account: 7,
-        symbol: 0,
-        qty,
-        value: qty.saturating_mul(100),
-    }
-}
+// What the total answers to one trade, to two and to three of them.
+const FIRST: Row = Row {
+    time: 34_200,
+    account: 7,
+    symbol: 0,
+    qty: 1,
+    value: 100,
+};
+
+const SECOND: Row = Row {
+    qty: 2,
+    value: 200,
+    ..FIRST
+};
+
+const THIRD: Row = Row {
+    qty: 3,
+    value: 300,
+    ..FIRST
+};
 
 // Replica A made three answers and sent two of them.
 const SENT_TWO: &[u8] = b"events 1
@@ -25,22 +34,19 @@ work 1.0.a 5
 take 1.0.a>out 2
 ";
 
-// Egress has taken so many items, told of none, and emitted so many rows.
-fn egress_is_at(rt: &impl Abort, core: &Core, mark: u64, rows: &[Row]) {
-    let told = 0;
-    assert_eq!(rt; in_edge_of_egress(core), Some(Taken { mark, told }));
-    assert!(rt; core.emitted() == rows);
-}
-
 // The second answer is taken after the first one only; the merge comes before an acknowledgement.
+const IN_ORDER: &[Step] = &[
+    Step::Follows(SENT_TWO),
+    Step::Sees(Seen::InEdgeOfEgress(Taken { mark: 0, told: 0 })),
+    Step::Sees(Seen::Emitted(&[])),
+    Step::Follows(b"events 1\ntake 1.0.a>out 1\ntake 1.0.a>out 2\nwork out 2\n"),
+    Step::Sees(Seen::InEdgeOfEgress(Taken { mark: 2, told: 0 })),
+    Step::Sees(Seen::Emitted(&[FIRST, SECOND])),
+];
+
 #[test]
 fn egress_takes_in_order(rt: HostRuntime) -> Result<(), Fail> {
-    let mut story = after(&rt, rt.alloc(), ONE, 3, SENT_TWO)?;
-    egress_is_at(&rt, &story.core, 0, &[]);
-    let events = b"events 1\ntake 1.0.a>out 1\ntake 1.0.a>out 2\nwork out 2\n";
-    story.follows(&rt, rt.alloc(), events)?;
-    egress_is_at(&rt, &story.core, 2, &[total(1), total(2)]);
-    Ok(())
+    check(&rt, rt.alloc(), ONE, 3, IN_ORDER)
 }
 
 // All packets of three trades and the end, from ingress to replica A and on to egress.
@@ -60,10 +66,14 @@ work out 4
 ";
 
 // By making, taking and working alone all rows are emitted, and the end is merged.
+const WHOLE_WAY: &[Step] = &[
+    Step::Follows(ALL),
+    Step::Sees(Seen::InEdgeOfEgress(Taken { mark: 4, told: 0 })),
+    Step::Sees(Seen::Emitted(&[FIRST, SECOND, THIRD])),
+    Step::Sees(Seen::Done),
+];
+
 #[test]
 fn the_third_trade_reaches_egress(rt: HostRuntime) -> Result<(), Fail> {
-    let story = after(&rt, rt.alloc(), ONE, 3, ALL)?;
-    egress_is_at(&rt, &story.core, 4, &[total(1), total(2), total(3)]);
-    assert!(rt; story.core.egress().done());
-    Ok(())
+    check(&rt, rt.alloc(), ONE, 3, WHOLE_WAY)
 }

@@ -1,16 +1,15 @@
 // Long walks of random events with failures: what was emitted is always a front of the plan's output.
-ghost use Rattle.std.specs.Prelude.{◌<◌};
+ghost use Rattle.std.specs.Prelude.{◌≡◌, ◌<◌, IfOk, false};
 ghost use Rattle.trade_maker.specs.Limits.{states};
 
-use crate::fixture::{Story, TWO, replica};
+use crate::fixture::{Story, TWO, opened, plan_of, replica, trades_of};
 use evaluation::evaluate;
-use flux_core::Core;
-use plan_reader::{Plan, read_plan};
+use plan_reader::Plan;
 use std::alloc::Global;
 use std::process::Abort;
 use std::test::Fail;
 use trade_maker::make_trades;
-use trade_text::read_trades;
+use trade_text::Trades;
 use tuple_edge::{Event, LinkId, NodeId, OutOfMemory, Row, Which};
 
 // A link, and the place of the packet that is to be taken there next.
@@ -59,47 +58,25 @@ fn add_ways(ways: &mut Vec<Way>, plan: &Plan, from: NodeId) -> Result<(), OutOfM
     Ok(())
 }
 
-// A core that walks, and the rows that its plan gives.
-#[derive(Drop)]
-struct Walk {
-    story: Story,
-    ways: Vec<Way>,
-    drawn: u64,
-    // One event of so many is a failure, or what follows one.
-    failures: u64,
-    output: Vec<Row>,
-}
-
-// The walk of this start, over four hundred made trades.
-fn opened(alloc: Global, start: u32, failures: u64) -> Result<Walk, OutOfMemory>
-    requires { start < states }
-{
-    let Ok(plan) = read_plan(alloc, TWO) else {
-        return Err(OutOfMemory);
-    };
-    let Ok(trades) = read_trades(alloc, &make_trades(alloc, start, 400)?) else {
-        return Err(OutOfMemory);
-    };
-    if plan.version() != 1 {
-        return Err(OutOfMemory);
-    }
+// All links of a plan.
+fn ways(alloc: Global, plan: &Plan) -> Result<Vec<Way>, OutOfMemory> {
     let mut ways = Vec::new(alloc);
     for from in NODES {
-        add_ways(&mut ways, &plan, from)?;
+        add_ways(&mut ways, plan, from)?;
     }
-    let core = Core::new(alloc, &plan, &trades)?;
-    Ok(Walk {
-        story: Story { core },
-        ways,
-        drawn: u64::from(start),
-        failures,
-        output: evaluate(alloc, &plan, &trades)?,
-    })
+    Ok(ways)
 }
 
-// Whether an event is a step; one that isn't changes nothing.
-fn is_step(story: &mut Story, event: Event) -> bool {
-    matches!(story.try_apply(event), Some(Ok(())))
+// Numbers that are drawn one after another, from the last one.
+#[derive(Clone, Copy, Drop)]
+struct Draws(u64);
+
+impl Draws {
+    // The next number, below 32768.
+    fn draw(&mut self) -> u64 {
+        self.0 = (self.0 % 2_147_483_648 * 1_103_515_245 + 12_345) % 2_147_483_648;
+        self.0 / 65_536
+    }
 }
 
 // A packet of a link is taken: mostly the next one, and else any early one, late or again.
@@ -111,7 +88,7 @@ fn takes(story: &mut Story, way: &mut Way, drawn: u64) {
     } else {
         next
     };
-    if is_step(story, Event::Take { link, index }) && index == next {
+    if story.is_step(Event::Take { link, index }) && index == next {
         way.next = next.saturating_add(1);
     }
 }
@@ -142,58 +119,118 @@ fn failure(drawn: u64) -> Event {
     }
 }
 
-impl Walk {
-    // The next number, below 32768.
-    fn draw(&mut self) -> u64 {
-        self.drawn = (self.drawn % 2_147_483_648 * 1_103_515_245 + 12_345) % 2_147_483_648;
-        self.drawn / 65_536
+// What a walk tries next: an event that takes no packet, or a packet of the link at this place.
+enum Choice {
+    Event(Event),
+    Packet { place: usize, drawn: u64 },
+}
+
+// An event that takes no packet.
+fn event(kind: u64, drawn: u64) -> Event {
+    match kind {
+        0 => Event::Make,
+        1 => Event::Pull {
+            from: node(drawn / 8),
+            to: node(drawn),
+        },
+        _ => Event::Work { node: node(drawn) },
+    }
+}
+
+impl Draws {
+    // Where one event of so many is a failure, whether the next one is.
+    fn fails(&mut self, failures: u64) -> bool {
+        failures > 0 && self.draw() % failures == 0
     }
 
-    // An event that takes no packet.
-    fn event(&mut self, kind: u64) -> Event {
-        let drawn = self.draw();
-        match kind {
-            0 => Event::Make,
-            1 => Event::Pull {
-                from: node(drawn / 8),
-                to: node(drawn),
-            },
-            _ => Event::Work { node: node(drawn) },
+    // What is tried next, but for a failure.
+    fn event_or_packet(&mut self) -> Choice {
+        let kind = self.draw() % 16;
+        if kind < 7 {
+            return Choice::Event(event(kind, self.draw()));
         }
-    }
-
-    // A packet of any link is taken.
-    fn takes(&mut self) {
         let place = (self.draw() % 31) as usize;
         let drawn = self.draw();
+        Choice::Packet { place, drawn }
+    }
+
+    // What is tried next.
+    fn choose(&mut self, failures: u64) -> Choice {
+        if self.fails(failures) {
+            return Choice::Event(failure(self.draw()));
+        }
+        self.event_or_packet()
+    }
+}
+
+// A core that walks, and the rows that its plan gives.
+#[derive(Drop)]
+struct Walk {
+    story: Story,
+    ways: Vec<Way>,
+    draws: Draws,
+    // One event of so many is a failure, or what follows one.
+    failures: u64,
+    output: Vec<Row>,
+}
+
+// Four hundred made trades of this start.
+fn trades(alloc: Global, start: u32) -> Result<Trades, OutOfMemory>
+    requires { start < states }
+    ensures { IfOk result (λ trades. trades.merged ≡ false) }
+{
+    trades_of(alloc, &make_trades(alloc, start, 400)?)
+}
+
+// The rows of a plan over trades alone.
+fn output(alloc: Global, plan: &Plan, trades: &Trades) -> Result<Vec<Row>, OutOfMemory>
+    requires { trades.now.merged ≡ false }
+{
+    if plan.version() != 1 {
+        return Err(OutOfMemory);
+    }
+    evaluate(alloc, plan, trades)
+}
+
+// The walk of this start.
+fn begun(alloc: Global, start: u32, failures: u64) -> Result<Walk, OutOfMemory>
+    requires { start < states }
+{
+    let plan = plan_of(alloc, TWO)?;
+    let trades = trades(alloc, start)?;
+    Ok(Walk {
+        ways: ways(alloc, &plan)?,
+        draws: Draws(u64::from(start)),
+        failures,
+        output: output(alloc, &plan, &trades)?,
+        story: opened(alloc, &plan, &trades)?,
+    })
+}
+
+impl Walk {
+    // A packet of a link is taken, where there is one at this place.
+    fn takes(&mut self, place: usize, drawn: u64) {
         if let Some(way) = self.ways.get_mut(place) {
             takes(&mut self.story, way, drawn);
         }
     }
 
-    // One event.
+    // One event. One that isn't a step changes nothing.
     fn step(&mut self) {
-        let failures = self.failures;
-        if failures > 0 && self.draw() % failures == 0 {
-            let event = failure(self.draw());
-            let _failed = is_step(&mut self.story, event);
-            return;
+        match self.draws.choose(self.failures) {
+            Choice::Event(event) => {
+                let _is_step = self.story.is_step(event);
+            }
+            Choice::Packet { place, drawn } => self.takes(place, drawn),
         }
-        let kind = self.draw() % 16;
-        if kind >= 7 {
-            self.takes();
-            return;
-        }
-        let event = self.event(kind);
-        let _is_step = is_step(&mut self.story, event);
     }
 
     // So many events; then what was emitted is a front of the output.
-    fn goes(&mut self, rt: &impl Abort, events: u64) {
+    fn goes(&mut self, events: u64) -> bool {
         for _event in 0..events {
             self.step();
         }
-        assert!(rt; self.output.starts_with(self.story.core.emitted()));
+        self.output.starts_with(self.story.core.emitted())
     }
 }
 
@@ -204,9 +241,9 @@ fn emitted(
     start: u32,
     failures: u64,
 ) -> Result<usize, OutOfMemory> {
-    let mut walk = opened(alloc, start % 1_000, failures)?;
+    let mut walk = begun(alloc, start % 1_000, failures)?;
     for _time in 0..20u32 {
-        walk.goes(rt, 500);
+        assert!(rt; walk.goes(500), "{start}");
     }
     Ok(walk.story.core.emitted().len())
 }
