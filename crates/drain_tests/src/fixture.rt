@@ -2,7 +2,7 @@
 ghost use Rattle.std.specs.Prelude.{◌≡◌, IfOk, false, true};
 
 use core_drain::{Drained, drain};
-use flux_core::{ApplyError, Core};
+use flux_core::Core;
 use plan_reader::{Plan, read_plan};
 use run_journal::{Lined, read_events};
 use state_text::write_state;
@@ -67,9 +67,29 @@ pub(crate) fn opened(alloc: Global, plan: &[u8], trades: Trades) -> Result<Story
     Ok(Story { core, trades })
 }
 
+/// How a drain ended, and by which events.
+#[derive(Drop)]
+pub(crate) struct Ending {
+    pub(crate) drained: Drained,
+    pub(crate) events: Vec<Event>,
+}
+
+// What a drain listed: it stands after what was listed before, which is one make.
+fn listed_after_make(
+    rt: &impl Abort,
+    alloc: Global,
+    events: &[Event],
+) -> Result<Vec<Event>, OutOfMemory> {
+    let Some((first, listed)) = events.split_first() else {
+        return Err(OutOfMemory);
+    };
+    assert!(rt; *first == Event::Make);
+    Ok(Vec::from_slice(alloc, listed)?)
+}
+
 impl Story {
     // The events of a text.
-    pub(crate) fn events(&self, alloc: Global, text: &[u8]) -> Result<Vec<Event>, OutOfMemory> {
+    fn events(&self, alloc: Global, text: &[u8]) -> Result<Vec<Event>, OutOfMemory> {
         let mut events = Vec::new(alloc);
         for lined in &lines_of(alloc, text, self.core.plan())? {
             events.push(lined.event)?;
@@ -77,27 +97,30 @@ impl Story {
         Ok(events)
     }
 
-    // Each event of a text is a step of the core.
-    pub(crate) fn follows(
-        &mut self,
-        rt: &impl Abort,
+    // Whether these events are those of a text.
+    pub(crate) fn are_events(
+        &self,
         alloc: Global,
-        events: &[u8],
-    ) -> Result<(), OutOfMemory> {
+        events: &[Event],
+        text: &[u8],
+    ) -> Result<bool, OutOfMemory> {
+        Ok(self.events(alloc, text)?.as_slice() == events)
+    }
+
+    // Whether each event of a text is a step of the core.
+    pub(crate) fn follows(&mut self, alloc: Global, events: &[u8]) -> Result<bool, OutOfMemory> {
         let Ok(events) = read_events(alloc, events, self.core.plan()) else {
             return Err(OutOfMemory);
         };
-        let followed = self.core.follow(&events);
-        assert!(rt; followed.is_ok(), "{followed:?}");
-        Ok(())
+        Ok(self.core.follow(&events).is_ok())
     }
 
-    // An event of the plan is applied; another one isn't.
-    pub(crate) fn try_apply(&mut self, event: Event) -> Option<Result<(), ApplyError>> {
+    // Whether an event is a step; one that isn't changes nothing.
+    pub(crate) fn is_step(&mut self, event: Event) -> bool {
         if !self.core.plan().names(&event) {
-            return None;
+            return false;
         }
-        Some(self.core.apply(event))
+        self.core.apply(event).is_ok()
     }
 
     // The text of its state.
@@ -105,35 +128,35 @@ impl Story {
         write_state(&self.core, alloc, &self.trades)
     }
 
-    // How a drain ends, and by which events: they stand after what was listed before, and where there are none, the
-    // state is as it was.
-    fn drains_once(
-        &mut self,
-        rt: &impl Abort,
-        alloc: Global,
-    ) -> Result<(Drained, Vec<Event>), OutOfMemory> {
-        let before = self.text(alloc)?;
+    // How a drain ends, and what is listed then where a make was listed before.
+    fn drain_after_make(&mut self, alloc: Global) -> Result<Ending, OutOfMemory> {
         let mut events = Vec::from_slice(alloc, &[Event::Make])?;
         let drained = drain(&mut self.core, &mut events)?;
-        let Some((first, listed)) = events.split_first() else {
-            return Err(OutOfMemory);
-        };
-        assert!(rt; *first == Event::Make);
+        Ok(Ending { drained, events })
+    }
+
+    // How a drain ends, and by which events.
+    fn drain_and_list(&mut self, rt: &impl Abort, alloc: Global) -> Result<Ending, OutOfMemory> {
+        let Ending { drained, events } = self.drain_after_make(alloc)?;
+        let events = listed_after_make(rt, alloc, &events)?;
+        Ok(Ending { drained, events })
+    }
+
+    // The same; and where there are no events, the state is as it was.
+    fn drains_once(&mut self, rt: &impl Abort, alloc: Global) -> Result<Ending, OutOfMemory> {
+        let before = self.text(alloc)?;
+        let ending = self.drain_and_list(rt, alloc)?;
         let after = self.text(alloc)?;
-        assert!(rt; !listed.is_empty() || after == before);
-        Ok((drained, Vec::from_slice(alloc, listed)?))
+        assert!(rt; !ending.events.is_empty() || after == before);
+        Ok(ending)
     }
 
     // The same, and a second drain ends so too, by no event.
-    pub(crate) fn drains(
-        &mut self,
-        rt: &impl Abort,
-        alloc: Global,
-    ) -> Result<(Drained, Vec<Event>), OutOfMemory> {
-        let (drained, listed) = self.drains_once(rt, alloc)?;
-        let (again, more) = self.drains_once(rt, alloc)?;
-        assert_eq!(rt; again, drained);
-        assert!(rt; more.is_empty());
-        Ok((drained, listed))
+    pub(crate) fn drains(&mut self, rt: &impl Abort, alloc: Global) -> Result<Ending, OutOfMemory> {
+        let ending = self.drains_once(rt, alloc)?;
+        let again = self.drains_once(rt, alloc)?;
+        assert_eq!(rt; again.drained, ending.drained);
+        assert!(rt; again.events.is_empty());
+        Ok(ending)
     }
 }

@@ -1,5 +1,5 @@
 // Whole plans from their opening: the rows are those of the plan's output.
-ghost use Rattle.std.specs.Prelude.{◌≡◌, IfOk, false, true};
+ghost use Rattle.std.specs.Prelude.{◌≡◌, ◌↔◌, IfOk, false, true};
 
 use crate::fixture::{opened, plan_of, trades_of};
 use core_drain::Drained;
@@ -70,6 +70,21 @@ fn with_cash(alloc: Global, mut trades: Trades) -> Result<Trades, OutOfMemory>
     Ok(trades)
 }
 
+// The rows that a plan of this version gives.
+fn output(
+    rt: &impl Abort,
+    alloc: Global,
+    plan: &[u8],
+    version: u32,
+    trades: &Trades,
+) -> Result<Vec<Row>, OutOfMemory>
+    requires { (trades.now.merged ≡ true) ↔ (version ≡ 2) }
+{
+    let plan = plan_of(alloc, plan)?;
+    assert_eq!(rt; plan.version(), version);
+    evaluate(alloc, &plan, trades)
+}
+
 // From the opening a plan drains to these rows.
 fn drains_to(
     rt: &impl Abort,
@@ -79,33 +94,39 @@ fn drains_to(
     rows: &[Row],
 ) -> Result<(), OutOfMemory> {
     let mut story = opened(alloc, plan, trades)?;
-    let (drained, listed) = story.drains(rt, alloc)?;
-    assert_eq!(rt; drained, Drained::Whole);
-    assert!(rt; !rows.is_empty() && listed.len() > rows.len());
+    let ending = story.drains(rt, alloc)?;
+    assert_eq!(rt; ending.drained, Drained::Whole);
+    assert!(rt; !rows.is_empty() && ending.events.len() > rows.len());
     assert!(rt; story.core.emitted() == rows);
     Ok(())
 }
 
+// A plan over three hundred made trades drains to its output.
+fn traded_drains(rt: &impl Abort, alloc: Global, plan: &[u8]) -> Result<(), OutOfMemory> {
+    let trades = trades_of(alloc, &make_trades(alloc, 3, 300)?)?;
+    let rows = output(rt, alloc, plan, 1, &trades)?;
+    drains_to(rt, alloc, plan, trades, &rows)
+}
+
+// So does a plan over the trades and the movements.
+fn both_drain(rt: &impl Abort, alloc: Global, plan: &[u8]) -> Result<(), OutOfMemory> {
+    let both = with_cash(alloc, trades_of(alloc, TRADES)?)?;
+    let rows = output(rt, alloc, plan, 2, &both)?;
+    drains_to(rt, alloc, plan, both, &rows)
+}
+
 #[test]
 fn plans_over_trades_drain(rt: HostRuntime) -> Result<(), Fail> {
-    for text in TRADED {
-        let trades = trades_of(rt.alloc(), &make_trades(rt.alloc(), 3, 300)?)?;
-        let plan = plan_of(rt.alloc(), text)?;
-        assert_eq!(rt; plan.version(), 1);
-        let rows = evaluate(rt.alloc(), &plan, &trades)?;
-        drains_to(&rt, rt.alloc(), text, trades, &rows)?;
+    for plan in TRADED {
+        traded_drains(&rt, rt.alloc(), plan)?;
     }
     Ok(())
 }
 
 #[test]
 fn plans_over_both_sources_drain(rt: HostRuntime) -> Result<(), Fail> {
-    for text in BOTH {
-        let both = with_cash(rt.alloc(), trades_of(rt.alloc(), TRADES)?)?;
-        let plan = plan_of(rt.alloc(), text)?;
-        assert_eq!(rt; plan.version(), 2);
-        let rows = evaluate(rt.alloc(), &plan, &both)?;
-        drains_to(&rt, rt.alloc(), text, both, &rows)?;
+    for plan in BOTH {
+        both_drain(&rt, rt.alloc(), plan)?;
     }
     Ok(())
 }

@@ -1,5 +1,5 @@
 // Drains worked by hand: their events and their rows, and pairs that are lost.
-use crate::fixture::{ONE, TWO, buys, opened, trades_of};
+use crate::fixture::{ONE, Story, TWO, buys, opened, trades_of};
 use core_drain::Drained;
 use std::alloc::Global;
 use std::process::Abort;
@@ -51,36 +51,62 @@ fn rows_of(alloc: Global, shares: &[i64]) -> Result<Vec<Row>, OutOfMemory> {
     Ok(rows)
 }
 
-/// A plan, how many trades there are, the events before a drain, its own events, and the shares of the rows then.
-type Case = (
-    &'static [u8],
-    u32,
-    &'static [&'static [u8]],
-    &'static [u8],
-    &'static [i64],
-);
+/// A drain of a plan over so many trades, after these events: how it ends, by which events of its own, and the shares of
+/// the rows that egress has emitted then.
+#[derive(Clone, Copy)]
+struct Case {
+    plan: &'static [u8],
+    trades: u32,
+    before: &'static [&'static [u8]],
+    ends: Drained,
+    by: &'static [u8],
+    shares: &'static [i64],
+}
 
-// A drain is whole, by just these events and with just these rows.
-fn is_whole(rt: &impl Abort, alloc: Global, case: Case) -> Result<(), OutOfMemory> {
-    let (plan, trades, before, by, shares) = case;
-    let mut story = opened(alloc, plan, trades_of(alloc, &buys(alloc, trades)?)?)?;
-    for events in before {
-        story.follows(rt, alloc, events)?;
+// The core of a case before its drain.
+fn before_drain(rt: &impl Abort, alloc: Global, case: &Case) -> Result<Story, OutOfMemory> {
+    let mut story = opened(
+        alloc,
+        case.plan,
+        trades_of(alloc, &buys(alloc, case.trades)?)?,
+    )?;
+    for events in case.before {
+        assert!(rt; story.follows(alloc, events)?);
     }
-    let (drained, listed) = story.drains(rt, alloc)?;
-    assert_eq!(rt; drained, Drained::Whole);
-    assert!(rt; listed == story.events(alloc, by)?);
-    assert!(rt; story.core.emitted() == rows_of(alloc, shares)?.as_slice());
+    Ok(story)
+}
+
+// Whether egress has emitted just rows of these shares.
+fn has_emitted(alloc: Global, story: &Story, shares: &[i64]) -> Result<bool, OutOfMemory> {
+    Ok(story.core.emitted() == rows_of(alloc, shares)?.as_slice())
+}
+
+// A drain ends as it has to.
+fn ends(rt: &impl Abort, alloc: Global, case: &Case) -> Result<(), OutOfMemory> {
+    let mut story = before_drain(rt, alloc, case)?;
+    let ending = story.drains(rt, alloc)?;
+    assert_eq!(rt; ending.drained, case.ends);
+    assert!(rt; story.are_events(alloc, &ending.events, case.by)?);
+    assert!(rt; has_emitted(alloc, &story, case.shares)?);
     Ok(())
 }
 
-// A running total of ten trades, and the running total of these.
-const WHOLE: [Case; 5] = [
-    (
-        TWO,
-        10,
-        &[],
-        b"events 1
+// The drain of each case ends as it has to.
+fn check(rt: &impl Abort, alloc: Global, cases: &[Case]) -> Result<(), Fail> {
+    for case in cases {
+        ends(rt, alloc, case)?;
+    }
+    Ok(())
+}
+
+const WHOLE: &[Case] = &[
+    // A running total of ten trades, and the running total of these.
+    Case {
+        plan: TWO,
+        trades: 10,
+        before: &[],
+        ends: Drained::Whole,
+        by: b"events 1
 make 11
 pull in 1.0.a 11
 work 1.0.a 11
@@ -89,22 +115,24 @@ work 2.0.a 11
 pull 2.0.a out 11
 work out 11
 ",
-        &[1, 3, 6, 10, 15, 21, 28, 36, 45, 55],
-    ),
+        shares: &[1, 3, 6, 10, 15, 21, 28, 36, 45, 55],
+    },
     // Marks are pulled and merged as rows are.
-    (
-        MARKED,
-        4,
-        &[b"events 1\nmake 5\n"],
-        b"events 1\npull in 1.0.a 7\nwork 1.0.a 7\npull 1.0.a out 7\nwork out 7\n",
-        &[1, 2, 3, 4],
-    ),
+    Case {
+        plan: MARKED,
+        trades: 4,
+        before: &[b"events 1\nmake 5\n"],
+        ends: Drained::Whole,
+        by: b"events 1\npull in 1.0.a 7\nwork 1.0.a 7\npull 1.0.a out 7\nwork out 7\n",
+        shares: &[1, 2, 3, 4],
+    },
     // What was done before is not done again.
-    (
-        TWO,
-        3,
-        &[b"events 1\nmake 2\npull in 1.0.a\nwork 1.0.a\npull 1.0.a 2.0.a\n"],
-        b"events 1
+    Case {
+        plan: TWO,
+        trades: 3,
+        before: &[b"events 1\nmake 2\npull in 1.0.a\nwork 1.0.a\npull 1.0.a 2.0.a\n"],
+        ends: Drained::Whole,
+        by: b"events 1
 make 2
 pull in 1.0.a 3
 work 1.0.a 3
@@ -113,80 +141,79 @@ work 2.0.a 4
 pull 2.0.a out 4
 work out 4
 ",
-        &[1, 3, 6],
-    ),
+        shares: &[1, 3, 6],
+    },
     // One survivor is enough.
-    (
-        ONE,
-        3,
-        &[b"events 1\nmake\nkill 1.0.a\n"],
-        b"events 1\nmake 3\npull in 1.0.b 4\nwork 1.0.b 4\npull 1.0.b out 4\nwork out 4\n",
-        &[1, 2, 3],
-    ),
+    Case {
+        plan: ONE,
+        trades: 3,
+        before: &[b"events 1\nmake\nkill 1.0.a\n"],
+        ends: Drained::Whole,
+        by: b"events 1\nmake 3\npull in 1.0.b 4\nwork 1.0.b 4\npull 1.0.b out 4\nwork out 4\n",
+        shares: &[1, 2, 3],
+    },
     // So is one that has gathered the state of its partner.
-    (
-        ONE,
-        3,
-        &[BEGUN, GATHERED],
-        b"events 1\nmake\npull in 1.0.b\nwork 1.0.b\npull 1.0.b out 4\nwork out 4\n",
-        &[1, 2, 3],
-    ),
+    Case {
+        plan: ONE,
+        trades: 3,
+        before: &[BEGUN, GATHERED],
+        ends: Drained::Whole,
+        by: b"events 1\nmake\npull in 1.0.b\nwork 1.0.b\npull 1.0.b out 4\nwork out 4\n",
+        shares: &[1, 2, 3],
+    },
 ];
 
 #[test]
 fn what_is_left_is_done_in_order(rt: HostRuntime) -> Result<(), Fail> {
-    for case in WHOLE {
-        is_whole(&rt, rt.alloc(), case)?;
-    }
-    Ok(())
+    check(&rt, rt.alloc(), WHOLE)
 }
 
-// A drain of three trades is lost at the pair of this stage, and nothing is done.
-fn is_lost(
-    rt: &impl Abort,
-    alloc: Global,
-    plan: &[u8],
-    events: &[u8],
-    stage: u32,
-) -> Result<(), OutOfMemory> {
-    let mut story = opened(alloc, plan, trades_of(alloc, &buys(alloc, 3)?)?)?;
-    story.follows(rt, alloc, events)?;
-    let (drained, listed) = story.drains(rt, alloc)?;
-    assert_eq!(rt; drained, Drained::Lost { stage, part: 0 });
-    assert!(rt; listed.is_empty());
-    Ok(())
-}
+// A drain that is lost does nothing.
+const FIRST_LOST: Case = Case {
+    plan: ONE,
+    trades: 3,
+    before: &[b"events 1\nmake\nkill 1.0.a\nkill 1.0.b\n"],
+    ends: Drained::Lost { stage: 1, part: 0 },
+    by: b"events 1\n",
+    shares: &[],
+};
 
-const LOST: [(&[u8], &[u8], u32); 5] = [
-    (ONE, b"events 1\nmake\nkill 1.0.a\nkill 1.0.b\n", 1),
-    (TWO, b"events 1\nmake\nkill 2.0.a\nkill 2.0.b\n", 2),
-    (
-        TWO,
-        b"events 1\nkill 2.0.a\nkill 2.0.b\nkill 1.0.a\nkill 1.0.b\n",
-        1,
-    ),
+const LOST: &[Case] = &[
+    FIRST_LOST,
+    Case {
+        plan: TWO,
+        before: &[b"events 1\nmake\nkill 2.0.a\nkill 2.0.b\n"],
+        ends: Drained::Lost { stage: 2, part: 0 },
+        ..FIRST_LOST
+    },
+    // Of two lost pairs the first is named.
+    Case {
+        plan: TWO,
+        before: &[b"events 1\nkill 2.0.a\nkill 2.0.b\nkill 1.0.a\nkill 1.0.b\n"],
+        ..FIRST_LOST
+    },
     // B still runs, but its stop was granted, and so it doesn't count.
-    (
-        ONE,
-        b"events 1\naskstop 1.0.b\ntake 1.0.b>1.0.c 1\nkill 1.0.a\n",
-        1,
-    ),
+    Case {
+        before: &[b"events 1\naskstop 1.0.b\ntake 1.0.b>1.0.c 1\nkill 1.0.a\n"],
+        ..FIRST_LOST
+    },
     // B counts, but it has yet to gather the state of its partner.
-    (ONE, BEGUN, 1),
+    Case {
+        before: &[BEGUN],
+        ..FIRST_LOST
+    },
 ];
 
 #[test]
 fn no_survivor_is_lost(rt: HostRuntime) -> Result<(), Fail> {
-    for (plan, events, stage) in LOST {
-        is_lost(&rt, rt.alloc(), plan, events, stage)?;
-    }
-    Ok(())
+    check(&rt, rt.alloc(), LOST)
 }
 
-const DONE: Case = (
-    ONE,
-    3,
-    &[
+// Where egress has all rows already, that nobody is left is no harm.
+const DONE: &[Case] = &[Case {
+    plan: ONE,
+    trades: 3,
+    before: &[
         b"events 1
 make 4
 pull in 1.0.a 4
@@ -197,13 +224,12 @@ kill 1.0.a
 kill 1.0.b
 ",
     ],
-    b"events 1\n",
-    &[1, 2, 3],
-);
+    ends: Drained::Whole,
+    by: b"events 1\n",
+    shares: &[1, 2, 3],
+}];
 
-// Where egress has all rows already, that nobody is left is no harm.
 #[test]
 fn who_is_done_needs_no_survivor(rt: HostRuntime) -> Result<(), Fail> {
-    is_whole(&rt, rt.alloc(), DONE)?;
-    Ok(())
+    check(&rt, rt.alloc(), DONE)
 }
