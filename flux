@@ -1,13 +1,17 @@
 #!/usr/bin/env bash
 # Runs flux with the words as given, in the caller's folder, and ends with its status. Where the program isn't built, or
-# was built from other sources, it is proved and built first, crate by crate, and standard error tells how far that is; a
-# build that fails ends with status 70. Words that need no program are answered here.
+# was built from other sources, it is proved and built first, crates side by side, and standard error tells how far that is;
+# a build that fails ends with status 70. Words that need no program are answered here.
 set -u
 top=$(dirname "$(readlink -f "${BASH_SOURCE[0]}")")
 main=$top/crates/flux_main
 program=$main/out/flux_main
 stamp=$main/out/launcher.sum
 log=$main/out/launcher.log
+# What a build from nothing takes, in GiB, with some to spare; it was measured on four processors.
+DISK=4
+MEMORY=4
+HOW_LONG="from nothing that takes about half an hour on four processors"
 # As the program says it; .ci/run compares them.
 usage='flux: usage: eval PLAN TRADES [--cash C] | run PLAN TRADES [options] | replay PLAN TRADES EVENTS [--cash C] | make START COUNT | trial PLAN START COUNT [options] | move PLAN TRADES MOVES'
 
@@ -188,23 +192,102 @@ sources() {
 keep() { { echo "$1"; sha256sum <"$program"; } >"$stamp"; }
 is_fresh() { [ -x "$program" ] && [ -e "$stamp" ] && [ "$(sources; sha256sum <"$program")" = "$(cat "$stamp")" ]; }
 
+# Copies what the crates are made from, without their must-fail edits, into a folder of its own, as `rt ci` proves a whole
+# repository: there it has no crate that the program doesn't stand on.
+copy_sources() {
+  local crate parts it
+  mkdir -p "$1/crates" "$1/.git" && cp "$top/HANDLES" "$1" || return 1
+  for crate in "${crates[@]}"; do
+    parts=()
+    for it in src specs proofs data stdin stdout args status; do
+      [ ! -e "$top/crates/$crate/$it" ] || parts+=("$top/crates/$crate/$it")
+    done
+    mkdir "$1/crates/$crate" && cp -R "${parts[@]}" "$1/crates/$crate" || return 1
+    grep -E "^$crate( [a-z_]+=[^:]*)? *:" "$top/crates.txt" >>"$1/crates.txt" || return 1
+  done
+}
+
+# Stops where the folder's disk, or the memory, has less than the build takes.
+check_space() {
+  local free limit
+  free=$(df -Pk "$1" 2>/dev/null | awk 'NR == 2 { print int($4 / 1048576) }')
+  [ -z "$free" ] || [ "$free" -ge "$DISK" ] ||
+    stop "not built: it takes $DISK GiB of disk in $1, and $free are free; TMPDIR names another folder"
+  free=$(free -k 2>/dev/null | awk '/^Mem:/ { print int($7 / 1048576) }')
+  limit=$(cat /sys/fs/cgroup/memory.max 2>/dev/null)
+  [[ ! $limit =~ ^[0-9]+$ ]] || [ -z "$free" ] || ((limit / 1073741824 >= free)) || free=$((limit / 1073741824))
+  [ -z "$free" ] || [ "$free" -ge "$MEMORY" ] || stop "not built: it takes $MEMORY GiB of memory, and $free are free"
+}
+
+# Says how far the build is: on a terminal in one line that stays in its place, else in a line for each crate.
+tell() {
+  local front='' end=$'\n'
+  [ ! -t 2 ] || { front=$'\r\e[K' end=''; }
+  printf '%sflux: proved %s of %s crates in %s minutes%s' "$front" "$1" "${#crates[@]}" $((SECONDS / 60)) "$end" >&2
+}
+
+# Reads what `rt ci` says, and hands it on to the log. At the first crate that isn't proved it ends `rt ci`, which would go on with
+# others, and leaves the crate's name in `failed`.
+watch() {
+  local line part='' number=0 status
+  failed='' SECONDS=0
+  while :; do
+    IFS= read -r -t 20 line
+    status=$?
+    if [ "$status" -gt 128 ]; then
+      # Nothing came for a while: on a terminal the minutes go on.
+      part+=$line
+      [ ! -t 2 ] || tell "$number"
+      continue
+    fi
+    [ "$status" -eq 0 ] || break
+    line=$part$line part=''
+    echo "$line"
+    case $line in
+      "rt: "*" NOT PROVED"*) failed=${line#rt: } failed=${failed%%[ :]*}; kill "$1"; break ;;
+      "rt: "*" proved") tell $((number += 1)) ;;
+    esac
+  done
+  [ ! -t 2 ] || echo >&2
+}
+
+# Makes the folder for the build, whose name `room` then has: the same each time, so that the toolchain can know it again. What a
+# killed call left in it is gone then.
+make_room() {
+  local folder=${TMPDIR:-/tmp}
+  folder=${folder%/}/flux-build-$(id -u)-$(cksum <<<"$top" | cut -d ' ' -f 1)
+  { rm -rf "$folder" && mkdir -m 700 "$folder"; } 2>/dev/null && room=$folder
+}
+
+# Proves and builds the program by `rt ci`, which has as many crates in hand at a time as there are processors and memory. Where
+# the toolchain keeps what it passed, it proves only what has changed since. An ended call leaves nothing behind.
 build() {
-  local crate number=0 from command
+  local from status
+  said='' room=''
   command -v rt >/dev/null 2>&1 || stop "not built: the toolchain's command rt is not on the PATH"
   { mkdir -p "$main/out" && : >"$log"; } 2>/dev/null || stop "not built: $main/out can't be written"
-  echo "flux: proving and building the program; from nothing it takes more than an hour of one processor, and several GB of disk" >&2
+  check_space "${TMPDIR:-/tmp}"
+  trap '[ -z "$said" ] || { kill "$said"; wait "$said"; } 2>/dev/null; [ -z "$room" ] || rm -rf "$room"' EXIT
+  trap 'exit 70' INT TERM HUP
+  make_room || stop "not built: there can be no folder for it in ${TMPDIR:-/tmp}"
+  echo "flux: proving and building the program; $HOW_LONG" >&2
   echo "flux: the log is $log" >&2
   from=$(sources)
-  for crate in "${crates[@]}"; do
-    echo "flux: $crate, $((number += 1)) of ${#crates[@]}" >&2
-    command=(rt lib)
-    [ "$crate" = flux_main ] && command=(rt run -- eval data/p.txt data/t.csv)
-    if ! (cd "$top/crates/$crate" && exec "${command[@]}") >>"$log" 2>&1 </dev/null; then
-      echo "flux: the build failed at $crate; $log has all that was said, and last:" >&2
-      grep -vE '^(statements|library|crate|logic) |: proved$' "$log" | tail -n 20 | cut -c 1-300 >&2
-      exit 70
-    fi
-  done
+  copy_sources "$room" || stop "not built: its sources can't be copied to $room"
+  exec 8< <(cd "$room" && exec rt ci 2>&1 </dev/null 9<&-)
+  said=$!
+  watch "$said" <&8 >>"$log"
+  wait "$said" 2>/dev/null
+  status=$?
+  said=''
+  exec 8<&-
+  if [ -n "$failed" ] || [ "$status" -ne 0 ] || ! cp "$room/crates/flux_main/out/flux_main" "$program"; then
+    echo "flux: the build failed${failed:+ at $failed}; $log has all that was said, and last:" >&2
+    grep -vE '^(statements|library|crate|logic) |: proved$' "$log" | tail -n 20 | cut -c 1-300 >&2
+    exit 70
+  fi
+  rm -rf "$room"
+  trap - EXIT INT TERM HUP
   keep "$from"
 }
 
