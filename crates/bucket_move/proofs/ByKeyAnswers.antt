@@ -9,14 +9,14 @@ use Rattle.tuple_edge.specs.declared.row.Column.{Column}
 use Rattle.tuple_edge.specs.declared.row.Column.TheVariants as column
 use Rattle.tuple_edge.specs.declared.row.Key.{Key}
 use Rattle.tuple_edge.specs.declared.row.Row.{Row}
+use Rattle.op_spec.specs.Keys.{is_key, key_of}
+use Rattle.op_spec.specs.declared.spec.By.{By}
+use Rattle.op_spec.specs.declared.spec.By.TheVariants as by
+use Rattle.op_spec.specs.declared.spec.OpSpec.{OpSpec}
+use Rattle.op_spec.specs.declared.spec.OpSpec.TheVariants as op
 use Rattle.stream_ops.specs.Answers.{crossing_answer, row_answer}
-use Rattle.stream_ops.specs.Keys.{is_key, key_of}
 use Rattle.stream_ops.specs.Rows.{rows_of, rows_with}
 use Rattle.stream_ops.specs.Sums.{sums_of, sums_row}
-use Rattle.stream_ops.specs.declared.spec.By.{By}
-use Rattle.stream_ops.specs.declared.spec.By.TheVariants as by
-use Rattle.stream_ops.specs.declared.spec.OpSpec.{OpSpec}
-use Rattle.stream_ops.specs.declared.spec.OpSpec.TheVariants as op
 use Rattle.stream_ops.proofs.Keyed.{same_key}
 use Rattle.bucket_move.specs.ByKey.{holds_column, is_keyed}
 use Rattle.bucket_move.specs.Limits.{buckets}

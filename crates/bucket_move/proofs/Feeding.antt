@@ -9,10 +9,10 @@ use Rattle.std.proofs.lemmas.List.Elements.{All-get_or}
 use Rattle.tuple_edge.specs.declared.item.Item.{Item}
 use Rattle.tuple_edge.specs.declared.item.Item.TheVariants as item
 use Rattle.tuple_edge.specs.declared.row.Row.{Row}
+use Rattle.op_spec.specs.Spec.{most_rows}
+use Rattle.op_spec.specs.declared.spec.OpSpec.{OpSpec}
+use Rattle.op_spec.specs.declared.spec.OpSpec.TheVariants as op
 use Rattle.stream_ops.specs.Answers.{answer, answers, row_answer}
-use Rattle.stream_ops.specs.Spec.{most_rows}
-use Rattle.stream_ops.specs.declared.spec.OpSpec.{OpSpec}
-use Rattle.stream_ops.specs.declared.spec.OpSpec.TheVariants as op
 use Rattle.stream_ops.proofs.AnswerLaws.{length-answer_row}
 use Rattle.plan_reader.specs.declared.stage.Stage.{Stage}
 use Rattle.bucket_move.specs.BucketsView.{BucketsView, Call, Feeds, IsAfter, IsRight, Moves, fed, opening_table, part_of, state_after, state_at, table_after}

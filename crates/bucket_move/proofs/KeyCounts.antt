@@ -11,12 +11,12 @@ use Rattle.std.proofs.lemmas.List.Sums.{fold-append}
 use Rattle.tuple_edge.specs.declared.row.Column.{Column}
 use Rattle.tuple_edge.specs.declared.row.Key.{Key}
 use Rattle.tuple_edge.specs.declared.row.Row.{Row}
+use Rattle.op_spec.specs.Keys.{is_key, key_cmp, key_of}
+use Rattle.op_spec.specs.declared.spec.By.{By}
+use Rattle.op_spec.specs.declared.spec.OpSpec.{OpSpec}
+use Rattle.op_spec.specs.declared.spec.OpSpec.TheVariants as op
 use Rattle.stream_ops.specs.Kept.{keys_after}
-use Rattle.stream_ops.specs.Keys.{is_key, key_cmp, key_of}
 use Rattle.stream_ops.specs.Rows.{keys_among, rows_of, with_key}
-use Rattle.stream_ops.specs.declared.spec.By.{By}
-use Rattle.stream_ops.specs.declared.spec.OpSpec.{OpSpec}
-use Rattle.stream_ops.specs.declared.spec.OpSpec.TheVariants as op
 use Rattle.stream_ops.proofs.Keyed.{is_key-symm, self_key}
 use Rattle.stream_ops.proofs.Known.{keys-known, length-with_key}
 use Rattle.bucket_move.specs.ByKey.{is_keyed}

@@ -7,9 +7,9 @@ use Rattle.std.proofs.lemmas.Bool.{cases_Bool, eq-eqb, eqb-true, false≢true}
 use Rattle.std.proofs.lemmas.List.{get_or-map, length-map, map-set, with_items_is}
 use Rattle.std.proofs.lemmas.List.Elements.{All-get_or, All-map, All-set}
 use Rattle.tuple_edge.specs.declared.row.Row.{Row}
+use Rattle.op_spec.specs.declared.spec.OpSpec.{OpSpec}
 use Rattle.stream_ops.specs.Answers.{answers}
 use Rattle.stream_ops.specs.State.{StateView, unseen}
-use Rattle.stream_ops.specs.declared.spec.OpSpec.{OpSpec}
 use Rattle.plan_reader.specs.PlanView.{IsStage}
 use Rattle.plan_reader.specs.declared.stage.Stage.{Stage}
 use Rattle.bucket_move.specs.ByKey.{is_keyed}

@@ -10,10 +10,10 @@ use Rattle.tuple_edge.specs.declared.item.Item.TheVariants as item
 use Rattle.tuple_edge.specs.declared.packet.Entry.{Entry}
 use Rattle.tuple_edge.specs.declared.row.Column.{Column}
 use Rattle.tuple_edge.specs.declared.row.Row.{Row}
+use Rattle.op_spec.specs.declared.spec.OpSpec.{OpSpec}
 use Rattle.stream_ops.specs.Answers.{IsOpen}
 use Rattle.stream_ops.specs.Entries.{entries}
 use Rattle.stream_ops.specs.State.{StandsFor, StateView, unseen}
-use Rattle.stream_ops.specs.declared.spec.OpSpec.{OpSpec}
 use Rattle.plan_reader.specs.declared.stage.Stage.{Stage}
 use Rattle.bucket_move.specs.BucketsView.{part_of, state_after, state_in}
 use Rattle.bucket_move.specs.Limits.{buckets}

@@ -4,8 +4,8 @@ use Rattle.std.specs.Prelude.{◌==◌, Option, slice_get, slice_set}
 use Rattle.std.proofs.lemmas.Bool.{cases_Bool, eq-eqb, eqb-true}
 use Rattle.std.proofs.lemmas.List.{append-nil, get_or-map, length-take, take_more}
 use Rattle.tuple_edge.specs.declared.row.Row.{Row}
+use Rattle.op_spec.specs.declared.spec.OpSpec.{OpSpec}
 use Rattle.stream_ops.specs.State.{StateView}
-use Rattle.stream_ops.specs.declared.spec.OpSpec.{OpSpec}
 use Rattle.plan_reader.specs.declared.stage.Stage.{Stage}
 use Rattle.bucket_move.specs.BucketsView.{part_of, state_after, state_in}
 use Rattle.bucket_move.specs.ByKey.{is_keyed}

@@ -2,11 +2,11 @@
 use Rattle.std.specs.Prelude.{ℕ, ◌≡◌, ◌<◌, ◌^◌, ◌%◌, ◌==◌, Bool, true, false, List, [], ◌∷◌, ◌++◌, length, map, slice_index, slice_index_or, slice_set}
 use Rattle.std.specs.List.{All, filter, range_with_len}
 use Rattle.tuple_edge.specs.declared.row.Row.{Row}
+use Rattle.op_spec.specs.declared.spec.OpSpec.{OpSpec}
 use Rattle.stream_ops.specs.Answers.{answers}
 use Rattle.stream_ops.specs.Entries.{entries}
 use Rattle.stream_ops.specs.Kept.{keys_after}
 use Rattle.stream_ops.specs.State.{StateView, rebuilt, unseen}
-use Rattle.stream_ops.specs.declared.spec.OpSpec.{OpSpec}
 use Rattle.plan_reader.specs.PlanView.{IsStage}
 use Rattle.plan_reader.specs.declared.stage.Stage.{Stage}
 use Rattle.bucket_move.specs.ByKey.{is_keyed}

@@ -1,10 +1,10 @@
 // The buckets of a stage: where each stands, what is kept of it, and the answers so far.
 ghost use Rattle.std.specs.Prelude.{◌≡◌, ◌<◌, ◌≤◌, ◌++◌, ◌∷◌, [], List, All, IfOk, IsOk, IsTrue, OnErr, OnOk, false, is_err, replicate, slice_set};
 ghost use Rattle.tuple_edge.specs.declared.row.Row.{Row};
+ghost use Rattle.op_spec.specs.Spec.{IsSpec};
+ghost use Rattle.op_spec.specs.Times.{IsTime};
 ghost use Rattle.stream_ops.specs.Answers.{answers};
-ghost use Rattle.stream_ops.specs.Spec.{IsSpec};
 ghost use Rattle.stream_ops.specs.State.{unseen};
-ghost use Rattle.stream_ops.specs.Times.{IsTime};
 ghost use Rattle.plan_reader.specs.PlanView.{IsPlan};
 ghost use Rattle.plan_reader.specs.declared.stage.Stage.{Stage};
 ghost use Rattle.bucket_move.specs.BucketsView.{Call, Feeds, IsAfter, Moves, fed, keys_at, opening_table, part_of, table_after};

@@ -1,11 +1,11 @@
 // One partition: what it keeps of the buckets that stand there, and its answers to the rows of a call.
 ghost use Rattle.std.specs.Prelude.{ℕ, ◌≡◌, ◌<◌, ◌+◌, ◌++◌, ◌∷◌, [], List, All, IfOk, OnOk, drop, length, replicate, slice_index_or, slice_set, true, false};
 ghost use Rattle.tuple_edge.specs.declared.row.Row.{Row};
+ghost use Rattle.op_spec.specs.Spec.{IsSpec};
+ghost use Rattle.op_spec.specs.Times.{IsTime};
+ghost use Rattle.op_spec.specs.declared.spec.OpSpec.{OpSpec};
 ghost use Rattle.stream_ops.specs.Kept.{keys_after};
-ghost use Rattle.stream_ops.specs.Spec.{IsSpec};
 ghost use Rattle.stream_ops.specs.State.{StateView, unseen};
-ghost use Rattle.stream_ops.specs.Times.{IsTime};
-ghost use Rattle.stream_ops.specs.declared.spec.OpSpec.{OpSpec};
 ghost use Rattle.plan_reader.specs.declared.stage.Stage.{Stage};
 ghost use Rattle.bucket_move.specs.BucketsView.{state_after, state_in};
 ghost use Rattle.bucket_move.specs.ByKey.{is_keyed};

@@ -3,7 +3,7 @@ ghost use Rattle.std.specs.Prelude.{ℕ, ◌≡◌, ◌<◌, ◌≤◌, ◌+◌,
 ghost use Rattle.std.specs.List.{list_any};
 ghost use Rattle.std.specs.Option.{option_to_list};
 ghost use Rattle.tuple_edge.specs.declared.row.Row.{Row};
-ghost use Rattle.stream_ops.specs.Times.{IsTime};
+ghost use Rattle.op_spec.specs.Times.{IsTime};
 ghost use Rattle.plan_reader.specs.declared.stage.Stage.{Stage};
 ghost use Rattle.bucket_move.specs.BucketsView.{AllStand, keys_at};
 ghost use Rattle.bucket_move.specs.ByKey.{is_keyed};

@@ -7,9 +7,9 @@ use Rattle.tuple_edge.specs.declared.packet.Entry.{Entry}
 use Rattle.tuple_edge.specs.declared.packet.Entry.TheVariants as entry
 use Rattle.merge_order.specs.MergeView.{MergeView, waiting_of}
 use Rattle.flux_producer.specs.ProducerView.{ProducerView, buffer_at}
+use Rattle.op_spec.specs.Times.{IsTimely}
+use Rattle.op_spec.specs.declared.spec.OpSpec.{OpSpec}
 use Rattle.stream_ops.specs.Entries.{entries}
-use Rattle.stream_ops.specs.Times.{IsTimely}
-use Rattle.stream_ops.specs.declared.spec.OpSpec.{OpSpec}
 use Rattle.state_mover.specs.MoveList.{head_entries, kept_entries, low_entry, mark_entry, move_list, used_of}
 use Rattle.tuple_edge.specs.Entries.{each_below, numbered}
 use Rattle.catch_up.specs.Rebuild.{AllNext, keyed_step}

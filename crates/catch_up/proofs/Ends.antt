@@ -5,9 +5,9 @@ use Rattle.merge_order.specs.MergeView.{MergeView}
 use Rattle.flux_consumer.specs.ConsumerView.{over}
 use Rattle.flux_producer.specs.OutEdge.{OutEdgeView}
 use Rattle.flux_producer.specs.ProducerView.{ProducerView, contents_of, over_buffers}
+use Rattle.op_spec.specs.declared.spec.OpSpec.{OpSpec}
 use Rattle.stream_ops.specs.Entries.{entries}
 use Rattle.stream_ops.specs.State.{rebuilt}
-use Rattle.stream_ops.specs.declared.spec.OpSpec.{OpSpec}
 use Rattle.state_mover.specs.MoveList.{move_list}
 use Rattle.catch_up.specs.Caught.{CatchesUp, IsWholeMove}
 use Rattle.merge_order.specs.MergeView.{mark_of}

@@ -6,10 +6,10 @@ use Rattle.tuple_edge.specs.declared.packet.Entry.{Entry}
 use Rattle.merge_order.specs.MergeView.{MergeView, mark_of}
 use Rattle.flux_consumer.specs.ConsumerView.{over}
 use Rattle.flux_producer.specs.ProducerView.{ProducerView, buffer_at, contents_of, over_buffers}
+use Rattle.op_spec.specs.Times.{IsTimely}
+use Rattle.op_spec.specs.declared.spec.OpSpec.{OpSpec}
 use Rattle.stream_ops.specs.Entries.{entries}
 use Rattle.stream_ops.specs.State.{rebuilt}
-use Rattle.stream_ops.specs.Times.{IsTimely}
-use Rattle.stream_ops.specs.declared.spec.OpSpec.{OpSpec}
 use Rattle.state_mover.specs.MoveList.{move_list}
 use Rattle.state_mover.specs.Pieces.{IsMerge}
 use Rattle.catch_up.specs.Fold.{AllRising, IsRunFrom}

@@ -4,8 +4,8 @@ use Rattle.tuple_edge.specs.declared.item.Item.{Item}
 use Rattle.tuple_edge.specs.declared.packet.Entry.{Entry}
 use Rattle.tuple_edge.specs.declared.packet.Entry.TheVariants as entry
 use Rattle.ack_buffer.specs.Buffer.{BufferView, produced_on, starting_at}
+use Rattle.op_spec.specs.declared.spec.OpSpec.{OpSpec}
 use Rattle.stream_ops.specs.State.{IsNextEntry}
-use Rattle.stream_ops.specs.declared.spec.OpSpec.{OpSpec}
 use Rattle.merge_order.specs.MergeView.{MergeView, after_offer, starting}
 
 -- ---- the merge

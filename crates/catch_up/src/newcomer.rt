@@ -6,7 +6,7 @@ ghost use Rattle.catch_up.specs.Rebuild.{AllNext, buffers_in, folded, keyed_in, 
 ghost use Rattle.flux_consumer.specs.ConsumerView.{over};
 ghost use Rattle.flux_producer.specs.Limits.{max_copies};
 ghost use Rattle.flux_producer.specs.ProducerView.{contents_of, over_buffers};
-ghost use Rattle.stream_ops.specs.Spec.{IsSpec};
+ghost use Rattle.op_spec.specs.Spec.{IsSpec};
 ghost use Rattle.stream_ops.specs.State.{rebuilt};
 ghost use Rattle.std.specs.List.{range_with_len};
 ghost use Rattle.std.specs.Map.{keys_of};

@@ -2,7 +2,7 @@
 ghost use Rattle.ack_buffer.specs.Buffer.{produced_on, starting_at};
 ghost use Rattle.catch_up.specs.Fold.{AllRising, IsRising};
 ghost use Rattle.catch_up.specs.Rebuild.{AllNext, IsNextOf, all_offered, buffer_of, buffers_in, buffers_step, count_in, count_step, folded_below, heads_step, keyed_in, keyed_step, lows_in, marks_in, marks_step, merge_in, without_spare};
-ghost use Rattle.stream_ops.specs.Spec.{IsSpec};
+ghost use Rattle.op_spec.specs.Spec.{IsSpec};
 ghost use Rattle.stream_ops.specs.State.{rebuilt};
 ghost use Rattle.std.specs.List.{range_with_len};
 ghost use Rattle.std.specs.Prelude.{◌≡◌, ◌≤◌, ◌<◌, ◌-◌, ◌++◌, ◌∷◌, ◌↔◌, [], None, IfOk, IsTrue, OnOk, fold, length, map, min, slice_index_or, slice_set};

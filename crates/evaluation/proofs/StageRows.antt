@@ -18,15 +18,15 @@ use Rattle.merge_order.specs.Merged.{Place, all_rows_at, has_mark_at, items, mar
 use Rattle.merge_order.proofs.Choices.{if_elim, nat_not, nat_self}
 use Rattle.merge_order.proofs.Forms.{items-append}
 use Rattle.merge_order.proofs.Taken.{ClearBefore, EachFrom, EdgesTake, TakesIf, mark_if, place, row_begins, rows_cons, rows_if, some_mark_at, some_mark_other, stamp_none, stamps_begin, stamps_none}
+use Rattle.op_spec.specs.Keys.{is_key, key_of}
+use Rattle.op_spec.specs.Spec.{most_rows}
+use Rattle.op_spec.specs.declared.spec.OpSpec.{OpSpec}
+use Rattle.op_spec.specs.declared.spec.OpSpec.TheVariants as op
+use Rattle.op_spec.specs.Times.{IsTimely}
 use Rattle.stream_ops.specs.Answers.{answer, answers, crossing_answer, end_answer, row_answer, rows_of, window_answer, window_row}
 use Rattle.stream_ops.specs.Joins.{is_left, join_answer}
-use Rattle.stream_ops.specs.Keys.{is_key, key_of}
 use Rattle.stream_ops.specs.Rows.{keys_among}
-use Rattle.stream_ops.specs.Spec.{most_rows}
 use Rattle.stream_ops.specs.Sums.{sums_of, sums_row}
-use Rattle.stream_ops.specs.declared.spec.OpSpec.{OpSpec}
-use Rattle.stream_ops.specs.declared.spec.OpSpec.TheVariants as op
-use Rattle.stream_ops.specs.Times.{IsTimely}
 use Rattle.stream_ops.proofs.AnswerLaws.{length-answer_row, rows_timely}
 use Rattle.stream_ops.proofs.Counts.{rows_of-append}
 use Rattle.plan_reader.specs.declared.stage.Stage.{Stage}

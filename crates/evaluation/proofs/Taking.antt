@@ -9,9 +9,9 @@ use Rattle.tuple_edge.specs.declared.item.Item.TheVariants as item
 use Rattle.tuple_edge.specs.declared.row.Row.{Row}
 use Rattle.tuple_edge.specs.Row.{route_of}
 use Rattle.merge_order.proofs.Choices.{nat_not}
+use Rattle.op_spec.specs.declared.spec.OpSpec.{OpSpec}
 use Rattle.stream_ops.specs.Answers.{IsOpen, answer, answers}
 use Rattle.stream_ops.specs.State.{StandsFor, StateView}
-use Rattle.stream_ops.specs.declared.spec.OpSpec.{OpSpec}
 use Rattle.plan_reader.specs.declared.stage.Stage.{Stage}
 use Rattle.evaluation.specs.StageRows.{HasTaken, PartsTook, alike, late_replies, part_replies, rows_to}
 

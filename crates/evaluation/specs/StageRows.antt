@@ -8,10 +8,10 @@ use Rattle.tuple_edge.specs.declared.item.Item.{Item}
 use Rattle.tuple_edge.specs.declared.item.Item.TheVariants as item
 use Rattle.tuple_edge.specs.declared.row.Row.{Row}
 use Rattle.merge_order.specs.Merged.{items, merged}
+use Rattle.op_spec.specs.Times.{IsTime}
+use Rattle.op_spec.specs.declared.spec.OpSpec.{OpSpec}
 use Rattle.stream_ops.specs.Answers.{answer, answers, rows_of}
 use Rattle.stream_ops.specs.State.{StandsFor, StateView}
-use Rattle.stream_ops.specs.Times.{IsTime}
-use Rattle.stream_ops.specs.declared.spec.OpSpec.{OpSpec}
 use Rattle.plan_reader.specs.PlanView.{PlanView}
 use Rattle.plan_reader.specs.declared.stage.Stage.{Stage}
 use Rattle.pair_machine.specs.Edges.{sent_by, stamped}

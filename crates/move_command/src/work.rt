@@ -6,7 +6,7 @@ ghost use Rattle.bucket_move.specs.Shifts.{DontFall};
 ghost use Rattle.move_command.specs.Moved.{calls_of, made};
 ghost use Rattle.move_command.specs.Within.{IsMoveOf};
 ghost use Rattle.plan_reader.specs.declared.stage.Stage.{Stage};
-ghost use Rattle.stream_ops.specs.Times.{IsTime};
+ghost use Rattle.op_spec.specs.Times.{IsTime};
 
 use bucket_move::{Buckets, Shift};
 use std::thread::Threads;

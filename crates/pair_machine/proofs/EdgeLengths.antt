@@ -16,12 +16,12 @@ use Rattle.merge_order.specs.Merged.{Place, all_rows_at, is_row_at, items, mark_
 use Rattle.merge_order.proofs.Choices.{if_elim}
 use Rattle.merge_order.proofs.Forms.{items-append, merged_edge}
 use Rattle.merge_order.proofs.Taken.{rows_cons, rows_if, some_mark_at}
+use Rattle.op_spec.specs.Limits.{max_join_rows}
+use Rattle.op_spec.specs.Spec.{most_rows}
+use Rattle.op_spec.specs.declared.spec.OpSpec.{OpSpec}
 use Rattle.stream_ops.proofs.AnswerLaws.{length-answers, most_rows-few, most_rows-plain}
-use Rattle.stream_ops.specs.Limits.{max_join_rows}
-use Rattle.stream_ops.specs.Spec.{most_rows}
 use Rattle.stream_ops.proofs.Counts.{rows_of-append}
 use Rattle.stream_ops.specs.Answers.{IsOpen, answer, answers, end_answer, rows_of}
-use Rattle.stream_ops.specs.declared.spec.OpSpec.{OpSpec}
 use Rattle.plan_reader.specs.PlanView.{IsJoinLast, IsPlan, IsStage, PlanView, is_joining}
 use Rattle.plan_reader.specs.declared.stage.Stage.{Stage}
 use Rattle.pair_machine.specs.Ingress.{last_stamp, mark_after, row_of_source, sent_by_ingress, sent_by_source, sent_from}

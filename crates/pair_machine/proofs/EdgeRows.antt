@@ -4,9 +4,9 @@ use Rattle.tuple_edge.specs.Input.{Input, from_first}
 use Rattle.tuple_edge.specs.declared.item.Item.TheVariants as item
 use Rattle.tuple_edge.specs.declared.row.Column.TheVariants as column
 use Rattle.tuple_edge.specs.declared.row.Row.{Row}
-use Rattle.stream_ops.specs.declared.spec.By.TheVariants as by
-use Rattle.stream_ops.specs.declared.spec.Compare.TheVariants as compare
-use Rattle.stream_ops.specs.declared.spec.OpSpec.TheVariants as op
+use Rattle.op_spec.specs.declared.spec.By.TheVariants as by
+use Rattle.op_spec.specs.declared.spec.Compare.TheVariants as compare
+use Rattle.op_spec.specs.declared.spec.OpSpec.TheVariants as op
 use Rattle.plan_reader.specs.PlanView.{PlanView}
 use Rattle.pair_machine.specs.Edges.{edge}
 use Rattle.pair_machine.specs.Ingress.{sent_by_ingress}

@@ -12,8 +12,8 @@ use Rattle.tuple_edge.specs.Item.{stamp_of}
 use Rattle.merge_order.specs.Edges.{AllFrom, IsEdge}
 use Rattle.merge_order.proofs.Choices.{if_elim}
 use Rattle.merge_order.proofs.Step.{weaken}
+use Rattle.op_spec.specs.declared.spec.OpSpec.{OpSpec}
 use Rattle.stream_ops.specs.Answers.{answer}
-use Rattle.stream_ops.specs.declared.spec.OpSpec.{OpSpec}
 use Rattle.plan_reader.specs.declared.stage.Stage.{Stage}
 use Rattle.pair_machine.specs.Counts.{sent_after}
 use Rattle.pair_machine.specs.Edges.{answered, edge_to, goes_to, passed, stamped}

@@ -12,8 +12,8 @@ use Rattle.merge_order.specs.Merged.{has_mark_at, items, merged}
 use Rattle.merge_order.proofs.Choices.{if_elim}
 use Rattle.merge_order.proofs.Forms.{Goes, KeepsSigns, filter_edge, filter_marks, merged_items-filter}
 use Rattle.merge_order.proofs.Step.{weaken}
+use Rattle.op_spec.specs.declared.spec.OpSpec.{OpSpec}
 use Rattle.stream_ops.specs.Answers.{answer}
-use Rattle.stream_ops.specs.declared.spec.OpSpec.{OpSpec}
 use Rattle.plan_reader.specs.PlanView.{PlanView}
 use Rattle.plan_reader.specs.declared.stage.Stage.{Stage}
 use Rattle.pair_machine.specs.Ingress.{last_stamp, mark_after, row_of_source, sent_by_source, sent_from}

@@ -11,11 +11,11 @@ use Rattle.tuple_edge.specs.Item.{stamp_of}
 use Rattle.merge_order.specs.Merged.{Place, all_rows_at, is_row_at, items, mark_at, merged, rows_at, stamp_at, stamps_upto}
 use Rattle.merge_order.proofs.Choices.{if_elim}
 use Rattle.merge_order.proofs.Taken.{place, some_mark_at}
+use Rattle.op_spec.specs.Spec.{IsSpec}
+use Rattle.op_spec.specs.Times.{IsTimely}
+use Rattle.op_spec.specs.declared.spec.OpSpec.{OpSpec}
 use Rattle.stream_ops.proofs.AnswerLaws.{IsTimelyRow, answer_timely}
 use Rattle.stream_ops.specs.Answers.{answer}
-use Rattle.stream_ops.specs.Spec.{IsSpec}
-use Rattle.stream_ops.specs.Times.{IsTimely}
-use Rattle.stream_ops.specs.declared.spec.OpSpec.{OpSpec}
 use Rattle.plan_reader.specs.PlanView.{IsPlan, IsStage, PlanView}
 use Rattle.plan_reader.specs.declared.stage.Stage.{Stage}
 use Rattle.pair_machine.specs.Ingress.{last_stamp, mark_after, row_of_source, sent_by_ingress, sent_by_source, sent_from}

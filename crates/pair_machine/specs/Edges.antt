@@ -8,9 +8,9 @@ use Rattle.tuple_edge.specs.Input.{Input}
 use Rattle.tuple_edge.specs.Item.{stamp_of}
 use Rattle.tuple_edge.specs.Row.{route_of}
 use Rattle.merge_order.specs.Merged.{Place, items, merged}
+use Rattle.op_spec.specs.Spec.{most_rows}
+use Rattle.op_spec.specs.declared.spec.OpSpec.{OpSpec}
 use Rattle.stream_ops.specs.Answers.{answer}
-use Rattle.stream_ops.specs.Spec.{most_rows}
-use Rattle.stream_ops.specs.declared.spec.OpSpec.{OpSpec}
 use Rattle.plan_reader.specs.PlanView.{PlanView}
 use Rattle.plan_reader.specs.declared.stage.Stage.{Stage}
 use Rattle.pair_machine.specs.Ingress.{last_stamp, sent_by_ingress}

@@ -3,8 +3,8 @@ use Rattle.std.specs.Prelude.{◌≡◌, ◌≤◌, ◌<◌, ◌+◌, ◌*◌, �
 use Rattle.tuple_edge.specs.Input.{Input, rows_in}
 use Rattle.merge_order.specs.Edges.{AreEdges}
 use Rattle.merge_order.specs.Merged.{has_mark_at, items, merged}
-use Rattle.stream_ops.specs.Limits.{max_join_rows}
-use Rattle.stream_ops.specs.Times.{IsTime, IsTimely}
+use Rattle.op_spec.specs.Limits.{max_join_rows}
+use Rattle.op_spec.specs.Times.{IsTime, IsTimely}
 use Rattle.plan_reader.specs.Nodes.{parts_of}
 use Rattle.plan_reader.specs.PlanView.{IsPlan, PlanView}
 use Rattle.plan_reader.specs.declared.stage.Stage.{Stage}

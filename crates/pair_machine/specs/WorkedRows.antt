@@ -15,9 +15,9 @@ use Rattle.tuple_edge.specs.declared.row.Column.TheVariants as column
 use Rattle.tuple_edge.specs.declared.row.Row.{Row}
 use Rattle.tuple_edge.specs.declared.status.Status.{Status}
 use Rattle.tuple_edge.specs.declared.status.Status.TheVariants as status
-use Rattle.stream_ops.specs.declared.spec.By.TheVariants as by
-use Rattle.stream_ops.specs.declared.spec.Compare.TheVariants as compare
-use Rattle.stream_ops.specs.declared.spec.OpSpec.TheVariants as op
+use Rattle.op_spec.specs.declared.spec.By.TheVariants as by
+use Rattle.op_spec.specs.declared.spec.Compare.TheVariants as compare
+use Rattle.op_spec.specs.declared.spec.OpSpec.TheVariants as op
 use Rattle.plan_reader.specs.PlanView.{IsPlan, PlanView}
 use Rattle.plan_reader.specs.declared.stage.Stage.{Stage}
 use Rattle.pair_machine.specs.Boundary.{source_made}

@@ -4,14 +4,14 @@ use Rattle.std.specs.Prelude.{Ok, nat_le, unsigned_abs}
 use Rattle.std.specs.Fmt.{decimal, signed_decimal}
 use Rattle.std.proofs.lemmas.Bool.Decides.{nat_tests}
 use Rattle.std.proofs.lemmas.Int.{ints}
-use Rattle.stream_ops.specs.Limits.{max_join_rows, max_last_rows, max_window_seconds}
-use Rattle.stream_ops.specs.Spec.{IsSpec}
-use Rattle.stream_ops.specs.declared.spec.By.{By}
-use Rattle.stream_ops.specs.declared.spec.By.TheVariants as by
-use Rattle.stream_ops.specs.declared.spec.Compare.{Compare}
-use Rattle.stream_ops.specs.declared.spec.Compare.TheVariants as compare
-use Rattle.stream_ops.specs.declared.spec.OpSpec.{OpSpec}
-use Rattle.stream_ops.specs.declared.spec.OpSpec.TheVariants as op
+use Rattle.op_spec.specs.Limits.{max_join_rows, max_last_rows, max_window_seconds}
+use Rattle.op_spec.specs.Spec.{IsSpec}
+use Rattle.op_spec.specs.declared.spec.By.{By}
+use Rattle.op_spec.specs.declared.spec.By.TheVariants as by
+use Rattle.op_spec.specs.declared.spec.Compare.{Compare}
+use Rattle.op_spec.specs.declared.spec.Compare.TheVariants as compare
+use Rattle.op_spec.specs.declared.spec.OpSpec.{OpSpec}
+use Rattle.op_spec.specs.declared.spec.OpSpec.TheVariants as op
 use Rattle.tuple_edge.specs.Sum.{IsWithin, big}
 use Rattle.tuple_edge.specs.declared.row.Column.{Column}
 use Rattle.tuple_edge.specs.declared.row.Column.TheVariants as column

@@ -4,10 +4,10 @@ use Rattle.std.specs.Str.{bytes_eq}
 use Rattle.tuple_edge.specs.Sum.{big}
 use Rattle.tuple_edge.specs.declared.row.Column.{Column}
 use Rattle.tuple_edge.specs.declared.row.Column.TheVariants as column
-use Rattle.stream_ops.specs.declared.spec.By.{By}
-use Rattle.stream_ops.specs.declared.spec.By.TheVariants as by
-use Rattle.stream_ops.specs.declared.spec.Compare.{Compare}
-use Rattle.stream_ops.specs.declared.spec.Compare.TheVariants as compare
+use Rattle.op_spec.specs.declared.spec.By.{By}
+use Rattle.op_spec.specs.declared.spec.By.TheVariants as by
+use Rattle.op_spec.specs.declared.spec.Compare.{Compare}
+use Rattle.op_spec.specs.declared.spec.Compare.TheVariants as compare
 use Rattle.plan_reader.specs.Lines.{Word}
 use Rattle.plan_reader.specs.Numbers.{number_of, signed_number_of}
 use Rattle.plan_reader.specs.Reading.{◌>>=◌, Read, word_or}

@@ -2,9 +2,9 @@
 use Rattle.std.specs.Prelude.{pos, List, Ok, Err, codes, unsigned_abs, if◌then◌else◌}
 use Rattle.std.specs.Str.{bytes_eq}
 use Rattle.tuple_edge.specs.Sum.{big}
-use Rattle.stream_ops.specs.Limits.{max_join_rows, max_last_rows, max_window_seconds}
-use Rattle.stream_ops.specs.declared.spec.OpSpec.{OpSpec}
-use Rattle.stream_ops.specs.declared.spec.OpSpec.TheVariants as op
+use Rattle.op_spec.specs.Limits.{max_join_rows, max_last_rows, max_window_seconds}
+use Rattle.op_spec.specs.declared.spec.OpSpec.{OpSpec}
+use Rattle.op_spec.specs.declared.spec.OpSpec.TheVariants as op
 use Rattle.plan_reader.specs.Grammar.{by_at, comparison_at, key_and_number_at, number_within}
 use Rattle.plan_reader.specs.Lines.{Word}
 use Rattle.plan_reader.specs.Reading.{◌>>=◌, Read, word_or}

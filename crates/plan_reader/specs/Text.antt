@@ -4,12 +4,12 @@ use Rattle.std.specs.List.{flat_map, join_with_byte}
 use Rattle.std.specs.Fmt.{decimal, signed_decimal}
 use Rattle.tuple_edge.specs.declared.row.Column.{Column}
 use Rattle.tuple_edge.specs.declared.row.Column.TheVariants as column
-use Rattle.stream_ops.specs.declared.spec.By.{By}
-use Rattle.stream_ops.specs.declared.spec.By.TheVariants as by
-use Rattle.stream_ops.specs.declared.spec.Compare.{Compare}
-use Rattle.stream_ops.specs.declared.spec.Compare.TheVariants as compare
-use Rattle.stream_ops.specs.declared.spec.OpSpec.{OpSpec}
-use Rattle.stream_ops.specs.declared.spec.OpSpec.TheVariants as op
+use Rattle.op_spec.specs.declared.spec.By.{By}
+use Rattle.op_spec.specs.declared.spec.By.TheVariants as by
+use Rattle.op_spec.specs.declared.spec.Compare.{Compare}
+use Rattle.op_spec.specs.declared.spec.Compare.TheVariants as compare
+use Rattle.op_spec.specs.declared.spec.OpSpec.{OpSpec}
+use Rattle.op_spec.specs.declared.spec.OpSpec.TheVariants as op
 use Rattle.plan_reader.specs.Lines.{Word}
 use Rattle.plan_reader.specs.PlanView.{PlanView}
 use Rattle.plan_reader.specs.declared.stage.Stage.{Stage}

@@ -4,7 +4,7 @@
 //! It promises that every text is read as its definition says, the value or the first fault with its
 //! line; that every plan is within the limits; that a plan's canonical text reads back as the plan;
 //! and which nodes and links a plan has. It stands on `tuple_edge` for nodes and columns, and on
-//! `stream_ops` for what an operator is told.
+//! `op_spec` for what an operator is told.
 #![tactic(auto)]
 
 mod draft;

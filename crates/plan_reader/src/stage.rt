@@ -1,5 +1,5 @@
 // A stage of a plan.
-use stream_ops::OpSpec;
+use op_spec::OpSpec;
 use tuple_edge::Column;
 
 /// A stage of a dataflow.

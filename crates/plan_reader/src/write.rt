@@ -4,11 +4,11 @@ ghost use Rattle.std.specs.List.{flat_map};
 ghost use Rattle.plan_reader.specs.Plan.{plan_of};
 ghost use Rattle.plan_reader.specs.PlanView.{IsPlan, PlanView};
 ghost use Rattle.plan_reader.specs.Text.{by_name, column_name, compare_name, line_text, op_words, plan_text, stage_lines, stage_words};
-ghost use Rattle.stream_ops.specs.declared.spec.OpSpec.TheVariants as op;
+ghost use Rattle.op_spec.specs.declared.spec.OpSpec.TheVariants as op;
 
 use crate::{Plan, Stage};
+use op_spec::{By, Compare, OpSpec};
 use std::alloc::Global;
-use stream_ops::{By, Compare, OpSpec};
 use tuple_edge::{Column, OutOfMemory};
 
 fn column_name(column: Column) -> &'static str

@@ -18,7 +18,7 @@ use Rattle.tuple_edge.specs.declared.packet.Entry.{Entry}
 use Rattle.tuple_edge.specs.declared.packet.Entry.TheVariants as entry
 use Rattle.tuple_edge.specs.Input.{Input}
 use Rattle.merge_order.specs.Edges.{item_at}
-use Rattle.stream_ops.specs.Times.{IsTimely}
+use Rattle.op_spec.specs.Times.{IsTimely}
 use Rattle.plan_reader.specs.Nodes.{has_link, parts_of, sources_of}
 use Rattle.plan_reader.specs.PlanView.{IsPlan, PlanView}
 use Rattle.plan_reader.specs.declared.stage.Stage.{Stage}

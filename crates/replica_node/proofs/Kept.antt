@@ -16,7 +16,7 @@ use Rattle.merge_order.specs.MergeView.{MergeView, after_offer, mark_of, startin
 use Rattle.flux_consumer.specs.ConsumerView.{ConsumerView, with_merge}
 use Rattle.flux_producer.specs.OutEdge.{acknowledged, over, rewound, wanted}
 use Rattle.flux_producer.specs.ProducerView.{ProducerView, acked, edge_at, leading, with_edge, without_room}
-use Rattle.stream_ops.specs.Times.{IsTimely}
+use Rattle.op_spec.specs.Times.{IsTimely}
 use Rattle.state_mover.specs.MoveList.{fixed_part}
 use Rattle.state_mover.specs.MoverView.{IsMidway, MoverView, total_of}
 use Rattle.state_mover.specs.MoverView as mover

@@ -11,11 +11,11 @@ use Rattle.merge_order.specs.MergeView.{item_of, least}
 use Rattle.merge_order.proofs.AfterNext.{after_next-marks, front_more}
 use Rattle.merge_order.proofs.Forms.{merged_edge}
 use Rattle.flux_consumer.specs.ConsumerView.{ConsumerView}
+use Rattle.op_spec.specs.Times.{IsTimely}
+use Rattle.op_spec.specs.declared.spec.OpSpec.{OpSpec}
 use Rattle.stream_ops.specs.Answers.{IsOpen, answer}
 use Rattle.stream_ops.specs.Entries.{entries}
 use Rattle.stream_ops.specs.State as state
-use Rattle.stream_ops.specs.Times.{IsTimely}
-use Rattle.stream_ops.specs.declared.spec.OpSpec.{OpSpec}
 use Rattle.plan_reader.specs.PlanView.{IsPlan, PlanView}
 use Rattle.pair_machine.specs.Consumers.{is_ready, merged_one}
 use Rattle.pair_machine.specs.CountLaws.{sent_first, sent_for}

@@ -10,9 +10,9 @@ use Rattle.merge_order.specs.Edges.{item_at}
 use Rattle.merge_order.specs.MergeView as merge
 use Rattle.flux_consumer.specs.ConsumerView.{over}
 use Rattle.flux_producer.specs.ProducerView as producer
+use Rattle.op_spec.specs.declared.spec.OpSpec.{OpSpec}
+use Rattle.op_spec.specs.declared.spec.OpSpec.TheVariants as op
 use Rattle.stream_ops.specs.Entries.{entries}
-use Rattle.stream_ops.specs.declared.spec.OpSpec.{OpSpec}
-use Rattle.stream_ops.specs.declared.spec.OpSpec.TheVariants as op
 use Rattle.plan_reader.specs.PlanView.{IsPlan, PlanView}
 use Rattle.plan_reader.specs.declared.stage.Stage.{Stage}
 use Rattle.pair_machine.specs.Consumers.{pulled}

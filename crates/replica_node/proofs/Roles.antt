@@ -7,7 +7,7 @@ use Rattle.std.proofs.lemmas.Option.{slice_get-get_or, slice_get_past, slice_get
 use Rattle.tuple_edge.specs.declared.node.EdgeId.{EdgeId}
 use Rattle.tuple_edge.specs.declared.node.Which.TheVariants.{A, B}
 use Rattle.tuple_edge.specs.Input.{Input}
-use Rattle.stream_ops.specs.Spec.{IsSpec}
+use Rattle.op_spec.specs.Spec.{IsSpec}
 use Rattle.plan_reader.specs.Nodes.{has_pair, parts_of, sources_of}
 use Rattle.plan_reader.specs.PlanView.{IsPlan, IsStage, PlanView}
 use Rattle.plan_reader.specs.declared.stage.Stage.{Stage}

@@ -15,9 +15,9 @@ use Rattle.flux_consumer.specs.ConsumerView.{over}
 use Rattle.flux_producer.specs.OutEdge.{OutEdgeView, unused}
 use Rattle.flux_producer.specs.OutEdge as edge
 use Rattle.flux_producer.specs.ProducerView.{ProducerView, buffer_at, edge_at, over_buffers}
+use Rattle.op_spec.specs.Times.{IsTimely}
+use Rattle.op_spec.specs.declared.spec.OpSpec.{OpSpec}
 use Rattle.stream_ops.specs.Entries.{entries}
-use Rattle.stream_ops.specs.Times.{IsTimely}
-use Rattle.stream_ops.specs.declared.spec.OpSpec.{OpSpec}
 use Rattle.plan_reader.specs.Nodes.{parts_of, sources_of}
 use Rattle.plan_reader.specs.PlanView.{IsPlan, PlanView}
 use Rattle.plan_reader.specs.declared.stage.Stage.{Stage}

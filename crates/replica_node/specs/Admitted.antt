@@ -10,7 +10,7 @@ use Rattle.tuple_edge.specs.declared.packet.Body.TheVariants as body
 use Rattle.tuple_edge.specs.declared.packet.Entry.{Entry}
 use Rattle.tuple_edge.specs.declared.packet.Entry.TheVariants as entry
 use Rattle.tuple_edge.specs.Limits.{number_limit}
-use Rattle.stream_ops.specs.Times.{IsTimely}
+use Rattle.op_spec.specs.Times.{IsTimely}
 use Rattle.catch_up.specs.Rebuild.{lows_in}
 use Rattle.merge_order.specs.MergeView.{all_wait, mark_of}
 use Rattle.pair_machine.specs.Numbers.{other}

@@ -7,8 +7,8 @@ use Rattle.merge_order.specs.Edges.{item_at}
 use Rattle.merge_order.specs.MergeView.{MergeView}
 use Rattle.flux_consumer.specs.ConsumerView.{over}
 use Rattle.flux_producer.specs.ProducerView.{ProducerView}
+use Rattle.op_spec.specs.declared.spec.OpSpec.{OpSpec}
 use Rattle.stream_ops.specs.Entries.{entries}
-use Rattle.stream_ops.specs.declared.spec.OpSpec.{OpSpec}
 use Rattle.plan_reader.specs.Nodes.{sources_of}
 use Rattle.plan_reader.specs.PlanView.{PlanView}
 use Rattle.pair_machine.specs.CountLaws.{IsMerging}

@@ -8,7 +8,7 @@ use Rattle.tuple_edge.specs.declared.event.Worked.TheVariants as worked
 use Rattle.tuple_edge.specs.declared.node.NodeId.{NodeId}
 use Rattle.tuple_edge.specs.declared.packet.Body.{Body}
 use Rattle.tuple_edge.specs.Input.{Input}
-use Rattle.stream_ops.specs.Times.{IsTime}
+use Rattle.op_spec.specs.Times.{IsTime}
 use Rattle.plan_reader.specs.PlanView.{PlanView}
 use Rattle.pair_machine.specs.Asked.{Asks}
 use Rattle.pair_machine.specs.Contents.{BodyStands}

@@ -5,8 +5,8 @@ use Rattle.tuple_edge.specs.declared.item.Item.{Item}
 use Rattle.tuple_edge.specs.declared.packet.Entry.{Entry}
 use Rattle.tuple_edge.specs.declared.packet.Entry.TheVariants as entry
 use Rattle.tuple_edge.specs.Limits.{edge_limit}
-use Rattle.stream_ops.specs.Spec.{IsSpec}
-use Rattle.stream_ops.specs.Times.{IsTimely}
+use Rattle.op_spec.specs.Spec.{IsSpec}
+use Rattle.op_spec.specs.Times.{IsTimely}
 use Rattle.state_mover.specs.MoverView.{IsMidway, MoverView, total_of}
 use Rattle.catch_up.specs.NewcomerView.{NewcomerView}
 use Rattle.replica_node.specs.Answering.{HasParts}

@@ -9,7 +9,7 @@ ghost use Rattle.replica_node.specs.Takers.{HasSources};
 ghost use Rattle.replica_node.specs.declared.phase.Phase.TheVariants as phase;
 ghost use Rattle.catch_up.specs.declared.newcomer.Took.{Took};
 ghost use Rattle.std.specs.Prelude.{◌≡◌, ◌<◌, ◌≤◌, ◌+◌, ◌++◌, IfOk, IfSome, IfNone, None, OnErr, OnOk, length};
-ghost use Rattle.stream_ops.specs.Spec.{IsSpec};
+ghost use Rattle.op_spec.specs.Spec.{IsSpec};
 ghost use Rattle.tuple_edge.specs.declared.node.NodeId.TheVariants as node;
 
 use crate::phase::{Phase, Running};

@@ -19,7 +19,7 @@ ghost use Rattle.replica_node.specs.declared.phase.Mode.TheVariants as mode;
 ghost use Rattle.replica_node.specs.declared.phase.Running.{Running as RunningPart};
 ghost use Rattle.std.specs.Option.{option_and_then, option_map};
 ghost use Rattle.std.specs.Prelude.{◌≡◌, ◌≢◌, ◌<◌, ◌≤◌, ◌+◌, ◌++◌, ◌↔◌, IfOk, IsTrue, List, None, OnErr, OnOk, Some, length};
-ghost use Rattle.stream_ops.specs.Times.{IsTimely};
+ghost use Rattle.op_spec.specs.Times.{IsTimely};
 ghost use Rattle.tuple_edge.specs.Input.{Input};
 ghost use Rattle.tuple_edge.specs.declared.event.Event.TheVariants as event;
 ghost use Rattle.tuple_edge.specs.declared.event.Worked.TheVariants.{Idle};

@@ -11,8 +11,8 @@ ghost use Rattle.replica_node.specs.Takers.{IsReadyToWork};
 ghost use Rattle.replica_node.specs.declared.phase.Phase.TheVariants as phase;
 ghost use Rattle.state_mover.specs.MoverView.{MoverView};
 ghost use Rattle.std.specs.Prelude.{◌≡◌, ◌<◌, ◌≤◌, ◌+◌, ◌++◌, ◌∷◌, [], IfOk, None, OnErr, OnOk, Some};
+ghost use Rattle.op_spec.specs.Times.{IsTimely};
 ghost use Rattle.stream_ops.specs.State.{most_by};
-ghost use Rattle.stream_ops.specs.Times.{IsTimely};
 ghost use Rattle.tuple_edge.specs.Limits.{edge_limit, number_limit};
 ghost use Rattle.tuple_edge.specs.declared.event.Worked.TheVariants as worked;
 

@@ -18,8 +18,8 @@ use Rattle.join_stage.specs.Store.{first_from, first_where, old_first, old_value
 use Rattle.join_stage.proofs.JoinAfter.{first_append, slot_above, slot_within}
 use Rattle.tuple_edge.specs.declared.packet.Entry.{Entry}
 use Rattle.tuple_edge.specs.declared.row.Key.{Key}
+use Rattle.op_spec.specs.Keys.{is_key, key_cmp}
 use Rattle.stream_ops.specs.Entries.{all_told, bound_after, first_slot, is_after, last_after, next_slot, slots, sums_entry, told_last, told_total, told_window}
-use Rattle.stream_ops.specs.Keys.{is_key, key_cmp}
 use Rattle.stream_ops.specs.View.{AreLast, AreRight}
 use Rattle.stream_ops.specs.declared.sums.Sums.{Sums}
 use Rattle.stream_ops.specs.declared.window.OpenWindow.{OpenWindow}

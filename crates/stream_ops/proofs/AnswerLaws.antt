@@ -14,20 +14,20 @@ use Rattle.tuple_edge.specs.declared.item.Item.{Item}
 use Rattle.tuple_edge.specs.declared.item.Item.TheVariants as item
 use Rattle.tuple_edge.specs.declared.row.Key.{Key}
 use Rattle.tuple_edge.specs.declared.row.Row.{Row}
-use Rattle.stream_ops.specs.declared.spec.By.{By}
+use Rattle.op_spec.specs.declared.spec.By.{By}
+use Rattle.op_spec.specs.Compares.{holds}
+use Rattle.op_spec.specs.Keys.{is_key, key_of}
+use Rattle.op_spec.specs.Spec.{IsSpec, is_join, most_rows}
+use Rattle.op_spec.specs.Times.{IsTime, IsTimely}
+use Rattle.op_spec.specs.declared.spec.OpSpec.{OpSpec}
+use Rattle.op_spec.specs.declared.spec.OpSpec.TheVariants as op
 use Rattle.stream_ops.specs.Answers.{IsOpen, answer, answers, end_answer, row_answer, window_answer, window_row}
-use Rattle.stream_ops.specs.Compares.{holds}
 use Rattle.stream_ops.specs.Joins.{is_left, join_answer, pair_row, rows_across}
-use Rattle.stream_ops.specs.Keys.{is_key, key_of}
 use Rattle.stream_ops.specs.Rows.{keys_among, keys_in, rows_of, rows_with, with_key}
-use Rattle.stream_ops.specs.Limits.{max_join_rows}
-use Rattle.stream_ops.specs.Spec.{IsSpec, is_join, most_rows}
+use Rattle.op_spec.specs.Limits.{max_join_rows}
 use Rattle.stream_ops.specs.Kept.{keys_after}
 use Rattle.stream_ops.specs.Sums.{crosses, sums_of, sums_row}
-use Rattle.stream_ops.specs.Times.{IsTime, IsTimely}
 use Rattle.stream_ops.specs.Windows.{level, level_from, window_of}
-use Rattle.stream_ops.specs.declared.spec.OpSpec.{OpSpec}
-use Rattle.stream_ops.specs.declared.spec.OpSpec.TheVariants as op
 use Rattle.stream_ops.proofs.Counts.{keys_in-push, rows_of-mark}
 use Rattle.stream_ops.proofs.Known.{keys-known, length-with_key}
 use Rattle.stream_ops.proofs.Levels.{max_of_less, max_of_more}

@@ -9,12 +9,12 @@ use Rattle.tuple_edge.specs.declared.item.Item.{Item}
 use Rattle.tuple_edge.specs.declared.item.Item.TheVariants as item
 use Rattle.tuple_edge.specs.declared.row.Key.{Key}
 use Rattle.tuple_edge.specs.declared.row.Row.{Row}
-use Rattle.stream_ops.specs.Keys.{is_key, key_of}
+use Rattle.op_spec.specs.Keys.{is_key, key_of}
+use Rattle.op_spec.specs.declared.spec.By.{By}
+use Rattle.op_spec.specs.Keys.{key_cmp}
 use Rattle.stream_ops.specs.Rows.{keys_among, keys_in, rows_of, rows_with, with_key}
 use Rattle.stream_ops.specs.Kept.{Keeps}
-use Rattle.stream_ops.specs.declared.spec.By.{By}
 use Rattle.std.specs.BTreeMap.{insert_entry}
-use Rattle.stream_ops.specs.Keys.{key_cmp}
 use Rattle.stream_ops.proofs.Keyed.{keys-insert, lookup-insert, same_key}
 
 pub rows_of-append : (xs ys : List Item) → rows_of (xs ++ ys) ≡ rows_of xs ++ rows_of ys

@@ -6,9 +6,9 @@ use Rattle.std.specs.declared.cmp.Ordering.{Ordering}
 use Rattle.std.specs.declared.cmp.Ordering.TheVariants.{Less, Equal, Greater}
 use Rattle.tuple_edge.specs.declared.row.Key.{Key}
 use Rattle.tuple_edge.specs.declared.row.Row.{Row}
-use Rattle.stream_ops.specs.Keys.{is_key, key_of, key_cmp}
+use Rattle.op_spec.specs.Keys.{is_key, key_of, key_cmp}
+use Rattle.op_spec.specs.declared.spec.By.{By}
 use Rattle.stream_ops.specs.Rows.{keys_among, with_key}
-use Rattle.stream_ops.specs.declared.spec.By.{By}
 use Rattle.stream_ops.proofs.Keyed.{key_cmp_total, same_key}
 
 -- a walk along keys, past those below it, comes to this one

@@ -20,19 +20,19 @@ use Rattle.tuple_edge.specs.declared.packet.Entry.{Entry}
 use Rattle.tuple_edge.specs.declared.packet.Entry.TheVariants as entry
 use Rattle.tuple_edge.specs.declared.row.Key.{Key}
 use Rattle.tuple_edge.specs.declared.row.Row.{Row}
+use Rattle.op_spec.specs.Keys.{is_key, key_cmp}
+use Rattle.op_spec.specs.Times.{IsTime, IsTimely}
+use Rattle.op_spec.specs.declared.spec.By.{By}
+use Rattle.op_spec.specs.declared.spec.OpSpec.{OpSpec}
+use Rattle.op_spec.specs.declared.spec.OpSpec.TheVariants as op
 use Rattle.stream_ops.specs.Entries.{all_told, entries, key_entries, side_slots, slots, sums_entry, told_last, told_total, told_window}
 use Rattle.stream_ops.specs.Joins.{by_key, is_left, join_key, left_rows, right_rows, side_entry, side_row, sided_row, sides_of_rows, told_side, told_sides}
 use Rattle.stream_ops.specs.Kept.{Keeps, last_of_rows, open_window, total_of_rows, window_of_rows}
-use Rattle.stream_ops.specs.Keys.{is_key, key_cmp}
 use Rattle.stream_ops.specs.Rows.{keys_in, rows_with}
 use Rattle.stream_ops.specs.Steps.{last_added, last_with, opened_by, total_with, window_with}
 use Rattle.stream_ops.specs.Sums.{amounts, sums_of}
-use Rattle.stream_ops.specs.Times.{IsTime, IsTimely}
 use Rattle.stream_ops.specs.View.{AreLast, AreRight, IsAnySums, IsWindow}
 use Rattle.stream_ops.specs.Windows.{level}
-use Rattle.stream_ops.specs.declared.spec.By.{By}
-use Rattle.stream_ops.specs.declared.spec.OpSpec.{OpSpec}
-use Rattle.stream_ops.specs.declared.spec.OpSpec.TheVariants as op
 use Rattle.stream_ops.specs.declared.sums.Sums.{Sums}
 use Rattle.stream_ops.specs.declared.window.OpenWindow.{OpenWindow}
 use Rattle.stream_ops.proofs.AnswerLaws.{level_timely, with_timely}

@@ -12,8 +12,8 @@ use Rattle.join_stage.specs.Store.{IsSorted}
 use Rattle.tuple_edge.specs.declared.packet.Entry.{Entry}
 use Rattle.tuple_edge.specs.declared.packet.Entry.TheVariants as entry
 use Rattle.tuple_edge.specs.declared.row.Key.{Key}
+use Rattle.op_spec.specs.Keys.{is_key, key_cmp}
 use Rattle.stream_ops.specs.Entries.{all_told}
-use Rattle.stream_ops.specs.Keys.{is_key, key_cmp}
 use Rattle.stream_ops.specs.View.{AreRight}
 use Rattle.stream_ops.proofs.Keyed.{key_cmp_total, same_key, self_key}
 use Rattle.stream_ops.proofs.Told.{AllOf, BeginsApart, Tells, begins, begins_apart_by, below_apart, has_key, later_apart, one_key, run_splits}

@@ -17,9 +17,9 @@ use Rattle.join_stage.proofs.JoinAfter.{slot_above}
 use Rattle.tuple_edge.specs.declared.packet.Entry.{Entry}
 use Rattle.tuple_edge.specs.declared.packet.Entry.TheVariants as entry
 use Rattle.tuple_edge.specs.declared.row.Key.{Key}
+use Rattle.op_spec.specs.Keys.{key_cmp}
 use Rattle.stream_ops.specs.Entries.{AllAfter, AreRising, IsKeyed, all_told, is_after, last_place, place_of, slots, told_last, told_total, told_window}
 use Rattle.stream_ops.specs.Joins.{keyed, told_side, told_sides}
-use Rattle.stream_ops.specs.Keys.{key_cmp}
 use Rattle.stream_ops.specs.View.{AreLast, AreRight, IsAnySums, IsSound, IsWindow, old_of}
 use Rattle.stream_ops.specs.declared.operator.Operator.{Operator}
 use Rattle.stream_ops.specs.declared.operator.Operator.TheVariants as operator

@@ -20,9 +20,9 @@ use Rattle.tuple_edge.specs.declared.packet.Entry.{Entry}
 use Rattle.tuple_edge.specs.declared.packet.Entry.TheVariants as entry
 use Rattle.tuple_edge.specs.declared.row.Key.{Key}
 use Rattle.tuple_edge.specs.declared.row.Row.{Row}
+use Rattle.op_spec.specs.Keys.{is_key, key_cmp}
 use Rattle.stream_ops.specs.Entries.{all_told, is_after, side_slots}
 use Rattle.stream_ops.specs.Joins.{by_key, entry_of_kept, join_answer, join_key, key_of_join, left_rows, pair_row, right_rows, row_of_pair, rows_across, side_row, sided_row, sides_of_rows, told_side, told_sides}
-use Rattle.stream_ops.specs.Keys.{is_key, key_cmp}
 use Rattle.stream_ops.specs.Windows.{window_of}
 use Rattle.join_stage.proofs.LastSides.{other_last, sides_of-push}
 use Rattle.stream_ops.proofs.Keyed.{self_key}

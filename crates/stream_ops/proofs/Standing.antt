@@ -26,21 +26,21 @@ use Rattle.tuple_edge.specs.declared.packet.Entry.TheVariants as entry
 use Rattle.tuple_edge.specs.declared.row.Column.{Column}
 use Rattle.tuple_edge.specs.declared.row.Key.{Key}
 use Rattle.tuple_edge.specs.declared.row.Row.{Row}
+use Rattle.op_spec.specs.Keys.{is_key, key_cmp, key_of}
+use Rattle.op_spec.specs.Spec.{IsSpec}
+use Rattle.op_spec.specs.declared.spec.By.{By}
+use Rattle.op_spec.specs.declared.spec.Compare.{Compare}
+use Rattle.op_spec.specs.declared.spec.OpSpec.TheVariants as op
 use Rattle.stream_ops.specs.Entries.{all_told, entries, slots, sums_entry, told_last, told_total, told_window}
 use Rattle.stream_ops.specs.Joins.{by_key, is_left, join_key, keyed, side_row, sided_row, sides_of_rows, told_sides}
 use Rattle.stream_ops.specs.Kept.{Keeps, last_of_rows, open_window, total_of_rows, window_of_rows}
-use Rattle.stream_ops.specs.Keys.{is_key, key_cmp, key_of}
 use Rattle.stream_ops.specs.Rows.{keys_in, rows_of, rows_with}
 use Rattle.stream_ops.specs.Steps.{last_added, last_with, no_sums, opened_by, total_with, window_late, window_with}
-use Rattle.stream_ops.specs.Spec.{IsSpec}
 use Rattle.stream_ops.specs.Sums.{amounts, sums_of}
 use Rattle.stream_ops.specs.State.{StandsFor, StateView}
 use Rattle.stream_ops.specs.View.{AreLast, AreRight, IsAnySums, IsRight, IsSound, IsWindow, KeepsOf, entries_of, seen, spec_of}
 use Rattle.stream_ops.specs.declared.operator.Operator.{Operator}
 use Rattle.stream_ops.specs.declared.operator.Operator.TheVariants as operator
-use Rattle.stream_ops.specs.declared.spec.By.{By}
-use Rattle.stream_ops.specs.declared.spec.Compare.{Compare}
-use Rattle.stream_ops.specs.declared.spec.OpSpec.TheVariants as op
 use Rattle.stream_ops.specs.declared.sums.Sums.{Sums}
 use Rattle.stream_ops.specs.declared.window.OpenWindow.{OpenWindow}
 use Rattle.stream_ops.proofs.Counts.{Keeps-insert, Keeps-same, rows_of-end, rows_of-mark}

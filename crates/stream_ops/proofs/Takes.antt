@@ -13,17 +13,17 @@ use Rattle.join_stage.specs.Join.{other_side, pairs_with}
 use Rattle.join_stage.specs.declared.rows.JoinKey.{JoinKey}
 use Rattle.join_stage.specs.declared.rows.Sides.{Sides}
 use Rattle.tuple_edge.specs.declared.row.Column.{Column}
-use Rattle.stream_ops.specs.declared.spec.Compare.{Compare}
+use Rattle.op_spec.specs.declared.spec.Compare.{Compare}
+use Rattle.op_spec.specs.Keys.{is_key, key_cmp, key_of}
+use Rattle.op_spec.specs.declared.spec.By.{By}
+use Rattle.op_spec.specs.declared.spec.OpSpec.TheVariants as op
 use Rattle.stream_ops.specs.Joins.{by_key, is_left, join_key, row_of_pair, side_row, sides_of_rows}
 use Rattle.stream_ops.proofs.Sided.{join_answers, lookup-by_key}
 use Rattle.stream_ops.specs.Answers.{crossing_answer, end_answer, row_answer, window_row}
-use Rattle.stream_ops.specs.Keys.{is_key, key_cmp, key_of}
 use Rattle.stream_ops.specs.Rows.{rows_with}
 use Rattle.stream_ops.specs.Kept.{Keeps, last_of_rows, open_window, total_of_rows, window_of_rows}
 use Rattle.stream_ops.specs.Steps.{closed_by, last_with, no_sums, opened_by, sums_last, told_crossing, told_closed, told_window_row, total_with}
 use Rattle.stream_ops.specs.Sums.{sums_of, sums_row, sums_with}
-use Rattle.stream_ops.specs.declared.spec.By.{By}
-use Rattle.stream_ops.specs.declared.spec.OpSpec.TheVariants as op
 use Rattle.stream_ops.specs.declared.sums.Sums.{Sums}
 use Rattle.stream_ops.specs.declared.window.OpenWindow.{OpenWindow}
 use Rattle.std.specs.BTreeMap.{insert_entry, is_at}

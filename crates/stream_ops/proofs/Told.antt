@@ -10,8 +10,8 @@ use Rattle.std.specs.declared.cmp.Ordering.TheVariants.{Less}
 use Rattle.tuple_edge.specs.declared.packet.Entry.{Entry}
 use Rattle.tuple_edge.specs.declared.packet.Entry.TheVariants as entry
 use Rattle.tuple_edge.specs.declared.row.Key.{Key}
+use Rattle.op_spec.specs.Keys.{is_key, key_cmp}
 use Rattle.stream_ops.specs.Entries.{all_told}
-use Rattle.stream_ops.specs.Keys.{is_key, key_cmp}
 use Rattle.stream_ops.specs.View.{AreRight}
 use Rattle.stream_ops.proofs.Keyed.{same_key}
 

@@ -6,12 +6,12 @@ use Rattle.tuple_edge.specs.declared.packet.Entry.TheVariants as entry
 use Rattle.tuple_edge.specs.declared.row.Column.TheVariants as column
 use Rattle.tuple_edge.specs.declared.row.Key.{Key}
 use Rattle.tuple_edge.specs.declared.row.Row.{Row}
+use Rattle.op_spec.specs.declared.spec.By.TheVariants as by
+use Rattle.op_spec.specs.declared.spec.Compare.TheVariants as compare
+use Rattle.op_spec.specs.declared.spec.OpSpec.{OpSpec}
+use Rattle.op_spec.specs.declared.spec.OpSpec.TheVariants as op
 use Rattle.stream_ops.specs.Answers.{answers}
 use Rattle.stream_ops.specs.Entries.{entries}
-use Rattle.stream_ops.specs.declared.spec.By.TheVariants as by
-use Rattle.stream_ops.specs.declared.spec.Compare.TheVariants as compare
-use Rattle.stream_ops.specs.declared.spec.OpSpec.{OpSpec}
-use Rattle.stream_ops.specs.declared.spec.OpSpec.TheVariants as op
 
 abbrev row : ℕ → ℕ → ℕ → ℤ → ℤ → Row
 row time account symbol qty value = record { time = pos time; account = pos account; symbol = pos symbol; qty = qty; value = value }

@@ -6,15 +6,15 @@ use Rattle.tuple_edge.specs.declared.item.Item.{Item}
 use Rattle.tuple_edge.specs.declared.item.Item.TheVariants as item
 use Rattle.tuple_edge.specs.declared.row.Key.{Key}
 use Rattle.tuple_edge.specs.declared.row.Row.{Row}
-use Rattle.stream_ops.specs.Compares.{holds}
+use Rattle.op_spec.specs.Compares.{holds}
+use Rattle.op_spec.specs.Keys.{key_of}
+use Rattle.op_spec.specs.declared.spec.OpSpec.{OpSpec}
+use Rattle.op_spec.specs.declared.spec.OpSpec.TheVariants as op
 use Rattle.stream_ops.specs.Joins.{is_left, join_answer}
-use Rattle.stream_ops.specs.Keys.{key_of}
 pub use Rattle.stream_ops.specs.Rows.{rows_of}
 use Rattle.stream_ops.specs.Rows.{keys_in, rows_with}
 use Rattle.stream_ops.specs.Sums.{crosses, sums_of, sums_row}
 use Rattle.stream_ops.specs.Windows.{level, rows_at}
-use Rattle.stream_ops.specs.declared.spec.OpSpec.{OpSpec}
-use Rattle.stream_ops.specs.declared.spec.OpSpec.TheVariants as op
 
 -- the row that tells of a key's open window: its start, and the sums of the rows of the last level
 abbrev pub window_row : ℤ → Key → List Row → Row

@@ -12,15 +12,15 @@ use Rattle.tuple_edge.specs.declared.packet.Entry.{Entry}
 use Rattle.tuple_edge.specs.declared.packet.Entry.TheVariants as entry
 use Rattle.tuple_edge.specs.declared.row.Key.{Key}
 use Rattle.tuple_edge.specs.declared.row.Row.{Row}
+use Rattle.op_spec.specs.Keys.{key_cmp}
+use Rattle.op_spec.specs.declared.spec.OpSpec.{OpSpec}
+use Rattle.op_spec.specs.declared.spec.OpSpec.TheVariants as op
 use Rattle.stream_ops.specs.Joins.{is_left, left_rows, right_rows}
-use Rattle.stream_ops.specs.Keys.{key_cmp}
 use Rattle.stream_ops.specs.Limits.{first_right_slot}
 use Rattle.stream_ops.specs.Rows.{rows_with}
 use Rattle.stream_ops.specs.Kept.{keys_after, open_window}
 use Rattle.stream_ops.specs.Sums.{amounts, sums_of}
 use Rattle.stream_ops.specs.Windows.{window_of}
-use Rattle.stream_ops.specs.declared.spec.OpSpec.{OpSpec}
-use Rattle.stream_ops.specs.declared.spec.OpSpec.TheVariants as op
 use Rattle.stream_ops.specs.declared.sums.Sums.{Sums}
 use Rattle.stream_ops.specs.declared.window.OpenWindow.{OpenWindow}
 

@@ -17,11 +17,11 @@ use Rattle.tuple_edge.specs.declared.packet.Entry.TheVariants as entry
 use Rattle.tuple_edge.specs.declared.row.Column.{Column}
 use Rattle.tuple_edge.specs.declared.row.Key.{Key}
 use Rattle.tuple_edge.specs.declared.row.Row.{Row}
-use Rattle.stream_ops.specs.Compares.{holds}
+use Rattle.op_spec.specs.Compares.{holds}
+use Rattle.op_spec.specs.declared.spec.Compare.{Compare}
 use Rattle.stream_ops.specs.Limits.{first_right_slot}
 use Rattle.stream_ops.specs.Sums.{amounts, sums_row, sums_with}
 use Rattle.stream_ops.specs.Windows.{window_of}
-use Rattle.stream_ops.specs.declared.spec.Compare.{Compare}
 use Rattle.stream_ops.specs.declared.sums.Sums.{Sums}
 
 -- a row is left where its column compares so with the limit, and right where it does not

@@ -6,8 +6,8 @@ use Rattle.tuple_edge.specs.declared.item.Item.{Item}
 use Rattle.tuple_edge.specs.declared.item.Item.TheVariants as item
 use Rattle.tuple_edge.specs.declared.row.Key.{Key}
 use Rattle.tuple_edge.specs.declared.row.Row.{Row}
-use Rattle.stream_ops.specs.Keys.{key_of, key_cmp, is_key}
-use Rattle.stream_ops.specs.declared.spec.By.{By}
+use Rattle.op_spec.specs.Keys.{key_of, key_cmp, is_key}
+use Rattle.op_spec.specs.declared.spec.By.{By}
 
 -- the rows among items, in order
 abbrev pub rows_of : List Item → List Row

@@ -4,11 +4,11 @@ use Rattle.std.specs.List.{All}
 use Rattle.tuple_edge.specs.declared.item.Item.{Item}
 use Rattle.tuple_edge.specs.declared.item.Item.TheVariants as item
 use Rattle.tuple_edge.specs.declared.packet.Entry.{Entry}
+use Rattle.op_spec.specs.Spec.{most_rows}
+use Rattle.op_spec.specs.Times.{IsTimely}
+use Rattle.op_spec.specs.declared.spec.OpSpec.{OpSpec}
 use Rattle.stream_ops.specs.Entries.{entries}
 use Rattle.stream_ops.specs.Kept.{keys_after}
-use Rattle.stream_ops.specs.Spec.{most_rows}
-use Rattle.stream_ops.specs.Times.{IsTimely}
-use Rattle.stream_ops.specs.declared.spec.OpSpec.{OpSpec}
 
 -- an operator's settings, what it keeps as entries, and, while it is watched, its entries when the watch began
 pub record StateView : Type 0 where

@@ -9,14 +9,14 @@ use Rattle.join_stage.specs.Store.{IsSorted, StoreView}
 use Rattle.tuple_edge.specs.declared.item.Item.{Item}
 use Rattle.tuple_edge.specs.declared.packet.Entry.{Entry}
 use Rattle.tuple_edge.specs.declared.row.Key.{Key}
+use Rattle.op_spec.specs.Keys.{key_cmp}
+use Rattle.op_spec.specs.Spec.{IsSpec}
+use Rattle.op_spec.specs.declared.spec.OpSpec.{OpSpec}
+use Rattle.op_spec.specs.declared.spec.OpSpec.TheVariants as op
 use Rattle.stream_ops.specs.Entries.{all_told, told_last, told_total, told_window}
 use Rattle.stream_ops.specs.Joins.{is_left, keyed, sides_of_rows, told_sides}
 use Rattle.stream_ops.specs.Kept.{Keeps, last_of_rows, total_of_rows, window_of_rows}
-use Rattle.stream_ops.specs.Keys.{key_cmp}
-use Rattle.stream_ops.specs.Spec.{IsSpec}
 use Rattle.stream_ops.specs.State.{StateView}
-use Rattle.stream_ops.specs.declared.spec.OpSpec.{OpSpec}
-use Rattle.stream_ops.specs.declared.spec.OpSpec.TheVariants as op
 use Rattle.stream_ops.specs.declared.operator.Operator.{Operator}
 use Rattle.stream_ops.specs.declared.operator.Operator.TheVariants as operator
 use Rattle.stream_ops.specs.declared.sums.Sums.{Sums}

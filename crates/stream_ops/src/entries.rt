@@ -3,8 +3,8 @@
 ghost use Rattle.std.specs.Option.{option_and_then, option_map};
 ghost use Rattle.std.specs.Prelude.{◌≡◌, ◌+◌, ◌++◌, ◌<◌, ◌^◌, pos, IfSome, OnOk, length};
 ghost use Rattle.join_stage.specs.Store.{old_first, old_value};
+ghost use Rattle.op_spec.specs.Keys.{key_cmp};
 ghost use Rattle.stream_ops.specs.Entries.{all_told, bound_after, first_slot, last_after, next_slot, same_key_after, slots, sums_entry, told_last, told_total, told_window};
-ghost use Rattle.stream_ops.specs.Keys.{key_cmp};
 
 use crate::{OpenWindow, Sums};
 use circular_buffer::HeapCircularBuffer;

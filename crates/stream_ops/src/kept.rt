@@ -5,13 +5,13 @@ ghost use Rattle.std.specs.BTreeMap.{insert_entry};
 ghost use Rattle.std.specs.List.{All};
 ghost use Rattle.std.specs.Map.{lookup};
 ghost use Rattle.std.specs.Prelude.{◌≡◌, ◌≤◌, ◌≤ℤ◌, ◌++◌, ◌∷◌, [], pos, ◌+◌, IfOk, OnErr, OnOk, Some, if◌then◌else◌, length, map, fold, unwrap_or, vec_capacity, vec_len};
+ghost use Rattle.op_spec.specs.Keys.{is_key, key_cmp};
+ghost use Rattle.op_spec.specs.Times.{IsTime};
 ghost use Rattle.stream_ops.specs.Entries.{all_told, told_last};
-ghost use Rattle.stream_ops.specs.Keys.{is_key, key_cmp};
 ghost use Rattle.stream_ops.specs.Steps.{closed_by, has_room, last_added, no_sums, opened_by, sums_last, told_closed, told_crossing, told_window_row, total_with, window_with};
 ghost use Rattle.stream_ops.specs.Sums.{sums_with};
-ghost use Rattle.stream_ops.specs.Times.{IsTime};
 ghost use Rattle.stream_ops.specs.View.{AreLast, IsRight};
-ghost use Rattle.stream_ops.specs.Limits.{max_window_seconds};
+ghost use Rattle.op_spec.specs.Limits.{max_window_seconds};
 
 use crate::{OpenWindow, Sums};
 use circular_buffer::HeapCircularBuffer;

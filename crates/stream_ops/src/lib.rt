@@ -2,12 +2,13 @@
 //!
 //! An operator is told what to do by an [`OpSpec`], and an [`OpState`] keeps what its answers need.
 //! What it answers is defined on the list of the items before, never on that state: each step
-//! appends exactly the answer, in the order of the items. It stands on tuple_edge, on
-//! circular_buffer for the last rows of a key, and on join_stage for what is kept by key.
+//! appends exactly the answer, in the order of the items. It stands on tuple_edge, on op_spec for
+//! what an operator is told, on circular_buffer for the last rows of a key, and on join_stage for
+//! what is kept by key.
 //!
-//! An operator is added in these places. Its settings: [`OpSpec`], and their limits in specs/Spec.
-//! What it answers, on the rows before: specs/Answers; what it keeps of a key, as entries:
-//! specs/Entries. The code: a variant of `Operator` with a store by key, a line in each `match`
+//! An operator is added in these places. Its settings: [`OpSpec`], and their limits in specs/Spec,
+//! both of op_spec. What it answers, on the rows before: specs/Answers; what it keeps of a key, as
+//! entries: specs/Entries. The code: a variant of `Operator` with a store by key, a line in each `match`
 //! there, and how it takes a row in src/taking. The link between them: a line for it in each
 //! definition of specs/View, a lemma on what is kept with one row more, and a case in
 //! proofs/Standing, PutBack, After and Rising. `OpState` stays as it is.
@@ -21,13 +22,12 @@ mod entries;
 mod joined;
 mod kept;
 mod operator;
-mod spec;
 mod state;
 mod sums;
 mod taking;
 mod window;
 
-pub use spec::{
+pub use op_spec::{
     By, Compare, MAX_JOIN_ROWS, MAX_LAST_ROWS, MAX_TIME_SECONDS, MAX_WINDOW_SECONDS, OpSpec,
     is_timely,
 };

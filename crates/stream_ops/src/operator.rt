@@ -1,13 +1,13 @@
 // An operator's settings, with what it keeps for each key.
 ghost use Rattle.std.specs.Prelude.{ℕ, ◌≡◌, ◌≤◌, ◌+◌, ◌∷◌, ◌++◌, [], List, Some, None, OnErr, OnOk, length};
+ghost use Rattle.op_spec.specs.Spec.{IsSpec, most_rows};
+ghost use Rattle.op_spec.specs.Times.{IsTime};
 ghost use Rattle.stream_ops.specs.Answers.{end_answer, row_answer};
 ghost use Rattle.join_stage.specs.Store.{first_where};
 ghost use Rattle.std.specs.Option.{option_and_then};
 ghost use Rattle.stream_ops.specs.Entries.{is_after};
 ghost use Rattle.stream_ops.specs.Kept.{keys_after};
-ghost use Rattle.stream_ops.specs.Spec.{IsSpec, most_rows};
 ghost use Rattle.stream_ops.specs.State.{IsNextEntry};
-ghost use Rattle.stream_ops.specs.Times.{IsTime};
 ghost use Rattle.stream_ops.specs.View.{IsSound, KeepsOf, entries_of, old_of, spec_of};
 ghost use Rattle.tuple_edge.specs.declared.item.Item.TheVariants as item;
 ghost use Rattle.tuple_edge.specs.declared.item.Item.{Item};

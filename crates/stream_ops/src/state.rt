@@ -1,13 +1,13 @@
 // An operator, with what it keeps of the items that it was given.
 ghost use Rattle.std.specs.Prelude.{ℕ, IfSome, slice_get, ◌≡◌, ◌≤◌, ◌+◌, ◌∷◌, ◌++◌, [], List, Some, None, IfOk, OnErr, OnOk, length};
+ghost use Rattle.op_spec.specs.Spec.{IsSpec};
+ghost use Rattle.op_spec.specs.Times.{IsTimely};
 ghost use Rattle.stream_ops.specs.Answers.{IsOpen, answer};
 ghost use Rattle.join_stage.specs.Store.{first_where};
 ghost use Rattle.std.specs.Option.{option_and_then};
 ghost use Rattle.stream_ops.specs.Entries.{IsKeyed, entries, is_after, last_place};
 ghost use Rattle.tuple_edge.specs.declared.packet.Entry.{Entry};
-ghost use Rattle.stream_ops.specs.Spec.{IsSpec};
 ghost use Rattle.stream_ops.specs.State.{IsNextEntry, StandsFor, most_after, most_by, rebuilt, unseen};
-ghost use Rattle.stream_ops.specs.Times.{IsTimely};
 ghost use Rattle.tuple_edge.specs.declared.item.Item.{Item};
 
 use crate::OpSpec;

@@ -4,13 +4,13 @@ ghost use Rattle.join_stage.specs.Store.{changed};
 ghost use Rattle.std.specs.BTreeMap.{insert_entry};
 ghost use Rattle.std.specs.Map.{lookup};
 ghost use Rattle.std.specs.Prelude.{◌≡◌, ◌≤◌, ◌≤ℤ◌, ◌+◌, ◌++◌, ◌∷◌, [], pos, if◌then◌else◌, OnErr, OnOk, length, unwrap_or};
-ghost use Rattle.stream_ops.specs.Compares.{holds};
+ghost use Rattle.op_spec.specs.Compares.{holds};
+ghost use Rattle.op_spec.specs.Keys.{is_key, key_cmp};
+ghost use Rattle.op_spec.specs.Times.{IsTime};
 ghost use Rattle.stream_ops.specs.Entries.{all_told, told_last};
-ghost use Rattle.stream_ops.specs.Keys.{is_key, key_cmp};
-ghost use Rattle.stream_ops.specs.Limits.{max_window_seconds};
+ghost use Rattle.op_spec.specs.Limits.{max_window_seconds};
 ghost use Rattle.stream_ops.specs.Steps.{closed_by, last_with, no_sums, opened_by, sums_last, told_closed, told_crossing, total_with, window_with};
 ghost use Rattle.stream_ops.specs.Sums.{sums_row};
-ghost use Rattle.stream_ops.specs.Times.{IsTime};
 ghost use Rattle.stream_ops.specs.View.{AreLast, IsAnySums, IsRight, IsWindow};
 ghost use Rattle.tuple_edge.specs.Row.{column_of};
 

@@ -33,10 +33,10 @@ fn start_of(number: i64, width: i64) -> i64
 }
 
 impl OpenWindow {
+    ghost use Rattle.op_spec.specs.Times.{IsTime};
     ghost use Rattle.stream_ops.specs.Steps.{closed_by, opened_by, told_window_row, window_with};
     ghost use Rattle.stream_ops.specs.Sums.{amounts, sums_with};
-    ghost use Rattle.stream_ops.specs.Times.{IsTime};
-    ghost use Rattle.stream_ops.specs.Limits.{max_window_seconds};
+    ghost use Rattle.op_spec.specs.Limits.{max_window_seconds};
 
     // The window that a row opens.
     pub(crate) fn at(width: i64, row: &Row) -> OpenWindow

@@ -3,7 +3,7 @@ use Rattle.std.specs.Prelude.{All, OnOk}
 use Rattle.std.proofs.lemmas.List.{drop_all, drop_more}
 use Rattle.std.proofs.lemmas.List.Elements.{All-drop}
 use Rattle.tuple_edge.specs.declared.row.Row.{Row}
-use Rattle.stream_ops.specs.Times.{IsTime}
+use Rattle.op_spec.specs.Times.{IsTime}
 use Rattle.bucket_move.specs.BucketsView.{BucketsView, Feeds}
 use Rattle.bucket_move.specs.Shifts.{DontFall}
 use Rattle.bucket_move.specs.declared.moves.Shift.{Shift}

@@ -1,7 +1,7 @@
 use Rattle.std.proofs.Common.{◌≡◌, ◌+◌, false, [], drop, length}
 use Rattle.std.specs.Prelude.{All}
 use Rattle.plan_reader.specs.declared.stage.Stage.{Stage}
-use Rattle.stream_ops.specs.Times.{IsTime}
+use Rattle.op_spec.specs.Times.{IsTime}
 use Rattle.bucket_move.specs.BucketsView.{IsAfter}
 use Rattle.bucket_move.specs.Shifts.{DontFall}
 use Rattle.move_command.specs.Moved.{calls_of, made}

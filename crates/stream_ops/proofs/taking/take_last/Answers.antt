@@ -1,5 +1,5 @@
 use Rattle.std.specs.Map.{lookup}
-use Rattle.stream_ops.specs.Keys.{is_key}
+use Rattle.op_spec.specs.Keys.{is_key}
 use Rattle.stream_ops.specs.Steps.{last_added}
 use Rattle.stream_ops.specs.View.{AreLast}
 use Rattle.stream_ops.proofs.Standing.{last_right, right-changed, right-found}

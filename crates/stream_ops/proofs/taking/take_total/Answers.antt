@@ -1,5 +1,5 @@
 use Rattle.std.specs.Map.{lookup}
-use Rattle.stream_ops.specs.Keys.{is_key}
+use Rattle.op_spec.specs.Keys.{is_key}
 use Rattle.stream_ops.specs.Steps.{total_with}
 use Rattle.stream_ops.specs.View.{IsAnySums}
 use Rattle.stream_ops.proofs.Standing.{right-changed}

@@ -1,7 +1,7 @@
 use Rattle.std.proofs.Common.{arith, ◌≡◌, to_z, of_z, w64}
 use Rattle.std.proofs.lemmas.Int.{ints}
 use Rattle.std.specs.Map.{lookup}
-use Rattle.stream_ops.specs.Keys.{is_key}
+use Rattle.op_spec.specs.Keys.{is_key}
 use Rattle.stream_ops.specs.Steps.{opened_by, window_with}
 use Rattle.stream_ops.specs.View.{IsWindow}
 use Rattle.stream_ops.proofs.Standing.{right-changed, right-found, window_right}

@@ -1,11 +1,11 @@
 use Rattle.std.proofs.Common.{◌≡◌, ℤ, to_z, of_z, w64, sym, subst, arith}
 use Rattle.std.proofs.lemmas.Int.{ints}
 use Rattle.join_stage.specs.Join.{JoinView}
-use Rattle.stream_ops.specs.Spec.{IsSpec}
+use Rattle.op_spec.specs.Spec.{IsSpec}
+use Rattle.op_spec.specs.declared.spec.OpSpec.{OpSpec}
+use Rattle.op_spec.specs.declared.spec.OpSpec.TheVariants as op
 use Rattle.stream_ops.specs.View.{IsSound}
 use Rattle.stream_ops.specs.declared.operator.Operator.TheVariants as operator
-use Rattle.stream_ops.specs.declared.spec.OpSpec.{OpSpec}
-use Rattle.stream_ops.specs.declared.spec.OpSpec.TheVariants as op
 use Rattle.stream_ops.proofs.Standing.{joined_none}
 use Rattle.stream_ops.proofs.operator.Operator.new.Goals as goal
 

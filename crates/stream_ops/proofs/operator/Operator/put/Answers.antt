@@ -8,10 +8,10 @@ use Rattle.join_stage.specs.Store.{StoreView}
 use Rattle.tuple_edge.specs.declared.packet.Entry.{Entry}
 use Rattle.tuple_edge.specs.declared.packet.Entry.TheVariants as entry
 use Rattle.tuple_edge.specs.declared.row.Key.{Key}
+use Rattle.op_spec.specs.Keys.{is_key, key_cmp}
+use Rattle.op_spec.specs.Spec.{IsSpec}
 use Rattle.stream_ops.specs.Entries.{all_told, told_last, told_total, told_window}
 use Rattle.stream_ops.specs.Joins.{is_left, join_key}
-use Rattle.stream_ops.specs.Keys.{is_key, key_cmp}
-use Rattle.stream_ops.specs.Spec.{IsSpec}
 use Rattle.stream_ops.specs.State.{IsNextEntry}
 use Rattle.stream_ops.specs.Steps.{last_added}
 use Rattle.stream_ops.specs.View.{AreLast, IsSound, IsWindow, entries_of, spec_of}

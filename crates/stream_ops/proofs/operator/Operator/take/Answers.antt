@@ -8,11 +8,11 @@ use Rattle.join_stage.specs.Join.{JoinView}
 use Rattle.join_stage.specs.Store.{StoreView}
 use Rattle.tuple_edge.specs.declared.row.Key.{Key}
 use Rattle.tuple_edge.specs.declared.row.Row.{Row}
+use Rattle.op_spec.specs.Keys.{is_key}
+use Rattle.op_spec.specs.Spec.{IsSpec}
 use Rattle.stream_ops.specs.Answers.{row_answer}
 use Rattle.stream_ops.specs.Joins.{is_left}
-use Rattle.stream_ops.specs.Keys.{is_key}
 use Rattle.stream_ops.specs.Kept.{Keeps, last_of_rows, total_of_rows, window_of_rows}
-use Rattle.stream_ops.specs.Spec.{IsSpec}
 use Rattle.stream_ops.specs.Steps.{closed_by, last_with, no_sums, opened_by, sums_last, total_with, window_with}
 use Rattle.stream_ops.specs.View.{IsSound, KeepsOf, spec_of}
 use Rattle.stream_ops.specs.declared.operator.Operator.{Operator}

@@ -1,8 +1,8 @@
 use Rattle.std.proofs.Common.{◌≤◌, ◌∙◌, length, ap, sym, subst, ℕ}
 use Rattle.tuple_edge.specs.declared.item.Item.TheVariants as item
+use Rattle.op_spec.specs.Spec.{most_rows}
 use Rattle.stream_ops.specs.Answers.{answer}
 use Rattle.stream_ops.specs.Kept.{keys_after}
-use Rattle.stream_ops.specs.Spec.{most_rows}
 use Rattle.stream_ops.specs.State.{StateView}
 use Rattle.stream_ops.proofs.AnswerLaws.{length-answer_end, length-answer_row}
 use Rattle.stream_ops.proofs.Standing.{keeps_now}

@@ -2,7 +2,7 @@
 use Rattle.std.specs.Prelude.{ℤ, pos, ◌≤ℤ◌}
 use Rattle.tuple_edge.specs.declared.item.Item.{Item}
 use Rattle.tuple_edge.specs.declared.item.Item.TheVariants as item
-use Rattle.stream_ops.specs.Limits.{max_time_seconds}
+use Rattle.op_spec.specs.Limits.{max_time_seconds}
 
 -- a time within its limits
 abbrev pub IsTime : ℤ → Type 0

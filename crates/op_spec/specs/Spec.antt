@@ -1,8 +1,8 @@
 -- The settings of an operator.
 use Rattle.std.specs.Prelude.{ℕ, pos, ◌≤◌, ◌≤ℤ◌, Bool, true, false}
-use Rattle.stream_ops.specs.Limits.{max_join_rows, max_last_rows, max_window_seconds}
-use Rattle.stream_ops.specs.declared.spec.OpSpec.{OpSpec}
-use Rattle.stream_ops.specs.declared.spec.OpSpec.TheVariants as op
+use Rattle.op_spec.specs.Limits.{max_join_rows, max_last_rows, max_window_seconds}
+use Rattle.op_spec.specs.declared.spec.OpSpec.{OpSpec}
+use Rattle.op_spec.specs.declared.spec.OpSpec.TheVariants as op
 
 -- the settings of an operator are within their limits
 abbrev pub IsSpec : OpSpec → Type 0

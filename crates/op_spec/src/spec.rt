@@ -1,12 +1,14 @@
 // What an operator is told to do.
 ghost use Rattle.std.specs.Prelude.{◌≡◌, ◌↔◌, IsTrue};
-ghost use Rattle.stream_ops.specs.Compares.{holds};
-ghost use Rattle.stream_ops.specs.Keys.{key_of};
-ghost use Rattle.stream_ops.specs.Spec.{is_join, most_rows};
-ghost use Rattle.stream_ops.specs.Times.{IsTimely};
+ghost use Rattle.op_spec.specs.Compares.{holds};
+ghost use Rattle.op_spec.specs.Keys.{key_of};
+ghost use Rattle.op_spec.specs.Spec.{is_join, most_rows};
+ghost use Rattle.op_spec.specs.Times.{IsTimely};
 
-pub use join_stage::MAX_JOIN_ROWS;
 use tuple_edge::{Column, Item, Key, Row};
+
+/// The greatest number of rows that a join keeps of each side of a key. Those that keep them have room for so many.
+pub const MAX_JOIN_ROWS: u32 = 4;
 
 /// The greatest number of rows that a `last` keeps for a key.
 pub const MAX_LAST_ROWS: u32 = 64;

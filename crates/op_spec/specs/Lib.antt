@@ -1,0 +1,5 @@
+pub mod Compares
+pub mod Keys
+pub mod Limits
+pub mod Spec
+pub mod Times
