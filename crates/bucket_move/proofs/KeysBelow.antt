@@ -9,7 +9,7 @@ use Rattle.std.proofs.lemmas.Bool.Decides.{nat_tests}
 use Rattle.tuple_edge.specs.Row.{column_of}
 use Rattle.tuple_edge.specs.declared.row.Column.{Column}
 use Rattle.tuple_edge.specs.declared.row.Row.{Row}
-use Rattle.plan_reader.proofs.LineFacts.{both_true}
+use Rattle.text_words.proofs.LineFacts.{both_true}
 use Rattle.plan_reader.specs.declared.stage.Stage.{Stage}
 use Rattle.bucket_move.specs.BucketsView.{keys_at, part_of}
 use Rattle.bucket_move.specs.ByKey.{is_keyed}

@@ -10,7 +10,7 @@ use Rattle.std.proofs.lemmas.List.FromFn.{length-map-range_with_len}
 use Rattle.op_spec.specs.declared.spec.OpSpec.{OpSpec}
 use Rattle.op_spec.specs.declared.spec.OpSpec.TheVariants as op
 use Rattle.stream_ops.specs.State.{StateView, unseen}
-use Rattle.plan_reader.proofs.LineFacts.{both_true}
+use Rattle.text_words.proofs.LineFacts.{both_true}
 use Rattle.plan_reader.specs.PlanView.{IsPlan, IsStage, PlanView}
 use Rattle.plan_reader.specs.declared.stage.Stage.{Stage}
 use Rattle.bucket_move.specs.BucketsView.{BucketsView, IsAfter, IsRight, opening_table, part_of, state_after, state_at, state_in, table_after}

@@ -2,10 +2,10 @@
 use Rattle.std.specs.Prelude.{ℕ, Bool, false, ◌&&◌, ◌%◌, ◌==◌, nat_le, nat_lt, List, [], ◌∷◌, Ok, Err, codes, if◌then◌else◌}
 use Rattle.std.specs.Option.{ok_or}
 use Rattle.std.specs.Str.{bytes_eq}
-use Rattle.plan_reader.specs.Lines.{Word}
-use Rattle.plan_reader.specs.Numbers.{number_of}
+use Rattle.text_words.specs.Lines.{Word}
+use Rattle.text_words.specs.Numbers.{number_of}
+use Rattle.text_words.specs.Reading.{◌>>=◌, Read, end_or, fixed_or, word_or}
 use Rattle.plan_reader.specs.PlanView.{PlanView}
-use Rattle.plan_reader.specs.Reading.{◌>>=◌, Read, end_or, fixed_or, word_or}
 use Rattle.plan_reader.specs.declared.stage.Stage.{Stage}
 use Rattle.bucket_move.specs.Limits.{buckets, max_stamp}
 use Rattle.bucket_move.specs.declared.error.Fault.{Fault}

@@ -1,6 +1,6 @@
 -- What is said of refused moves.
 use Rattle.std.specs.Prelude.{ℕ, List, codes}
-use Rattle.plan_reader.specs.Messages.{at_line}
+use Rattle.text_words.specs.Messages.{at_line}
 use Rattle.bucket_move.specs.declared.error.Fault.{Fault}
 use Rattle.bucket_move.specs.declared.error.Fault.TheVariants as fault
 use Rattle.bucket_move.specs.declared.error.MovesError.{MovesError}

@@ -1,8 +1,8 @@
 -- The moves that a text says.
 use Rattle.std.specs.Prelude.{ℕ, ◌≡◌, nat_le, nat_lt, List, [], ◌∷◌, ◌++◌, length, Result, Ok, Err, if◌then◌else◌}
-use Rattle.plan_reader.specs.Lines.{LineView, Word, counting_lines}
+use Rattle.text_words.specs.Lines.{LineView, Word, counting_lines}
+use Rattle.text_words.specs.Reading.{◌>>=◌, Read, at_line}
 use Rattle.plan_reader.specs.PlanView.{PlanView}
-use Rattle.plan_reader.specs.Reading.{◌>>=◌, Read, at_line}
 use Rattle.bucket_move.specs.Grammar.{is_opening, shift_at}
 use Rattle.bucket_move.specs.Limits.{max_moves_bytes}
 use Rattle.bucket_move.specs.Messages.{fault_at}

@@ -1,14 +1,15 @@
 // How moves are read.
 ghost use Rattle.std.specs.Prelude.{◌≤◌, All, IfOk};
-ghost use Rattle.plan_reader.specs.Reading.{Reads, Takes};
+ghost use Rattle.text_words.specs.Reading.{Reads, Takes};
 ghost use Rattle.bucket_move.specs.Moves.{Gives, body_of, moves_of, moves_of_lines, next_shift, shifts_after, with_line};
 ghost use Rattle.bucket_move.specs.Shifts.{DontFall, IsShiftOf, last_at};
 
 use crate::error::Fault;
 use crate::words::{is_opening, shift};
 use crate::{Moves, MovesError, Shift};
-use plan_reader::{Line, Lines, Plan, Words};
+use plan_reader::Plan;
 use std::alloc::Global;
+use text_words::{Line, Lines, Words};
 
 /// The greatest length of the text of moves, in bytes.
 pub const MAX_MOVES_BYTES: u64 = 65_536;

@@ -1,13 +1,14 @@
 // The readers of a line's words: each takes words from the front, and gives a value or the first fault.
 ghost use Rattle.std.specs.Prelude.{◌≡◌, ◌<◌, ◌≤◌, ◌%◌, IfOk};
-ghost use Rattle.plan_reader.specs.Reading.{Takes};
+ghost use Rattle.text_words.specs.Reading.{Takes};
 ghost use Rattle.bucket_move.specs.Grammar.{is_mark, is_opening, mark_at, number_at, number_below, parts_of, shift_at};
 ghost use Rattle.bucket_move.specs.Shifts.{IsShiftOf};
 
 use crate::BUCKETS;
 use crate::error::Fault;
 use crate::moves::Shift;
-use plan_reader::{Plan, Words, is_word, number_of};
+use plan_reader::Plan;
+use text_words::{Words, is_word, number_of};
 
 /// The greatest stamp after which a bucket moves.
 pub const MAX_STAMP: u64 = 1_000_000;

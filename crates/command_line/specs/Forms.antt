@@ -1,7 +1,7 @@
 -- The commands, and the forms of their words.
 use Rattle.std.specs.Prelude.{ℕ, ◌&&◌, nat_le, not, Bool, List, [], ◌∷◌, codes, length, Option, Some, None, option_and_then, option_map, is_some, if◌then◌else◌}
 use Rattle.std.specs.Str.{bytes_eq}
-use Rattle.plan_reader.specs.Numbers.{number_of}
+use Rattle.text_words.specs.Numbers.{number_of}
 use Rattle.command_line.specs.Words.{Kept, Text, given, kept_as}
 
 -- what `run` and `trial` are told by their options

@@ -3,7 +3,7 @@ ghost use Rattle.std.specs.Prelude.{◌≡◌, ◌≤◌, IfSome};
 ghost use Rattle.command_line.specs.Forms.{number_or, number_within};
 ghost use Rattle.command_line.specs.Views.{text_in};
 
-use plan_reader::number_of;
+use text_words::number_of;
 
 /// The most digits of a number.
 const MAX_DIGITS: usize = 10;

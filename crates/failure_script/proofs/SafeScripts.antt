@@ -9,7 +9,7 @@ use Rattle.tuple_edge.specs.declared.node.NodeId.{NodeId}
 use Rattle.tuple_edge.specs.declared.node.NodeId.TheVariants as node
 use Rattle.pair_machine.specs.Scripts.{AreOfOnePair, IsSafe}
 use Rattle.pair_machine.specs.declared.order.Order.{Order}
-use Rattle.plan_reader.proofs.LineFacts.{both_true}
+use Rattle.text_words.proofs.LineFacts.{both_true}
 use Rattle.failure_script.specs.Orders.{are_of_one_pair, are_safe, are_unsafe}
 
 -- ---- nodes of one pair

@@ -4,11 +4,11 @@ use Rattle.std.specs.Option.{ok_or}
 use Rattle.std.specs.Str.{bytes_eq}
 use Rattle.tuple_edge.specs.declared.node.NodeId.{NodeId}
 use Rattle.pair_machine.specs.declared.order.Order.{Order}
-use Rattle.plan_reader.specs.Lines.{Word}
+use Rattle.text_words.specs.Lines.{Word}
+use Rattle.text_words.specs.Numbers.{number_of}
+use Rattle.text_words.specs.Reading.{◌>>=◌, Read, end_or, fixed_or, word_or}
 use Rattle.plan_reader.specs.Nodes.{has_node}
-use Rattle.plan_reader.specs.Numbers.{number_of}
 use Rattle.plan_reader.specs.PlanView.{PlanView}
-use Rattle.plan_reader.specs.Reading.{◌>>=◌, Read, end_or, fixed_or, word_or}
 use Rattle.failure_script.specs.Limits.{max_items}
 use Rattle.failure_script.specs.Names.{replica_named}
 use Rattle.failure_script.specs.declared.error.Fault.{Fault}

@@ -1,6 +1,6 @@
 -- What is said of a refused script.
 use Rattle.std.specs.Prelude.{ℕ, List, codes}
-use Rattle.plan_reader.specs.Messages.{at_line}
+use Rattle.text_words.specs.Messages.{at_line}
 use Rattle.failure_script.specs.declared.error.Fault.{Fault}
 use Rattle.failure_script.specs.declared.error.Fault.TheVariants as fault
 use Rattle.failure_script.specs.declared.error.ScriptError.{ScriptError}

@@ -1,7 +1,7 @@
 -- The name of a replica.
 use Rattle.std.specs.Prelude.{Option, Some, None, if◌then◌else◌}
 use Rattle.tuple_edge.specs.declared.node.NodeId.{NodeId}
-use Rattle.plan_reader.specs.Lines.{Word}
+use Rattle.text_words.specs.Lines.{Word}
 use Rattle.plan_reader.specs.Names.{◌>>=◌, node_named}
 use Rattle.plan_reader.specs.Nodes.{is_replica}
 

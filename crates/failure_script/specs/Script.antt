@@ -1,9 +1,9 @@
 -- The script that a text says.
 use Rattle.std.specs.Prelude.{ℕ, ◌≡◌, nat_lt, List, [], ◌∷◌, ◌++◌, length, Result, Ok, Err, if◌then◌else◌}
 use Rattle.std.specs.List.{list_any}
-use Rattle.plan_reader.specs.Lines.{LineView, Word, counting_lines}
+use Rattle.text_words.specs.Lines.{LineView, Word, counting_lines}
+use Rattle.text_words.specs.Reading.{◌>>=◌, Read, at_line}
 use Rattle.plan_reader.specs.PlanView.{PlanView}
-use Rattle.plan_reader.specs.Reading.{◌>>=◌, Read, at_line}
 use Rattle.pair_machine.specs.declared.order.Order.{Order}
 use Rattle.failure_script.specs.Grammar.{order_at}
 use Rattle.failure_script.specs.Limits.{max_script_bytes}

@@ -3,8 +3,9 @@
 //!
 //! It promises that every text is read as its definition says, the orders or the first fault with its line;
 //! that `is_safe` is true exactly where the script is safe in the pair machine's sense, so that no pair is
-//! ever lost; and what is due at a node after so many items. It stands on `plan_reader` for lines, words,
-//! number words and the plan's nodes, and on `pair_machine` for what an order and a safe script are.
+//! ever lost; and what is due at a node after so many items. It stands on `text_words` for lines, words and
+//! number words, on `plan_reader` for the plan's nodes, and on `pair_machine` for what an order and a safe
+//! script are.
 #![tactic(auto)]
 
 mod error;

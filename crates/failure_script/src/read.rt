@@ -1,6 +1,6 @@
 // How a script is read.
 ghost use Rattle.std.specs.Prelude.{All, IfOk};
-ghost use Rattle.plan_reader.specs.Reading.{Takes};
+ghost use Rattle.text_words.specs.Reading.{Takes};
 ghost use Rattle.failure_script.specs.Orders.{IsOrderOf};
 ghost use Rattle.failure_script.specs.Script.{Gives, next_order, orders_after, script_of, with_line};
 
@@ -8,8 +8,9 @@ use crate::error::Fault;
 use crate::words::order;
 use crate::{Script, ScriptError};
 use pair_machine::Order;
-use plan_reader::{Line, Lines, Plan, Words};
+use plan_reader::Plan;
 use std::alloc::Global;
+use text_words::{Line, Lines, Words};
 
 /// The greatest length of a script's text, in bytes.
 pub const MAX_SCRIPT_BYTES: u64 = 65_536;

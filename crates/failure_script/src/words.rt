@@ -1,14 +1,15 @@
 // The readers of a line's words: each takes words from the front, and gives a value or the first fault.
 ghost use Rattle.std.specs.Prelude.{◌≡◌, true, IfOk, IfSome};
+ghost use Rattle.text_words.specs.Reading.{Takes};
 ghost use Rattle.plan_reader.specs.Nodes.{has_node, is_replica};
-ghost use Rattle.plan_reader.specs.Reading.{Takes};
 ghost use Rattle.failure_script.specs.Grammar.{back_at, is_kill, items_at, items_of, kill_at, order_at, replica_at};
 ghost use Rattle.failure_script.specs.Orders.{IsItems, IsOrderOf};
 
 use crate::error::Fault;
 use crate::names::replica_named;
 use pair_machine::Order;
-use plan_reader::{Plan, Words, is_word, number_of};
+use plan_reader::Plan;
+use text_words::{Words, is_word, number_of};
 use tuple_edge::NodeId;
 
 // The most items after which an order is due.

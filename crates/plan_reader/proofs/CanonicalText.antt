@@ -6,10 +6,11 @@ use Rattle.std.specs.List.{list_any}
 use Rattle.std.proofs.lemmas.Bool.Decides.{nat_tests}
 use Rattle.std.proofs.lemmas.List.Elements.{All-head, All-tail}
 use Rattle.tuple_edge.specs.declared.row.Column.{Column}
-use Rattle.plan_reader.specs.Lines.{Word, counting_lines}
+use Rattle.text_words.specs.Lines.{Word, counting_lines}
+use Rattle.text_words.specs.Reading.{fixed_or}
+use Rattle.text_words.proofs.Spelling.{counting_spelled, length_text, spelled}
 use Rattle.plan_reader.specs.Plan.{Said, body_of, hold_at, mark_at, next_stage_at, plan_of, plan_of_lines, plan_said, routing_at, said_in, setting_at, stage_at, stage_number_at, stages_in, statement_at, statements_of, version_at, whole}
 use Rattle.plan_reader.specs.PlanView.{IsJoinLast, IsPlan, IsStage, PlanView, edges, is_joining}
-use Rattle.plan_reader.specs.Reading.{fixed_or}
 use Rattle.plan_reader.specs.Text.{column_name, op_words, plan_lines, plan_text, stage_lines, stage_words}
 use Rattle.plan_reader.specs.Limits.{edges_per_mark, max_hold, max_mark, max_parts, max_plan_bytes, max_stages, max_version, min_hold}
 use Rattle.plan_reader.specs.declared.stage.Stage.{Stage}
@@ -18,7 +19,6 @@ use Rattle.plan_reader.specs.declared.statement.Statement.TheVariants as says
 use Rattle.plan_reader.proofs.Joins.{none_before}
 use Rattle.plan_reader.proofs.PlainText.{plan_plain}
 use Rattle.plan_reader.proofs.ReadBack.{column_back, number_back, number_within_back, op_back}
-use Rattle.plan_reader.proofs.Spelling.{counting_spelled, length_text, spelled}
 
 -- ---- lines
 

@@ -4,8 +4,8 @@ use Rattle.std.specs.Prelude.{Some, None, fold, if◌then◌else◌}
 use Rattle.std.specs.Char.{is_ascii_digit}
 use Rattle.std.specs.List.{list_all}
 use Rattle.std.proofs.lemmas.Str.Parse.{IsNumeralModel, digits_value_short, numerals_by_fold}
-use Rattle.plan_reader.proofs.LineFacts.{both_true}
-use Rattle.plan_reader.specs.Numbers.{digits_value, is_number, number_of}
+use Rattle.text_words.proofs.LineFacts.{both_true}
+use Rattle.text_words.specs.Numbers.{digits_value, is_number, number_of}
 
 -- the words of this crate for digits and their value
 numerals : IsNumeralModel (λ ds. list_all is_ascii_digit ds ≡ true) digits_value

@@ -17,13 +17,13 @@ use Rattle.op_spec.specs.declared.spec.OpSpec.TheVariants as op
 use Rattle.tuple_edge.specs.Sum.{IsWithin}
 use Rattle.tuple_edge.specs.declared.row.Column.{Column}
 use Rattle.tuple_edge.specs.declared.row.Column.TheVariants as column
-use Rattle.plan_reader.specs.Lines.{Word, counts}
+use Rattle.text_words.specs.Lines.{Word, counts}
+use Rattle.text_words.proofs.LineFacts.{both_true}
+use Rattle.text_words.proofs.NumberWords.{decimal_digits, decimal_few, decimal_some}
+use Rattle.text_words.proofs.Spelling.{ArePlainLines, ArePlainWords, IsPlainLine, IsPlainWord, is_plain}
 use Rattle.plan_reader.specs.PlanView.{IsLimit, IsPlan, IsStage, PlanView}
 use Rattle.plan_reader.specs.Text.{by_name, column_name, compare_name, op_words, plan_lines, stage_lines, stage_words}
 use Rattle.plan_reader.specs.declared.stage.Stage.{Stage}
-use Rattle.plan_reader.proofs.LineFacts.{both_true}
-use Rattle.plan_reader.proofs.NumberWords.{decimal_digits, decimal_few, decimal_some}
-use Rattle.plan_reader.proofs.Spelling.{ArePlainLines, ArePlainWords, IsPlainLine, IsPlainWord, is_plain}
 
 plain_digit : (b : ℕ) → is_ascii_digit b ≡ true → is_plain b ≡ true
 plain_digit b digit = grind (arith, nat_tests)

@@ -15,12 +15,12 @@ use Rattle.op_spec.specs.declared.spec.OpSpec.TheVariants as op
 use Rattle.tuple_edge.specs.Sum.{IsWithin, big}
 use Rattle.tuple_edge.specs.declared.row.Column.{Column}
 use Rattle.tuple_edge.specs.declared.row.Column.TheVariants as column
+use Rattle.text_words.specs.Lines.{Word}
+use Rattle.text_words.proofs.NumberWords.{number_of_decimal, signed_number_of_decimal}
 use Rattle.plan_reader.specs.Grammar.{by_at, column_at, compare_at, comparison_at, key_and_number_at, limit_at, number_at, number_within}
-use Rattle.plan_reader.specs.Lines.{Word}
 use Rattle.plan_reader.specs.Operators.{crossing_at, join_at, keep_at, last_at, op_at, total_at, window_at}
 use Rattle.plan_reader.specs.PlanView.{IsLimit}
 use Rattle.plan_reader.specs.Text.{by_name, column_name, compare_name, op_words}
-use Rattle.plan_reader.proofs.NumberWords.{number_of_decimal, signed_number_of_decimal}
 
 -- ---- words
 

@@ -2,11 +2,11 @@
 use Rattle.std.proofs.Common.{ℕ, ◌≡◌, ◌≤◌, false, nat_lt, length, arith, List, [], ◌∷◌, ◌++◌, refl, ap, ◌∙◌, sym}
 use Rattle.std.specs.Prelude.{Result, Ok, Err}
 use Rattle.std.proofs.lemmas.Bool.Decides.{nat_tests}
+use Rattle.text_words.specs.Lines.{LineView, counting_lines}
+use Rattle.text_words.specs.Reading.{◌>>=◌, at_line}
 use Rattle.plan_reader.specs.Draft.{drafted_plan, nothing_said, said_after, said_with, said_with_line}
-use Rattle.plan_reader.specs.Lines.{LineView, counting_lines}
 use Rattle.plan_reader.specs.Messages.{fault_at}
 use Rattle.plan_reader.specs.Plan.{Said, body_of, hold_in, mark_in, plan_of, plan_of_lines, plan_said, said_in, stages_in, statement_at, statements_of, whole}
-use Rattle.plan_reader.specs.Reading.{◌>>=◌, at_line}
 use Rattle.plan_reader.specs.declared.error.PlanError.{PlanError}
 use Rattle.plan_reader.specs.Limits.{max_plan_bytes}
 use Rattle.plan_reader.specs.declared.statement.Statement.{Statement}

@@ -1,11 +1,11 @@
 -- What lines have said so far, line by line: the way in which a reader keeps the statements of a plan.
 use Rattle.std.specs.Prelude.{ℕ, false, ◌≡◌, ◌≤◌, ◌<◌, List, [], ◌∷◌, ◌++◌, length, All, Option, Some, None, IfSome, Result, Ok}
 use Rattle.std.specs.List.{list_any}
-use Rattle.plan_reader.specs.Lines.{LineView}
+use Rattle.text_words.specs.Lines.{LineView}
+use Rattle.text_words.specs.Reading.{◌>>=◌, at_line}
 use Rattle.plan_reader.specs.Messages.{fault_at}
 use Rattle.plan_reader.specs.Plan.{Said, body_of, plan_said, statement_at, whole}
 use Rattle.plan_reader.specs.PlanView.{IsJoinLast, IsStage, PlanView, is_joining}
-use Rattle.plan_reader.specs.Reading.{◌>>=◌, at_line}
 use Rattle.plan_reader.specs.declared.error.PlanError.{PlanError}
 use Rattle.plan_reader.specs.Limits.{max_hold, max_mark, max_stages, min_hold}
 use Rattle.plan_reader.specs.declared.statement.Statement.{Statement}

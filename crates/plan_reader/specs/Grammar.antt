@@ -8,9 +8,9 @@ use Rattle.op_spec.specs.declared.spec.By.{By}
 use Rattle.op_spec.specs.declared.spec.By.TheVariants as by
 use Rattle.op_spec.specs.declared.spec.Compare.{Compare}
 use Rattle.op_spec.specs.declared.spec.Compare.TheVariants as compare
-use Rattle.plan_reader.specs.Lines.{Word}
-use Rattle.plan_reader.specs.Numbers.{number_of, signed_number_of}
-use Rattle.plan_reader.specs.Reading.{◌>>=◌, Read, word_or}
+use Rattle.text_words.specs.Lines.{Word}
+use Rattle.text_words.specs.Numbers.{number_of, signed_number_of}
+use Rattle.text_words.specs.Reading.{◌>>=◌, Read, word_or}
 use Rattle.plan_reader.specs.declared.error.Fault.{Fault}
 use Rattle.plan_reader.specs.declared.error.Fault.TheVariants as fault
 

@@ -1,12 +1,8 @@
--- The limits of a plan's text, of numbers and names, of its stages and of its settings. What is counted in them is at least 1, but for `hold`.
+-- The limits of a plan's text, of names, of its stages and of its settings. What is counted in them is at least 1, but for `hold`.
 use Rattle.std.specs.Prelude.{ℕ}
 
 abbrev pub max_plan_bytes : ℕ
 max_plan_bytes = 65536
-
--- so many digits never wrap in 64 bits
-abbrev pub max_number_digits : ℕ
-max_number_digits = 19
 
 -- digits of a stage and of a partition in a node's name
 abbrev pub max_name_digits : ℕ

@@ -1,6 +1,7 @@
 -- What is said of a refused plan.
 use Rattle.std.specs.Prelude.{ℕ, List, ◌++◌, codes}
 use Rattle.std.specs.Fmt.{decimal}
+use Rattle.text_words.specs.Messages.{at_line}
 use Rattle.plan_reader.specs.declared.error.Fault.{Fault}
 use Rattle.plan_reader.specs.declared.error.Fault.TheVariants as fault
 use Rattle.plan_reader.specs.declared.error.PlanError.{PlanError}
@@ -14,10 +15,6 @@ fault_at line fault.Number = error.Number line
 fault_at line fault.Range = error.Range line
 fault_at line fault.TooMany = error.TooMany line
 fault_at line fault.JoinNotLast = error.JoinNotLast line
-
--- the line's number and what is wrong there
-abbrev pub at_line : ℕ → List ℕ → List ℕ
-at_line line text = codes "line " ++ (decimal line ++ (codes ": " ++ text))
 
 abbrev pub plan_fault : PlanError → List ℕ
 plan_fault (error.Grammar line) = at_line line (codes "grammar")

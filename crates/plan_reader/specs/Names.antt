@@ -5,9 +5,9 @@ use Rattle.std.specs.Str.{bytes_eq}
 use Rattle.tuple_edge.specs.declared.node.NodeId.{NodeId}
 use Rattle.tuple_edge.specs.declared.node.NodeId.TheVariants as node
 use Rattle.tuple_edge.specs.declared.node.Which.TheVariants as which
+use Rattle.text_words.specs.Lines.{Word}
+use Rattle.text_words.specs.Numbers.{number_of}
 use Rattle.plan_reader.specs.Limits.{max_name_digits}
-use Rattle.plan_reader.specs.Lines.{Word}
-use Rattle.plan_reader.specs.Numbers.{number_of}
 
 infixl 10 ◌>>=◌
 -- what follows from a value, if there is one

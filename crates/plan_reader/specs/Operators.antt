@@ -5,9 +5,9 @@ use Rattle.tuple_edge.specs.Sum.{big}
 use Rattle.op_spec.specs.Limits.{max_join_rows, max_last_rows, max_window_seconds}
 use Rattle.op_spec.specs.declared.spec.OpSpec.{OpSpec}
 use Rattle.op_spec.specs.declared.spec.OpSpec.TheVariants as op
+use Rattle.text_words.specs.Lines.{Word}
+use Rattle.text_words.specs.Reading.{◌>>=◌, Read, word_or}
 use Rattle.plan_reader.specs.Grammar.{by_at, comparison_at, key_and_number_at, number_within}
-use Rattle.plan_reader.specs.Lines.{Word}
-use Rattle.plan_reader.specs.Reading.{◌>>=◌, Read, word_or}
 use Rattle.plan_reader.specs.declared.error.Fault.{Fault}
 use Rattle.plan_reader.specs.declared.error.Fault.TheVariants as fault
 

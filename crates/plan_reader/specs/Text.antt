@@ -1,6 +1,6 @@
 -- The canonical text of a plan.
-use Rattle.std.specs.Prelude.{ℕ, ◌+◌, List, [], ◌∷◌, ◌++◌, codes}
-use Rattle.std.specs.List.{flat_map, join_with_byte}
+use Rattle.std.specs.Prelude.{ℕ, ◌+◌, List, [], ◌∷◌, codes}
+use Rattle.std.specs.List.{flat_map}
 use Rattle.std.specs.Fmt.{decimal, signed_decimal}
 use Rattle.tuple_edge.specs.declared.row.Column.{Column}
 use Rattle.tuple_edge.specs.declared.row.Column.TheVariants as column
@@ -10,13 +10,10 @@ use Rattle.op_spec.specs.declared.spec.Compare.{Compare}
 use Rattle.op_spec.specs.declared.spec.Compare.TheVariants as compare
 use Rattle.op_spec.specs.declared.spec.OpSpec.{OpSpec}
 use Rattle.op_spec.specs.declared.spec.OpSpec.TheVariants as op
-use Rattle.plan_reader.specs.Lines.{Word}
+use Rattle.text_words.specs.Lines.{Word}
+use Rattle.text_words.specs.Text.{line_text}
 use Rattle.plan_reader.specs.PlanView.{PlanView}
 use Rattle.plan_reader.specs.declared.stage.Stage.{Stage}
-
--- a line: its words with single spaces between them, and LF
-abbrev pub line_text : List Word → List ℕ
-line_text words = join_with_byte 32 words ++ codes "\n"
 
 -- ---- words
 

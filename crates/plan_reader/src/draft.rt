@@ -1,9 +1,10 @@
 // What the lines of a plan have said so far.
 ghost use Rattle.std.specs.Prelude.{◌≡◌, ◌∷◌, ◌≤◌, [], length, All, IfOk, OnOk};
+ghost use Rattle.text_words.specs.Reading.{Takes};
 ghost use Rattle.plan_reader.specs.Plan.{hold_at, mark_at, next_stage_at, plan_said, statement_at, whole};
 ghost use Rattle.plan_reader.specs.PlanView.{IsPlan, IsStage, edges};
 ghost use Rattle.plan_reader.specs.Draft.{MayFollow, nothing_said, said_with, said_with_line};
-ghost use Rattle.plan_reader.specs.Reading.{Gives, Takes};
+ghost use Rattle.plan_reader.specs.Reading.{Gives};
 ghost use Rattle.plan_reader.specs.Limits.{max_stages, max_version};
 
 use crate::error::Fault;

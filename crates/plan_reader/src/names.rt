@@ -2,7 +2,7 @@
 ghost use Rattle.std.specs.Prelude.{◌≡◌, ◌<◌, ◌==◌, IfSome, MatchOption, length, position};
 ghost use Rattle.plan_reader.specs.Names.{cut_at, member_named, node_named, pair_node_named, place_named};
 
-use crate::{is_word, number_of};
+use text_words::{is_word, number_of};
 use tuple_edge::{NodeId, Which};
 
 /// The greatest number of digits of a stage and of a partition in a node's name.

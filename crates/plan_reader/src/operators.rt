@@ -1,14 +1,14 @@
 // The readers of an operator and its settings.
 ghost use Rattle.std.specs.Prelude.{IfOk};
 ghost use Rattle.op_spec.specs.Spec.{IsSpec};
+ghost use Rattle.text_words.specs.Reading.{Takes};
 ghost use Rattle.plan_reader.specs.Operators.{crossing_at, join_at, keep_at, last_at, op_at, total_at, window_at};
 ghost use Rattle.plan_reader.specs.PlanView.{IsLimit};
-ghost use Rattle.plan_reader.specs.Reading.{Takes};
 
 use crate::error::Fault;
 use crate::words::{by, comparison, key_and_number, number_from};
-use crate::{Words, is_word};
 use op_spec::{MAX_JOIN_ROWS, MAX_LAST_ROWS, MAX_WINDOW_SECONDS, OpSpec};
+use text_words::{Words, is_word};
 use tuple_edge::BIG;
 
 // What follows `keep`.

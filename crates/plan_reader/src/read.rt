@@ -1,16 +1,18 @@
 // How a plan is read.
 ghost use Rattle.std.specs.Prelude.{◌≤◌, IfOk};
+ghost use Rattle.text_words.specs.Reading.{Reads, Takes};
 ghost use Rattle.plan_reader.specs.Draft.{drafted_plan, said_after};
 ghost use Rattle.plan_reader.specs.Plan.{body_of, plan_of, version_at};
 ghost use Rattle.plan_reader.specs.PlanView.{IsPlan};
-ghost use Rattle.plan_reader.specs.Reading.{Gives, Reads, Takes};
+ghost use Rattle.plan_reader.specs.Reading.{Gives};
 ghost use Rattle.plan_reader.specs.Limits.{max_version};
 
 use crate::draft::Draft;
 use crate::error::Fault;
 use crate::words::number_from;
-use crate::{Lines, MAX_PLAN_BYTES, MAX_VERSION, Plan, PlanError, Words};
+use crate::{MAX_PLAN_BYTES, MAX_VERSION, Plan, PlanError};
 use std::alloc::Global;
+use text_words::{Lines, Words};
 
 // The version that the first line that counts says.
 #[tactic(auto, unfolding(crate::specs::Plan::version_at))]

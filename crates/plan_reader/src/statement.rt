@@ -1,15 +1,16 @@
 // What a line after the first one says: a setting or a stage.
 ghost use Rattle.std.specs.Prelude.{◌≡◌, ◌≤◌, ◌<◌, IfOk, OnOk, false, length};
 ghost use Rattle.std.specs.List.{list_any};
+ghost use Rattle.text_words.specs.Reading.{Takes};
 ghost use Rattle.plan_reader.specs.Limits.{max_parts, max_stages};
 ghost use Rattle.plan_reader.specs.Plan.{routing_at, setting_at, stage_at, stage_number_at};
 ghost use Rattle.plan_reader.specs.PlanView.{IsStage, is_joining};
-ghost use Rattle.plan_reader.specs.Reading.{Takes};
 
 use crate::error::Fault;
 use crate::operators::op;
 use crate::words::{column, number, number_from};
-use crate::{MAX_PARTS, MAX_STAGES, Stage, Words};
+use crate::{MAX_PARTS, MAX_STAGES, Stage};
+use text_words::Words;
 use tuple_edge::Column;
 
 // What a line after the first one says.

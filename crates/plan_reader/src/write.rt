@@ -1,9 +1,10 @@
 // The canonical text of a plan.
 ghost use Rattle.std.specs.Prelude.{◌≡◌, ◌++◌, IfOk, OnOk, Ok, string_bytes};
 ghost use Rattle.std.specs.List.{flat_map};
+ghost use Rattle.text_words.specs.Text.{line_text};
 ghost use Rattle.plan_reader.specs.Plan.{plan_of};
 ghost use Rattle.plan_reader.specs.PlanView.{IsPlan, PlanView};
-ghost use Rattle.plan_reader.specs.Text.{by_name, column_name, compare_name, line_text, op_words, plan_text, stage_lines, stage_words};
+ghost use Rattle.plan_reader.specs.Text.{by_name, column_name, compare_name, op_words, plan_text, stage_lines, stage_words};
 ghost use Rattle.op_spec.specs.declared.spec.OpSpec.TheVariants as op;
 
 use crate::{Plan, Stage};

@@ -4,7 +4,7 @@ use Rattle.std.specs.Prelude.{◌≢◌, IfErr, IfOk, OnOk}
 use Rattle.tuple_edge.specs.Input.{Input}
 use Rattle.tuple_edge.specs.declared.event.Event.{Event}
 use Rattle.tuple_edge.specs.declared.node.NodeId.TheVariants as node
-use Rattle.plan_reader.specs.Messages.{at_line}
+use Rattle.text_words.specs.Messages.{at_line}
 use Rattle.plan_reader.specs.PlanView.{IsPlan, PlanView}
 use Rattle.pair_machine.specs.CountLaws.{output_first}
 use Rattle.pair_machine.specs.Counts.{flow_of}

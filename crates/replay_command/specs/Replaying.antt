@@ -1,7 +1,7 @@
 -- Events replayed: the state that they reach one after another, or the first of them that is no step.
 use Rattle.std.specs.Prelude.{ℕ, List, [], ◌∷◌, ◌++◌, Result, Ok, Err, codes}
 use Rattle.std.specs.Fmt.{decimal}
-use Rattle.plan_reader.specs.Messages.{at_line}
+use Rattle.text_words.specs.Messages.{at_line}
 use Rattle.pair_machine.specs.Flow.{Flow}
 use Rattle.pair_machine.specs.Machine.{State, step}
 use Rattle.pair_machine.specs.Messages.{NoMoreRows, NotHeld, NotRunning, NotSent, NothingDue, Refusal}

@@ -3,7 +3,7 @@ ghost use Rattle.std.specs.Fmt.{decimal};
 ghost use Rattle.std.specs.Prelude.{◌≡◌, ◌++◌, IfOk, codes, string_bytes};
 ghost use Rattle.command_course.specs.Lines.{line_of};
 ghost use Rattle.command_course.specs.Steps.{IsRefusedBy};
-ghost use Rattle.plan_reader.specs.Messages.{at_line};
+ghost use Rattle.text_words.specs.Messages.{at_line};
 ghost use Rattle.replay_command.specs.Replaying.{error_text};
 ghost use Rattle.std.specs.Prelude.{◌≢◌};
 

@@ -4,7 +4,7 @@ ghost use Rattle.command_course.specs.Course.{Came, Writes};
 ghost use Rattle.command_course.specs.Feeds.{feed_of};
 ghost use Rattle.command_course.specs.Steps.{HasReadCause, IsRefusedBy, IsWant, StopsOf};
 ghost use Rattle.command_course.specs.Lines.{line_of};
-ghost use Rattle.plan_reader.specs.Messages.{at_line};
+ghost use Rattle.text_words.specs.Messages.{at_line};
 ghost use Rattle.replay_command.specs.Replaying.{error_text};
 ghost use Rattle.flux_core.specs.CoreView.{flow_in, inputs_of};
 ghost use Rattle.flux_core.specs.Follows.{AreNamed};

@@ -9,14 +9,14 @@ use Rattle.tuple_edge.specs.declared.event.Event.{Event}
 use Rattle.tuple_edge.specs.declared.event.Event.TheVariants as event
 use Rattle.tuple_edge.specs.declared.node.LinkId.{LinkId}
 use Rattle.tuple_edge.specs.declared.node.NodeId.{NodeId}
-use Rattle.plan_reader.specs.Lines.{Word, counting_lines}
+use Rattle.text_words.specs.Lines.{Word, counting_lines}
+use Rattle.text_words.specs.Reading.{fixed_or}
+use Rattle.text_words.specs.Text.{line_text}
+use Rattle.text_words.proofs.LineFacts.{both_true}
+use Rattle.text_words.proofs.NumberWords.{number_of_decimal}
+use Rattle.text_words.proofs.Spelling.{counting_spelled, spelled}
 use Rattle.plan_reader.specs.Nodes.{carries_items, has_link, has_node}
 use Rattle.plan_reader.specs.PlanView.{IsPlan, PlanView}
-use Rattle.plan_reader.specs.Reading.{fixed_or}
-use Rattle.plan_reader.specs.Text.{line_text}
-use Rattle.plan_reader.proofs.LineFacts.{both_true}
-use Rattle.plan_reader.proofs.NumberWords.{number_of_decimal}
-use Rattle.plan_reader.proofs.Spelling.{counting_spelled, spelled}
 use Rattle.run_journal.specs.Events.{ask_back_at, ask_stop_at, body_of, event_at, events_of, events_of_lines, header_at, kill_at, last_replica_at, make_at, once, pull_at, take_at, with_line, with_lines, work_at}
 use Rattle.plan_reader.specs.Nodes.{has_edge, has_replica}
 use Rattle.run_journal.specs.Grammar.{index_at, link_at, node_at, replica_at, target_at, times_at}

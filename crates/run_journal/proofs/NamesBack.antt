@@ -12,10 +12,10 @@ use Rattle.tuple_edge.specs.declared.node.LinkId.{LinkId}
 use Rattle.tuple_edge.specs.declared.node.NodeId.{NodeId}
 use Rattle.tuple_edge.specs.declared.node.NodeId.TheVariants as node
 use Rattle.tuple_edge.specs.declared.node.Which.TheVariants as which
-use Rattle.plan_reader.specs.Lines.{Word}
+use Rattle.text_words.specs.Lines.{Word}
+use Rattle.text_words.proofs.LineFacts.{both_true}
+use Rattle.text_words.proofs.NumberWords.{decimal_digits, decimal_some, number_of_decimal}
 use Rattle.plan_reader.specs.Names.{cut_at, member_named, node_named, pair_node_named, place_named}
-use Rattle.plan_reader.proofs.LineFacts.{both_true}
-use Rattle.plan_reader.proofs.NumberWords.{decimal_digits, decimal_some, number_of_decimal}
 use Rattle.run_journal.specs.Names.{link_named}
 use Rattle.run_journal.specs.Text.{link_name, member_name, node_name}
 

@@ -14,11 +14,11 @@ use Rattle.tuple_edge.specs.declared.node.LinkId.{LinkId}
 use Rattle.tuple_edge.specs.declared.node.NodeId.{NodeId}
 use Rattle.tuple_edge.specs.declared.node.NodeId.TheVariants as node
 use Rattle.tuple_edge.specs.declared.node.Which.TheVariants as which
-use Rattle.plan_reader.specs.Lines.{Word, counts}
+use Rattle.text_words.specs.Lines.{Word, counts}
+use Rattle.text_words.proofs.LineFacts.{both_true}
+use Rattle.text_words.proofs.NumberWords.{decimal_digits, decimal_few, decimal_some}
+use Rattle.text_words.proofs.Spelling.{ArePlainLines, IsPlainLine, IsPlainWord, is_plain}
 use Rattle.plan_reader.specs.PlanView.{IsPlan, PlanView}
-use Rattle.plan_reader.proofs.LineFacts.{both_true}
-use Rattle.plan_reader.proofs.NumberWords.{decimal_digits, decimal_few, decimal_some}
-use Rattle.plan_reader.proofs.Spelling.{ArePlainLines, IsPlainLine, IsPlainWord, is_plain}
 use Rattle.run_journal.specs.Limits.{max_index}
 use Rattle.run_journal.specs.Text.{IsNamed, event_words, link_name, member_name, node_name}
 use Rattle.run_journal.proofs.NamesBack.{IsShortName}

@@ -7,10 +7,10 @@ use Rattle.tuple_edge.specs.declared.event.Event.{Event}
 use Rattle.tuple_edge.specs.declared.event.Event.TheVariants as event
 use Rattle.tuple_edge.specs.declared.node.NodeId.{NodeId}
 use Rattle.tuple_edge.specs.declared.node.NodeId.TheVariants as node
+use Rattle.text_words.proofs.LineFacts.{both_true}
 use Rattle.plan_reader.specs.Nodes.{carries_any, carries_items, has_node, has_pair, is_replica, parts_of}
 use Rattle.plan_reader.specs.PlanView.{IsPlan, IsStage, PlanView, partitions}
 use Rattle.plan_reader.specs.declared.stage.Stage.{Stage}
-use Rattle.plan_reader.proofs.LineFacts.{both_true}
 use Rattle.plan_reader.specs.Nodes.{has_replica}
 use Rattle.run_journal.specs.Limits.{max_index}
 use Rattle.run_journal.specs.Text.{IsNamed}

@@ -4,9 +4,9 @@ use Rattle.std.specs.Str.{bytes_eq}
 use Rattle.tuple_edge.specs.declared.event.Event.{Event}
 use Rattle.tuple_edge.specs.declared.event.Event.TheVariants as event
 use Rattle.tuple_edge.specs.declared.node.NodeId.{NodeId}
-use Rattle.plan_reader.specs.Lines.{LineView, Word, counting_lines}
+use Rattle.text_words.specs.Lines.{LineView, Word, counting_lines}
+use Rattle.text_words.specs.Reading.{◌>>=◌, Read, at_line, end_or, fixed_or, word_or}
 use Rattle.plan_reader.specs.PlanView.{PlanView}
-use Rattle.plan_reader.specs.Reading.{◌>>=◌, Read, at_line, end_or, fixed_or, word_or}
 use Rattle.run_journal.specs.Grammar.{index_at, link_at, node_at, replica_at, target_at, times_at}
 use Rattle.run_journal.specs.Limits.{max_events, max_events_bytes}
 use Rattle.run_journal.specs.Messages.{fault_at}

@@ -2,12 +2,12 @@
 use Rattle.std.specs.Prelude.{ℕ, Bool, ◌&&◌, nat_le, List, [], ◌∷◌, Option, Some, None, Result, Ok, Err, if◌then◌else◌}
 use Rattle.tuple_edge.specs.declared.node.LinkId.{LinkId}
 use Rattle.tuple_edge.specs.declared.node.NodeId.{NodeId}
-use Rattle.plan_reader.specs.Lines.{Word}
+use Rattle.text_words.specs.Lines.{Word}
+use Rattle.text_words.specs.Numbers.{number_of}
+use Rattle.text_words.specs.Reading.{◌>>=◌, Read, end_or, word_or}
 use Rattle.plan_reader.specs.Names.{node_named}
 use Rattle.plan_reader.specs.Nodes.{has_edge, has_link, has_node, has_replica}
-use Rattle.plan_reader.specs.Numbers.{number_of}
 use Rattle.plan_reader.specs.PlanView.{PlanView}
-use Rattle.plan_reader.specs.Reading.{◌>>=◌, Read, end_or, word_or}
 use Rattle.run_journal.specs.Limits.{max_index, max_repeats}
 use Rattle.run_journal.specs.Names.{link_named}
 use Rattle.run_journal.specs.declared.error.Fault.{Fault}

@@ -1,6 +1,6 @@
 -- What is said of a refused text of events.
 use Rattle.std.specs.Prelude.{ℕ, List, codes}
-use Rattle.plan_reader.specs.Messages.{at_line}
+use Rattle.text_words.specs.Messages.{at_line}
 use Rattle.run_journal.specs.declared.error.EventsError.{EventsError}
 use Rattle.run_journal.specs.declared.error.EventsError.TheVariants as error
 use Rattle.run_journal.specs.declared.error.Fault.{Fault}

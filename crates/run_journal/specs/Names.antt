@@ -1,7 +1,7 @@
 -- The names of links.
 use Rattle.std.specs.Prelude.{Option, Some}
 use Rattle.tuple_edge.specs.declared.node.LinkId.{LinkId}
-use Rattle.plan_reader.specs.Lines.{Word}
+use Rattle.text_words.specs.Lines.{Word}
 use Rattle.plan_reader.specs.Names.{◌>>=◌, cut_at, node_named}
 
 -- the link that a word names: two nodes with > between them

@@ -9,10 +9,10 @@ use Rattle.tuple_edge.specs.declared.node.NodeId.{NodeId}
 use Rattle.tuple_edge.specs.declared.node.NodeId.TheVariants as node
 use Rattle.tuple_edge.specs.declared.node.Which.{Which}
 use Rattle.tuple_edge.specs.declared.node.Which.TheVariants as which
-use Rattle.plan_reader.specs.Lines.{Word}
+use Rattle.text_words.specs.Lines.{Word}
+use Rattle.text_words.specs.Text.{line_text}
 use Rattle.plan_reader.specs.Nodes.{has_edge, has_link, has_node, has_replica}
 use Rattle.plan_reader.specs.PlanView.{PlanView}
-use Rattle.plan_reader.specs.Text.{line_text}
 use Rattle.run_journal.specs.Limits.{max_events, max_events_bytes, max_index}
 use Rattle.run_journal.specs.declared.lined.Lined.{Lined}
 

@@ -2,9 +2,9 @@
 //!
 //! It promises that every text of events is read as its definition says, each event with its line, or
 //! refused by its first fault; that what it writes reads back; and that the events of histories come by
-//! clock and node, each once. It stands on `tuple_edge` for nodes and events, on `plan_reader` for plans
-//! and the readers of lines, words, numbers and names, and on `pair_machine` for what a log is. Of `trade_text`
-//! its proofs use one lemma, on stable sorts.
+//! clock and node, each once. It stands on `tuple_edge` for nodes and events, on `text_words` for lines,
+//! words and numbers, on `plan_reader` for plans and the names of nodes, and on `pair_machine` for what a
+//! log is. Of `trade_text` its proofs use one lemma, on stable sorts.
 #![tactic(auto)]
 
 mod error;

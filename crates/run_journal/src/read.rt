@@ -1,6 +1,6 @@
 // How events are read.
 ghost use Rattle.std.specs.Prelude.{All, ◌≤◌, IfOk, length};
-ghost use Rattle.plan_reader.specs.Reading.{Reads, Takes};
+ghost use Rattle.text_words.specs.Reading.{Reads, Takes};
 ghost use Rattle.run_journal.specs.Events.{body_of, events_of, events_of_lines, header_at, with_line, with_lines};
 ghost use Rattle.run_journal.specs.Limits.{max_events};
 ghost use Rattle.run_journal.specs.Reading.{Gives};
@@ -9,8 +9,9 @@ ghost use Rattle.run_journal.specs.Text.{IsNamed};
 use crate::error::Fault;
 use crate::statement::statement;
 use crate::{EventsError, Lined, MAX_EVENTS, MAX_EVENTS_BYTES};
-use plan_reader::{Line, Lines, Plan, Words};
+use plan_reader::Plan;
 use std::alloc::Global;
+use text_words::{Line, Lines, Words};
 use tuple_edge::OutOfMemory;
 
 // The words of the first line that counts.

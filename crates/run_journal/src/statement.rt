@@ -1,15 +1,16 @@
 // What a line after the first one says: an event, and how often it happens.
 ghost use Rattle.std.specs.Prelude.{◌≡◌, ◌≤◌, IfOk, true};
 ghost use Rattle.tuple_edge.specs.declared.event.Event.TheVariants as event;
-ghost use Rattle.plan_reader.specs.Reading.{Takes};
 ghost use Rattle.run_journal.specs.Events.{ask_back_at, ask_stop_at, event_at, kill_at, last_replica_at, make_at, once, pull_at, take_at, work_at};
+ghost use Rattle.text_words.specs.Reading.{Takes};
 ghost use Rattle.plan_reader.specs.Nodes.{has_replica};
 ghost use Rattle.run_journal.specs.Limits.{max_repeats};
 ghost use Rattle.run_journal.specs.Text.{IsNamed};
 
 use crate::error::Fault;
 use crate::words::{index, link, node, replica, target, times};
-use plan_reader::{Plan, Words, is_word};
+use plan_reader::Plan;
+use text_words::{Words, is_word};
 use tuple_edge::{Event, NodeId};
 
 // An event, and how often it happens.

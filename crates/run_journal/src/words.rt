@@ -1,7 +1,7 @@
 // The readers of a line's words: each takes words from the front, and gives a value or the first fault.
 ghost use Rattle.std.specs.Prelude.{◌≡◌, ◌≤◌, IfOk, true};
+ghost use Rattle.text_words.specs.Reading.{Takes};
 ghost use Rattle.plan_reader.specs.Nodes.{has_link, has_node};
-ghost use Rattle.plan_reader.specs.Reading.{Takes};
 ghost use Rattle.plan_reader.specs.Nodes.{has_edge, has_replica};
 ghost use Rattle.run_journal.specs.Grammar.{in_range, index_at, link_at, node_at, replica_at, target_at, times_at};
 ghost use Rattle.run_journal.specs.Limits.{max_index, max_repeats};
@@ -9,7 +9,8 @@ ghost use Rattle.run_journal.specs.Limits.{max_index, max_repeats};
 use crate::error::Fault;
 use crate::names::link_named;
 use crate::{MAX_INDEX, MAX_REPEATS};
-use plan_reader::{Plan, Words, node_named, number_of};
+use plan_reader::{Plan, node_named};
+use text_words::{Words, number_of};
 use tuple_edge::{LinkId, NodeId};
 
 // A node of the plan.

@@ -3,8 +3,8 @@ ghost use Rattle.std.specs.Prelude.{List, ◌≡◌, ◌∷◌, ◌++◌, [], If
 ghost use Rattle.std.specs.Fmt.{decimal};
 ghost use Rattle.std.specs.List.{flat_map};
 ghost use Rattle.tuple_edge.specs.declared.event.Event.{Event as NodeEvent};
+ghost use Rattle.text_words.specs.Text.{line_text};
 ghost use Rattle.plan_reader.specs.PlanView.{IsPlan, PlanView};
-ghost use Rattle.plan_reader.specs.Text.{line_text};
 ghost use Rattle.run_journal.specs.Events.{events_of};
 ghost use Rattle.run_journal.specs.Text.{AreSayable, event_words, events_text, lined_from, link_name, node_name};
 

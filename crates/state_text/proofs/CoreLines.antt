@@ -7,7 +7,7 @@ use Rattle.tuple_edge.specs.Input.{Input}
 use Rattle.tuple_edge.specs.declared.node.NodeId.{NodeId}
 use Rattle.tuple_edge.specs.declared.node.NodeId.TheVariants as node
 use Rattle.tuple_edge.specs.declared.node.Which.{Which}
-use Rattle.plan_reader.specs.Lines.{Word}
+use Rattle.text_words.specs.Lines.{Word}
 use Rattle.plan_reader.specs.Nodes.{has_node, has_pair, sources_of, stage_of_node}
 use Rattle.plan_reader.specs.PlanView.{IsPlan, PlanView}
 use Rattle.pair_control.specs.ControllerView.{ControllerView, numbers_of}

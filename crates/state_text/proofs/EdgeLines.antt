@@ -8,7 +8,7 @@ use Rattle.tuple_edge.specs.declared.node.Which.{Which}
 use Rattle.tuple_edge.specs.declared.node.Which.TheVariants.{A, B}
 use Rattle.flux_consumer.specs.ConsumerView.{ConsumerView}
 use Rattle.flux_producer.specs.ProducerView.{ProducerView, cursor_at, edge_at}
-use Rattle.plan_reader.specs.Lines.{Word}
+use Rattle.text_words.specs.Lines.{Word}
 use Rattle.plan_reader.specs.PlanView.{PlanView}
 use Rattle.pair_machine.specs.Counts.{flow_of}
 use Rattle.pair_machine.specs.Flow.{Flow}

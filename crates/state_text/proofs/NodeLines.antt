@@ -8,7 +8,7 @@ use Rattle.tuple_edge.specs.Input.{Input}
 use Rattle.tuple_edge.specs.declared.packet.Entry.{Entry}
 use Rattle.flux_consumer.specs.ConsumerView.{ConsumerView}
 use Rattle.flux_producer.specs.ProducerView.{ProducerView}
-use Rattle.plan_reader.specs.Lines.{Word}
+use Rattle.text_words.specs.Lines.{Word}
 use Rattle.plan_reader.specs.Nodes.{sources_of}
 use Rattle.plan_reader.specs.PlanView.{IsPlan, PlanView}
 use Rattle.pair_machine.specs.Boundary.{egress_partition, ingress_source, source_made}

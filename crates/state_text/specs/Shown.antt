@@ -5,7 +5,7 @@ use Rattle.tuple_edge.specs.declared.node.Which.TheVariants.{A, B}
 use Rattle.flux_consumer.specs.ConsumerView.{ConsumerView, told_of}
 use Rattle.flux_producer.specs.ProducerView.{ProducerView, buffer_at, cursor_at}
 use Rattle.merge_order.specs.MergeView.{mark_of}
-use Rattle.plan_reader.specs.Lines.{Word}
+use Rattle.text_words.specs.Lines.{Word}
 use Rattle.pair_machine.specs.Numbers.{Consumer, Producer}
 use Rattle.node_edges.specs.OutEdges.{copy_of}
 use Rattle.state_mover.specs.MoverView.{MoverView, total_of}

@@ -11,7 +11,7 @@ use Rattle.tuple_edge.specs.declared.node.Which.TheVariants.{A, B}
 use Rattle.tuple_edge.specs.declared.row.Row.{Row}
 use Rattle.tuple_edge.specs.declared.status.Status.{Status}
 use Rattle.tuple_edge.specs.declared.status.Status.TheVariants as status
-use Rattle.plan_reader.specs.Lines.{Word}
+use Rattle.text_words.specs.Lines.{Word}
 use Rattle.pair_machine.specs.Boundary.{egress_partition, ingress_source, source_made}
 use Rattle.pair_machine.specs.Drain.{pairs_up_to}
 use Rattle.pair_machine.specs.Flow.{Flow}

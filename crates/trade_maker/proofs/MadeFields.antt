@@ -10,9 +10,9 @@ use Rattle.std.proofs.lemmas.Bool.{cases_Bool, eqb-true, false≢true}
 use Rattle.std.proofs.lemmas.Bool.Decides.{nat_tests}
 use Rattle.std.proofs.lemmas.Fmt.{length-decimal-le}
 use Rattle.std.proofs.lemmas.List.Folds.{list_all-append}
-use Rattle.plan_reader.proofs.LineFacts.{both_true}
-use Rattle.plan_reader.proofs.NumberWords.{decimal_digits, number_of_decimal}
-use Rattle.plan_reader.specs.Numbers.{number_of}
+use Rattle.text_words.proofs.LineFacts.{both_true}
+use Rattle.text_words.proofs.NumberWords.{decimal_digits, number_of_decimal}
+use Rattle.text_words.specs.Numbers.{number_of}
 use Rattle.trade_text.specs.Fields.{cents_at, digits_of, is_symbol_byte, number_between, price_of, split_once, symbol_of, time_of}
 use Rattle.trade_maker.specs.MadeText.{money, side_text, two_digits}
 use Rattle.trade_maker.proofs.PlainFields.{IsPlain, is_plain}

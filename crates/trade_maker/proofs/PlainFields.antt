@@ -9,8 +9,8 @@ use Rattle.csv.specs.Machine.{next_record}
 use Rattle.csv.specs.Reading.{default_config}
 use Rattle.csv.specs.Writing.{default_writer, field_text, fields_text, is_blank as is_blank_row, needs_byte, row_text}
 use Rattle.csv.specs.declared.parser.State.TheVariants as state
-use Rattle.plan_reader.proofs.LineFacts.{both_true}
-use Rattle.plan_reader.specs.Lines.{is_blank}
+use Rattle.text_words.proofs.LineFacts.{both_true}
+use Rattle.text_words.specs.Lines.{is_blank}
 use Rattle.trade_text.proofs.RecordFacts.{records_left-more, records_left-none}
 use Rattle.trade_text.specs.Fields.{drop_blanks, is_symbol_byte, trim_blanks, trim_end}
 use Rattle.trade_text.specs.Records.{records_left}

@@ -1,7 +1,7 @@
 -- One or two digits are a small number.
 use Rattle.std.proofs.Common.{ℕ, ◌≡◌, ◌≤◌, length, List, [], ◌∷◌, Some, arith}
 use Rattle.std.proofs.lemmas.Bool.Decides.{nat_tests}
-use Rattle.plan_reader.specs.Numbers.{number_of}
+use Rattle.text_words.specs.Numbers.{number_of}
 
 pub one_digit : (text : List ℕ) (n : ℕ) → length text ≡ 1 → number_of text ≡ Some n → n ≤ 9
 one_digit [] n len e = absurd (omega arith)

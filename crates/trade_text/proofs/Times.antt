@@ -3,7 +3,7 @@ use Rattle.std.proofs.Common.{ℕ, ◌≡◌, ◌∙◌, ◌==◌, Bool, true, f
 use Rattle.std.specs.Char.{is_ascii_digit}
 use Rattle.std.specs.List.{list_all, prefix_len}
 use Rattle.std.proofs.lemmas.Bool.Decides.{nat_tests}
-use Rattle.plan_reader.specs.Numbers.{number_of}
+use Rattle.text_words.specs.Numbers.{number_of}
 use Rattle.trade_text.specs.Fields.{digits_of, number_between, split_once, time_of}
 use Rattle.trade_text.specs.Limits.{max_seconds}
 use Rattle.trade_text.specs.declared.fields.Fault.{Fault}

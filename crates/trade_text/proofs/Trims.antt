@@ -1,7 +1,7 @@
 -- Blanks at the ends of a field.
 use Rattle.std.proofs.Common.{ℕ, ◌≡◌, ◌&&◌, IsTrue, nat_lt, Bool, true, false, cond, List, [], ◌∷◌, ◌++◌, length, refl, sym, ap, ◌∙◌, arith}
 use Rattle.std.proofs.lemmas.Bool.Decides.{nat_tests}
-use Rattle.plan_reader.specs.Lines.{is_blank}
+use Rattle.text_words.specs.Lines.{is_blank}
 use Rattle.trade_text.specs.Fields.{drop_blanks, is_none_left, trim_end}
 
 pub drop_blanks-skip : (field : List ℕ) (b : ℕ) (rest : List ℕ) → field ≡ b ∷ rest → is_blank b ≡ true → drop_blanks rest ≡ drop_blanks field

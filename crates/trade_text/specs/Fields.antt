@@ -3,8 +3,8 @@ use Rattle.std.specs.Prelude.{ℕ, ℤ, pos, neg_ℤ, Bool, true, false, not, �
 use Rattle.std.specs.List.{list_all}
 use Rattle.std.specs.Option.{ok_or}
 use Rattle.std.specs.Str.{str_eq_ignore_ascii_case}
-use Rattle.plan_reader.specs.Lines.{is_blank}
-use Rattle.plan_reader.specs.Numbers.{number_of}
+use Rattle.text_words.specs.Lines.{is_blank}
+use Rattle.text_words.specs.Numbers.{number_of}
 use Rattle.trade_text.specs.Limits.{max_account, max_amount, max_cents, max_digits, max_qty, max_seconds, max_symbol_bytes}
 use Rattle.trade_text.specs.Results.{◌>>=◌}
 use Rattle.trade_text.specs.declared.fields.Fault.{Fault}

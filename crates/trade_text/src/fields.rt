@@ -2,13 +2,13 @@
 ghost use Rattle.std.specs.List.{list_all};
 ghost use Rattle.std.specs.Prelude.{◌==◌, ◌≡◌, neg_ℤ, pos, ◌+◌, ◌*◌, ◌<◌, ◌≤◌, IfOk, IfSome, IsTrue, Err, length, option_map, position};
 ghost use Rattle.std.specs.Str.{str_eq_ignore_ascii_case};
-ghost use Rattle.plan_reader.specs.Lines.{is_blank};
+ghost use Rattle.text_words.specs.Lines.{is_blank};
 ghost use Rattle.trade_text.specs.Fields.{account_of, amount_of, cents_of, clock_of, digits_of, drop_blanks, fraction_of, is_symbol, is_symbol_byte, number_between, one_or_two_digits, price_of, qty_of, ranged, seconds_of_day, side_of, split_once, time_of, trim_blanks, trim_end, two_digits};
 ghost use Rattle.trade_text.specs.Limits.{max_account, max_amount, max_cents, max_qty, max_second_of_day, max_seconds};
 ghost use Rattle.trade_text.specs.TradesView.{IsBetween};
 ghost use Rattle.trade_text.specs.declared.fields.Fault.TheVariants as fault;
 
-use plan_reader::number_of;
+use text_words::number_of;
 
 // The latest time, in seconds.
 const MAX_SECONDS: u64 = 9_999_999_999;

@@ -1,6 +1,6 @@
 use Rattle.std.proofs.Common.{◌≡◌, ◌<◌, ◌^◌, arith, rules}
 use Rattle.std.specs.Prelude.{Some}
-use Rattle.plan_reader.specs.Numbers.{number_of}
+use Rattle.text_words.specs.Numbers.{number_of}
 use Rattle.plan_reader.proofs.NameFacts.{number_short}
 use Rattle.plan_reader.proofs.names.place_named.Goals as goal
 

@@ -1,7 +1,8 @@
 use Rattle.std.proofs.Common.{◌≡◌, ◌+◌, ◌++◌, drop}
 use Rattle.std.specs.Prelude.{string_bytes}
 use Rattle.std.specs.List.{flat_map}
-use Rattle.plan_reader.specs.Text.{line_text, stage_lines}
+use Rattle.text_words.specs.Text.{line_text}
+use Rattle.plan_reader.specs.Text.{stage_lines}
 use Rattle.plan_reader.proofs.write.push_stages.Given as goal
 
 abbrev pub invariant-loop-place : goal.invariant-loop-place

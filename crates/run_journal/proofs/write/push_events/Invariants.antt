@@ -1,7 +1,7 @@
 use Rattle.std.proofs.Common.{◌≡◌, ◌++◌, take}
 use Rattle.std.specs.Prelude.{string_bytes}
 use Rattle.std.specs.List.{flat_map}
-use Rattle.plan_reader.specs.Text.{line_text}
+use Rattle.text_words.specs.Text.{line_text}
 use Rattle.run_journal.specs.Text.{event_words}
 use Rattle.run_journal.proofs.write.push_events.Given as goal
 

@@ -1,5 +1,5 @@
 use Rattle.std.proofs.Common.{ℕ, ◌≡◌, ◌≤◌, List, length, Option, Some, None, IfSome, sym}
-use Rattle.plan_reader.specs.Numbers.{number_of}
+use Rattle.text_words.specs.Numbers.{number_of}
 use Rattle.trade_text.proofs.Digits.{two_digits}
 use Rattle.trade_text.proofs.fields.two_digits.Goals as goal
 

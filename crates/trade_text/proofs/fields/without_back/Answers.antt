@@ -1,5 +1,5 @@
 use Rattle.std.proofs.Common.{◌≡◌, ◌∙◌, sym, rules, true, false}
-use Rattle.plan_reader.specs.Lines.{is_blank}
+use Rattle.text_words.specs.Lines.{is_blank}
 use Rattle.trade_text.proofs.Trims.{trim_end-none, trim_end-skip, trim_end-stop}
 use Rattle.trade_text.proofs.fields.without_back.Goals as goal
 

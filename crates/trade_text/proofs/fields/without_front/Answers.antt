@@ -1,5 +1,5 @@
 use Rattle.std.proofs.Common.{◌≡◌, ◌∙◌, sym, rules, true, false}
-use Rattle.plan_reader.specs.Lines.{is_blank}
+use Rattle.text_words.specs.Lines.{is_blank}
 use Rattle.trade_text.proofs.Trims.{drop_blanks-none, drop_blanks-skip, drop_blanks-stop}
 use Rattle.trade_text.proofs.fields.without_front.Goals as goal
 

@@ -1,6 +1,6 @@
 -- The lines of a text that count, line by line.
 use Rattle.std.proofs.Common.{ℕ, ◌≡◌, ◌+◌, true, false, List, [], ◌∷◌, refl}
-use Rattle.plan_reader.specs.Lines.{counting_lines_from, counts, lines_of, words_of}
+use Rattle.text_words.specs.Lines.{counting_lines_from, counts, lines_of, words_of}
 
 pub counting_none : (n : ℕ) (text : List ℕ) → lines_of text ≡ [] → counting_lines_from n text ≡ []
 unfolding counting_lines_from

@@ -3,10 +3,10 @@ use Rattle.std.proofs.Common.{ℕ, ◌≡◌, ◌<◌, ◌≤◌, ◌+◌, ◌*�
 use Rattle.std.proofs.lemmas.Bool.{true≢false}
 use Rattle.std.proofs.lemmas.List.Folds.{list_all-append}
 use Rattle.std.specs.List.{flat_map, join_with_byte, list_all}
-use Rattle.plan_reader.specs.Lines.{LineView, Word, begins_with_end, counting_lines_from, counts, is_blank, lines_of, onto_first, words_of}
-use Rattle.plan_reader.specs.Text.{line_text}
-use Rattle.plan_reader.proofs.CountingLines.{counting_first, counting_none}
-use Rattle.plan_reader.proofs.LineFacts.{both_true, lines_of-empty, lines_of-end, lines_of-more, words_of-empty, words_of-end, words_of-more, words_of-skip}
+use Rattle.text_words.specs.Lines.{LineView, Word, begins_with_end, counting_lines_from, counts, is_blank, lines_of, onto_first, words_of}
+use Rattle.text_words.specs.Text.{line_text}
+use Rattle.text_words.proofs.CountingLines.{counting_first, counting_none}
+use Rattle.text_words.proofs.LineFacts.{both_true, lines_of-empty, lines_of-end, lines_of-more, words_of-empty, words_of-end, words_of-more, words_of-skip}
 
 -- a byte that ends no line
 abbrev pub is_inside : ℕ → Bool

@@ -1,7 +1,7 @@
 use Rattle.std.proofs.Common.{ℕ, ◌+◌, List, ◌∷◌, sym, ap, ◌∙◌, arith}
-use Rattle.plan_reader.specs.Lines.{counting_lines_from}
-use Rattle.plan_reader.proofs.CountingLines.{counting_first, counting_none, counting_skip}
-use Rattle.plan_reader.proofs.lines.Lines.next_line.Goals as goal
+use Rattle.text_words.specs.Lines.{counting_lines_from}
+use Rattle.text_words.proofs.CountingLines.{counting_first, counting_none, counting_skip}
+use Rattle.text_words.proofs.lines.Lines.next_line.Goals as goal
 
 pub returns-then-counts : goal.returns-then-counts
 returns-then-counts c =

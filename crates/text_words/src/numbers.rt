@@ -1,6 +1,6 @@
 // Number words.
 ghost use Rattle.std.specs.Prelude.{◌≡◌};
-ghost use Rattle.plan_reader.specs.Numbers.{number_of, signed_number_of};
+ghost use Rattle.text_words.specs.Numbers.{number_of, signed_number_of};
 
 /// The greatest number of digits of a number word.
 pub const MAX_NUMBER_DIGITS: usize = 19;

@@ -7,8 +7,8 @@ use Rattle.std.specs.List.{list_all}
 use Rattle.std.proofs.lemmas.Bool.Decides.{nat_tests}
 use Rattle.std.proofs.lemmas.Fmt.{decimal_nonempty, digits_decimal, digits_value-decimal, length-decimal-le}
 use Rattle.std.proofs.lemmas.Str.Parse.{IsNumeralModel, numerals_by_fold}
-use Rattle.plan_reader.proofs.LineFacts.{both_true}
-use Rattle.plan_reader.specs.Numbers.{digits_value, is_number, number_of, signed_number_of}
+use Rattle.text_words.proofs.LineFacts.{both_true}
+use Rattle.text_words.specs.Numbers.{digits_value, is_number, number_of, signed_number_of}
 
 -- the words of this crate for digits and their value
 numerals : IsNumeralModel (λ ds. list_all is_ascii_digit ds ≡ true) digits_value

@@ -3,7 +3,7 @@ use Rattle.std.specs.Prelude.{ℕ, ℤ, Bool, pos, neg_ℤ, ◌+◌, ◌-◌, �
 use Rattle.std.specs.Char.{is_ascii_digit}
 use Rattle.std.specs.List.{list_all}
 use Rattle.std.specs.Option.{option_map}
-use Rattle.plan_reader.specs.Limits.{max_number_digits}
+use Rattle.text_words.specs.Limits.{max_number_digits}
 
 -- the value of digits
 abbrev pub digits_value : List ℕ → ℕ

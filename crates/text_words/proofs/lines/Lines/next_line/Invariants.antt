@@ -1,6 +1,6 @@
 use Rattle.std.proofs.Common.{◌≡◌, ◌<◌, ◌+◌, ◌^◌, length}
-use Rattle.plan_reader.specs.Lines.{counting_lines_from}
-use Rattle.plan_reader.proofs.lines.Lines.next_line.Given as goal
+use Rattle.text_words.specs.Lines.{counting_lines_from}
+use Rattle.text_words.proofs.lines.Lines.next_line.Given as goal
 
 abbrev pub invariant-loop-line : goal.invariant-loop-line
 invariant-loop-line l = record {

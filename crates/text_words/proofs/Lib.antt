@@ -1,0 +1,4 @@
+pub mod CountingLines
+pub mod LineFacts
+pub mod NumberWords
+pub mod Spelling
