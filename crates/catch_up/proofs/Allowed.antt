@@ -10,7 +10,7 @@ use Rattle.flux_producer.specs.ProducerView.{ProducerView, buffer_at}
 use Rattle.op_spec.specs.Times.{IsTimely}
 use Rattle.op_spec.specs.declared.spec.OpSpec.{OpSpec}
 use Rattle.stream_ops.specs.Entries.{entries}
-use Rattle.state_mover.specs.MoveList.{head_entries, kept_entries, low_entry, mark_entry, move_list, used_of}
+use Rattle.move_list.specs.MoveList.{head_entries, kept_entries, low_entry, mark_entry, move_list, used_of}
 use Rattle.tuple_edge.specs.Entries.{each_below, numbered}
 use Rattle.catch_up.specs.Rebuild.{AllNext, keyed_step}
 use Rattle.catch_up.proofs.Steps.{AllKeyed, skip_below, skip_numbered}

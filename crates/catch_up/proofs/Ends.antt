@@ -8,7 +8,7 @@ use Rattle.flux_producer.specs.ProducerView.{ProducerView, contents_of, over_buf
 use Rattle.op_spec.specs.declared.spec.OpSpec.{OpSpec}
 use Rattle.stream_ops.specs.Entries.{entries}
 use Rattle.stream_ops.specs.State.{rebuilt}
-use Rattle.state_mover.specs.MoveList.{move_list}
+use Rattle.move_list.specs.MoveList.{move_list}
 use Rattle.catch_up.specs.Caught.{CatchesUp, IsWholeMove}
 use Rattle.merge_order.specs.MergeView.{mark_of}
 use Rattle.flux_consumer.specs.ConsumerView.{ConsumerView}

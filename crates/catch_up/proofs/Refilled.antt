@@ -12,7 +12,7 @@ use Rattle.merge_order.specs.MergeView.{MergeView, waiting_of}
 use Rattle.flux_producer.specs.OutEdge.{unused}
 use Rattle.flux_producer.specs.ProducerView.{ProducerView, buffer_at}
 use Rattle.stream_ops.specs.Entries.{IsKeyed}
-use Rattle.state_mover.specs.MoveList.{head_entries, kept_entries, low_entry, mark_entry, move_list, used_of}
+use Rattle.move_list.specs.MoveList.{head_entries, kept_entries, low_entry, mark_entry, move_list, used_of}
 use Rattle.tuple_edge.specs.Entries.{each_below, numbered}
 use Rattle.catch_up.specs.Rebuild.{buffer_of, buffers_in, buffers_step, without_spare}
 use Rattle.catch_up.proofs.Steps.{AllKeyed, at_below, fold_six, length_below, set_set, skip_below, skip_keyed, skip_numbered}

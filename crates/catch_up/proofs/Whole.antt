@@ -11,7 +11,7 @@ use Rattle.tuple_edge.specs.declared.packet.Entry.TheVariants as entry
 use Rattle.merge_order.specs.MergeView.{MergeView, after_offer, mark_of, starting, waiting_of, with_item}
 use Rattle.flux_producer.specs.ProducerView.{ProducerView, buffer_at}
 use Rattle.stream_ops.specs.Entries.{IsKeyed}
-use Rattle.state_mover.specs.MoveList.{head_entries, kept_entries, low_entry, mark_entry, move_list, used_of}
+use Rattle.move_list.specs.MoveList.{head_entries, kept_entries, low_entry, mark_entry, move_list, used_of}
 use Rattle.tuple_edge.specs.Entries.{each_below, numbered}
 use Rattle.catch_up.specs.Rebuild.{count_in, count_step, heads_step, keyed_in, keyed_step, marks_in, marks_step, merge_in}
 use Rattle.catch_up.proofs.Steps.{AllKeyed, at_below, fold_six, length_below, set_set, skip_below, skip_keyed, skip_numbered}

@@ -10,8 +10,8 @@ use Rattle.op_spec.specs.Times.{IsTimely}
 use Rattle.op_spec.specs.declared.spec.OpSpec.{OpSpec}
 use Rattle.stream_ops.specs.Entries.{entries}
 use Rattle.stream_ops.specs.State.{rebuilt}
-use Rattle.state_mover.specs.MoveList.{move_list}
-use Rattle.state_mover.specs.Pieces.{IsMerge}
+use Rattle.move_list.specs.MoveList.{move_list}
+use Rattle.move_list.specs.Pieces.{IsMerge}
 use Rattle.catch_up.specs.Fold.{AllRising, IsRunFrom}
 use Rattle.catch_up.specs.NewcomerView.{NewcomerView, held_of}
 use Rattle.catch_up.specs.Rebuild.{folded}

@@ -6,7 +6,7 @@ use Rattle.tuple_edge.specs.declared.item.Item.{Item}
 use Rattle.tuple_edge.specs.declared.packet.Entry.{Entry}
 use Rattle.ack_buffer.specs.Buffer.{BufferView, item_at}
 use Rattle.flux_producer.specs.ProducerView.{ProducerView, buffer_at}
-use Rattle.state_mover.specs.Pieces.{FilledBelow, IsFilled}
+use Rattle.move_list.specs.Pieces.{FilledBelow, IsFilled}
 use Rattle.tuple_edge.specs.Entries.{each_below, numbered}
 
 -- one more item

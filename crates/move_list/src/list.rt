@@ -1,7 +1,7 @@
-// The list of a move, as far as it is fixed at the beginning.
+// What a consumer and a producer hold, as entries.
 ghost use Rattle.flux_producer.specs.ProducerView.{buffer_at};
-ghost use Rattle.state_mover.specs.Pieces.{AreFilled, IsFilled};
-ghost use Rattle.state_mover.specs.MoveList.{fixed_part, head_entries, kept_entries, low_entry, mark_entry};
+ghost use Rattle.move_list.specs.Pieces.{AreFilled, IsFilled};
+ghost use Rattle.move_list.specs.MoveList.{fixed_part, head_entries, kept_entries, low_entry, mark_entry};
 ghost use Rattle.tuple_edge.specs.Entries.{each_below};
 ghost use Rattle.std.specs.Prelude.{◌≡◌, ◌++◌, ◌<◌, IfOk, OnOk, length};
 
@@ -94,7 +94,7 @@ fn add_kept(producer: &Producer, out: &mut Vec<Entry>) -> Result<(), OutOfMemory
 }
 
 /// What a move tells of a consumer and a producer.
-pub(crate) fn fixed_part(
+pub fn fixed_part(
     alloc: Global,
     consumer: &Consumer,
     producer: &Producer,

@@ -37,10 +37,10 @@ use Rattle.pair_machine.proofs.MoveSize.{have_their_size}
 use Rattle.pair_machine.proofs.PlanFlow.{made_most}
 use Rattle.pair_machine.proofs.Tests.{nat_not}
 use Rattle.stream_ops.specs.Entries.{last_place}
+use Rattle.move_list.proofs.Lists.{none_past}
 use Rattle.state_mover.specs.MoverView.{MoverView, after_next, keyed_among, moved_at, moved_from, total_of}
 use Rattle.state_mover.specs.declared.mover.Moved.{Moved}
 use Rattle.state_mover.specs.declared.mover.Moved.TheVariants as moved
-use Rattle.state_mover.proofs.Lists.{none_past}
 use Rattle.node_edges.specs.InEdges.{edge_in}
 use Rattle.node_edges.specs.OutEdges.{any_due_in, due_in, which_at}
 use Rattle.node_edges.specs.ProducerLaws.{SendsDue}

@@ -17,7 +17,7 @@ use Rattle.flux_consumer.specs.ConsumerView.{ConsumerView, with_merge}
 use Rattle.flux_producer.specs.OutEdge.{acknowledged, over, rewound, wanted}
 use Rattle.flux_producer.specs.ProducerView.{ProducerView, acked, edge_at, leading, with_edge, without_room}
 use Rattle.op_spec.specs.Times.{IsTimely}
-use Rattle.state_mover.specs.MoveList.{fixed_part}
+use Rattle.move_list.specs.MoveList.{fixed_part}
 use Rattle.state_mover.specs.MoverView.{IsMidway, MoverView, total_of}
 use Rattle.state_mover.specs.MoverView as mover
 use Rattle.catch_up.specs.NewcomerView.{NewcomerView, begun, held_of, is_held, taken_by, took_of, with_held}

@@ -18,7 +18,7 @@ use Rattle.pair_machine.specs.Numbers.{in_edge}
 use Rattle.pair_machine.specs.Producers.{copies}
 use Rattle.pair_machine.proofs.EdgeLaws.{get_of, parts_at}
 use Rattle.pair_machine.proofs.Tests.{both, nat_not}
-use Rattle.state_mover.proofs.Lists.{none_past}
+use Rattle.move_list.proofs.Lists.{none_past}
 use Rattle.replica_node.specs.Admitted.{IsIntoHere}
 use Rattle.replica_node.specs.Answering.{HasParts}
 use Rattle.replica_node.specs.IsReplica.{IsRole}

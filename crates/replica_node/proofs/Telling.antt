@@ -9,7 +9,7 @@ use Rattle.pair_machine.specs.Contents as contents
 use Rattle.pair_machine.specs.Counts.{entries_after, made_on}
 use Rattle.pair_machine.specs.Counts as counts
 use Rattle.pair_machine.specs.Numbers.{out_edge}
-use Rattle.state_mover.specs.MoveList.{head_entries, kept_entries, low_entry, mark_entry}
+use Rattle.move_list.specs.MoveList.{head_entries, kept_entries, low_entry, mark_entry}
 use Rattle.tuple_edge.specs.Entries.{each_below, numbered}
 use Rattle.replica_node.specs.Moves.{MovesTellTheirNumbers}
 

@@ -35,8 +35,8 @@ use Rattle.pair_machine.proofs.Used.{in_edge_is, into_is, sources_are}
 use Rattle.node_edges.specs.InEdges.{ConsumerStands}
 use Rattle.node_edges.specs.OutEdges.{ProducerStands}
 use Rattle.node_edges.proofs.Consumers.{form_is, many_are, starts}
-use Rattle.state_mover.specs.MoveList as state_mover
-use Rattle.state_mover.specs.Pieces.{IsMerge}
+use Rattle.move_list.specs.MoveList as of_move
+use Rattle.move_list.specs.Pieces.{IsMerge}
 use Rattle.catch_up.specs.Caught.{IsWholeMove}
 use Rattle.replica_node.specs.CaughtUp.{ArePieces}
 use Rattle.replica_node.specs.Course.{AreTimely}
@@ -226,7 +226,7 @@ whole_move plan rows role m is timely of_plan bound = (
     list =
         sym (moves_tell plan rows (partition_of role) m (merge_of plan rows (partition_of role) m) (producer_of plan rows (partition_of role) m)
         (pieces_hold plan rows (partition_of role) m role.op (merge_of plan rows (partition_of role) m) (producer_of plan rows (partition_of role) m) (merged_first plan rows (partition_of role) m.count) merging pieces))
-        ∙ ap (state_mover.move_list (merge_of plan rows (partition_of role) m) (producer_of plan rows (partition_of role) m)) (sym told);
+        ∙ ap (of_move.move_list (merge_of plan rows (partition_of role) m) (producer_of plan rows (partition_of role) m)) (sym told);
   },
   pieces,
 )

@@ -25,7 +25,7 @@ use Rattle.pair_machine.specs.Messages.{AskBack, Chunk, Tuple}
 use Rattle.pair_machine.specs.Numbers.{control_at, other, out_edge}
 use Rattle.pair_machine.specs.Receivers.{GoOverLinks}
 use Rattle.pair_machine.proofs.PlanNodes.{links_named}
-use Rattle.state_mover.proofs.Lists.{none_past}
+use Rattle.move_list.proofs.Lists.{none_past}
 use Rattle.state_mover.specs.MoverView.{MoverView}
 use Rattle.state_mover.specs.declared.mover.Moved.{Moved}
 use Rattle.state_mover.specs.declared.mover.Moved.TheVariants as moved

@@ -9,7 +9,7 @@ use Rattle.pair_machine.specs.Contents as contents
 use Rattle.pair_machine.specs.Counts.{entries_after, made_on}
 use Rattle.pair_machine.specs.Counts as counts
 use Rattle.pair_machine.specs.Numbers.{MoveNumbers, Partition, out_edge}
-use Rattle.state_mover.specs.MoveList.{move_list, used_of}
+use Rattle.move_list.specs.MoveList.{move_list, used_of}
 
 -- The merge and the buffers are those of the numbers: marks, count and lows; what waits are the items numbered above what was merged up to the
 -- mark, and what is kept those above low up to what was made.

@@ -16,7 +16,7 @@ use Rattle.flux_producer.specs.ProducerView as producer
 use Rattle.stream_ops.specs.State.{unseen}
 use Rattle.pair_machine.specs.Machine.{leads_first}
 use Rattle.pair_machine.specs.Numbers.{Partition, in_edge}
-use Rattle.state_mover.specs.MoveList.{fixed_part}
+use Rattle.move_list.specs.MoveList.{fixed_part}
 use Rattle.state_mover.specs.MoverView as mover
 use Rattle.catch_up.specs.NewcomerView.{NewcomerView, after_chunk, after_hold, begun, took_of}
 use Rattle.catch_up.specs.declared.newcomer.Took.{Took}

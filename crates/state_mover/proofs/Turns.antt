@@ -5,9 +5,9 @@ use Rattle.std.proofs.lemmas.Bool.Decides.{nat_tests}
 use Rattle.std.specs.Option.{IfSome, IsSome, option_and_then}
 use Rattle.tuple_edge.specs.declared.packet.Entry.{Entry}
 use Rattle.stream_ops.specs.Entries.{last_place, place_of}
+use Rattle.move_list.proofs.Lists.{get_right, some_there}
 use Rattle.state_mover.specs.MoverView.{IsMidway, IsSound, MoverView, after_next, keyed_among, keyed_given, moved_at, moved_from, place_next, total_of}
 use Rattle.state_mover.specs.declared.mover.Moved.TheVariants as moved
-use Rattle.state_mover.proofs.Lists.{get_right, some_there}
 
 pub if_some : {X : Type 0} {P : X → Type 0} (o : Option X) → ((x : X) → o ≡ Some x → P x) → IfSome o P
 if_some None p = tt

@@ -1,3 +1,3 @@
-pub mod MoveList
+pub use Rattle.move_list.specs.MoveList
+pub use Rattle.move_list.specs.Pieces
 pub mod MoverView
-pub mod Pieces

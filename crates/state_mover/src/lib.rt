@@ -2,10 +2,9 @@
 //!
 //! A [`Mover`] fixes at its beginning what the consumer and the producer hold. What the operator kept
 //! at that moment it takes from the watched state as it goes, so it copies none of it. It stands on
-//! flux_consumer, flux_producer and stream_ops.
+//! move_list for the entries of the consumer and the producer, and on stream_ops.
 #![tactic(auto)]
 
-mod list;
 mod mover;
 
 pub use mover::{Moved, Mover};

@@ -1,16 +1,16 @@
 // The mover: the entries of a move, one by one.
-ghost use Rattle.state_mover.specs.MoveList.{fixed_part};
-ghost use Rattle.state_mover.specs.Pieces.{AreFilled};
 ghost use Rattle.tuple_edge.specs.declared.packet.Entry.{Entry};
+ghost use Rattle.move_list.specs.MoveList.{fixed_part};
+ghost use Rattle.move_list.specs.Pieces.{AreFilled};
 ghost use Rattle.state_mover.specs.MoverView.{IsMidway, IsSound, after_next, begun, moved_at, moved_from, place_next, total_of};
 ghost use Rattle.std.specs.Prelude.{◌≡◌, ◌<◌, ◌≤◌, ◌+◌, None, ◌++◌, ◌↔◌, IfOk, IfSome, IsSome, Some, List, length, slice_get};
 ghost use Rattle.state_mover.specs.declared.mover.Moved.TheVariants as moved;
 ghost use Rattle.stream_ops.specs.Entries.{place_of};
 ghost use Rattle.tuple_edge.specs.Limits.{number_limit};
 
-use crate::list::fixed_part;
 use flux_consumer::Consumer;
 use flux_producer::Producer;
+use move_list::fixed_part;
 use std::alloc::Global;
 use std::marker::Model;
 use stream_ops::OpState;
@@ -37,8 +37,8 @@ pub struct Mover {
 }
 
 impl Model for Mover {
-    ghost use Rattle.state_mover.specs.Pieces.{AreFilled};
     ghost use Rattle.tuple_edge.specs.declared.packet.Entry.{Entry};
+    ghost use Rattle.move_list.specs.Pieces.{AreFilled};
     ghost use Rattle.state_mover.specs.MoverView.{IsMover, MoverView};
 
     ghost Value = { MoverView };

@@ -1,7 +1,7 @@
 use Rattle.std.proofs.Common.{◌≡◌, ◌++◌}
-use Rattle.state_mover.specs.MoveList.{head_entries}
+use Rattle.move_list.specs.MoveList.{head_entries}
 use Rattle.tuple_edge.specs.Entries.{each_below}
-use Rattle.state_mover.proofs.list.add_heads.Given as goal
+use Rattle.move_list.proofs.list.add_heads.Given as goal
 
 abbrev pub invariant-loop-edge : goal.invariant-loop-edge
 invariant-loop-edge l = l.out.items ≡ l.fn.out.items ++ each_below l.edge (head_entries l.merge)

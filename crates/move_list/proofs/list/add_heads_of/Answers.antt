@@ -1,9 +1,9 @@
 use Rattle.std.proofs.Common.{◌∙◌, sym, arith}
 use Rattle.tuple_edge.specs.declared.packet.Entry.TheVariants as entry
 use Rattle.merge_order.specs.MergeView.{waiting_of}
-use Rattle.state_mover.specs.MoveList.{used_of}
-use Rattle.state_mover.proofs.Lists.{push_at}
-use Rattle.state_mover.proofs.list.add_heads_of.Goals as goal
+use Rattle.move_list.specs.MoveList.{used_of}
+use Rattle.move_list.proofs.Lists.{push_at}
+use Rattle.move_list.proofs.list.add_heads_of.Goals as goal
 
 pub loop-nth-preserved : goal.loop-nth-preserved
 loop-nth-preserved c =

@@ -1,6 +1,6 @@
-use Rattle.state_mover.specs.MoveList.{kept_entries}
-use Rattle.state_mover.proofs.Lists.{below_next, filled_next}
-use Rattle.state_mover.proofs.list.add_kept.Goals as goal
+use Rattle.move_list.specs.MoveList.{kept_entries}
+use Rattle.move_list.proofs.Lists.{below_next, filled_next}
+use Rattle.move_list.proofs.list.add_kept.Goals as goal
 
 pub loop-edge-preserved : goal.loop-edge-preserved
 loop-edge-preserved c = record {

@@ -1,8 +1,8 @@
 use Rattle.std.proofs.Common.{◌≡◌, ◌++◌}
 use Rattle.tuple_edge.specs.Entries.{each_below}
-use Rattle.state_mover.specs.MoveList.{kept_entries}
-use Rattle.state_mover.specs.Pieces.{FilledBelow}
-use Rattle.state_mover.proofs.list.add_kept.Given as goal
+use Rattle.move_list.specs.MoveList.{kept_entries}
+use Rattle.move_list.specs.Pieces.{FilledBelow}
+use Rattle.move_list.proofs.list.add_kept.Given as goal
 
 abbrev pub invariant-loop-edge : goal.invariant-loop-edge
 invariant-loop-edge l = record {

@@ -2,8 +2,8 @@ use Rattle.std.proofs.Common.{◌≡◌, ◌+◌, ◌∙◌, ap, sym}
 use Rattle.tuple_edge.specs.declared.packet.Entry.TheVariants as entry
 use Rattle.ack_buffer.specs.Buffer.{BufferView, item_at}
 use Rattle.flux_producer.specs.ProducerView.{buffer_at}
-use Rattle.state_mover.proofs.Lists.{kept_got, push_at}
-use Rattle.state_mover.proofs.list.add_kept_of.Goals as goal
+use Rattle.move_list.proofs.Lists.{kept_got, push_at}
+use Rattle.move_list.proofs.list.add_kept_of.Goals as goal
 
 pub loop-nth-preserved : goal.loop-nth-preserved
 loop-nth-preserved c =

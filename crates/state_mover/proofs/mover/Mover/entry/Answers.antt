@@ -1,6 +1,6 @@
 use Rattle.std.proofs.Common.{sym, ap, ◌∙◌, subst}
+use Rattle.move_list.proofs.Lists.{none_past}
 use Rattle.state_mover.specs.MoverView.{IsSound, MoverView}
-use Rattle.state_mover.proofs.Lists.{none_past}
 use Rattle.state_mover.proofs.Turns.{next_entry}
 use Rattle.state_mover.proofs.mover.Mover.entry.Goals as goal
 

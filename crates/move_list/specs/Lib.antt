@@ -1,0 +1,2 @@
+pub mod MoveList
+pub mod Pieces
