@@ -1,27 +1,109 @@
-// A consumer beside plain lists.
-use crate::drawn::shuffled;
+// A consumer, call by call.
 use flux_consumer::Consumer;
 use merge_order::Offer;
-use std::process::Abort;
+use std::alloc::Global;
 use std::test::Fail;
-use tuple_edge::{Item, Row};
+use tuple_edge::{Item, OutOfMemory, Row};
+
+// A call of a consumer of two in-edges, and what it gives.
+#[derive(Clone, Copy)]
+enum Call {
+    // It is given the item of a number of an edge, and answers so.
+    Tuple(u32, u64, Item, Offer),
+    // Whether each edge has an item that waits.
+    Ready(bool),
+    // The next item of the merged list, if it gives one.
+    Next(Option<Item>),
+    // So many items were merged.
+    Count(u64),
+    // The edge and the mark that are to be told, if any.
+    Due(Option<(u32, u64)>),
+    // The mark of an edge is told; the one of an edge that was told last.
+    Tell(u32),
+    Told(u32, u64),
+}
+
+impl Call {
+    // Whether a call gives what it has to.
+    fn holds(self, consumer: &mut Consumer) -> Result<bool, OutOfMemory> {
+        match self {
+            Call::Tuple(edge, number, item, offer) => takes(consumer, edge, number, item, offer),
+            Call::Ready(ready) => Ok(consumer.ready() == ready),
+            Call::Next(item) => Ok(gives(consumer, item)),
+            Call::Count(count) => Ok(consumer.merge().count() == count),
+            Call::Due(report) => Ok(consumer.report_due() == report),
+            Call::Tell(edge) => Ok(tells(consumer, edge)),
+            Call::Told(edge, mark) => Ok(has_told(consumer, edge, mark)),
+        }
+    }
+}
+
+fn takes(
+    consumer: &mut Consumer,
+    edge: u32,
+    number: u64,
+    item: Item,
+    offer: Offer,
+) -> Result<bool, OutOfMemory> {
+    if edge >= consumer.merge().edges() {
+        return Ok(false);
+    }
+    Ok(consumer.tuple(edge, number, item)? == offer)
+}
+
+fn gives(consumer: &mut Consumer, item: Option<Item>) -> bool {
+    consumer.merge().count() < 1000 && consumer.next() == item
+}
+
+fn tells(consumer: &mut Consumer, edge: u32) -> bool {
+    if edge >= consumer.merge().edges() {
+        return false;
+    }
+    consumer.tell(edge);
+    true
+}
+
+fn has_told(consumer: &Consumer, edge: u32, mark: u64) -> bool {
+    edge < consumer.merge().edges() && consumer.told(edge) == mark
+}
+
+// The first of these calls of a new consumer that doesn't give what it has to.
+fn first_wrong(consumer: &mut Consumer, calls: &[Call]) -> Result<Option<usize>, OutOfMemory> {
+    for (place, call) in calls.iter().enumerate() {
+        if !call.holds(consumer)? {
+            return Ok(Some(place));
+        }
+    }
+    Ok(None)
+}
+
+fn wrong_of_new(alloc: Global, calls: &[Call]) -> Result<Option<usize>, OutOfMemory> {
+    let mut consumer = Consumer::new(alloc, 2)?;
+    let wrong = first_wrong(&mut consumer, calls);
+    drop(consumer);
+    wrong
+}
+
+const MARK: Item = Item::Mark { stamp: 1 };
+
+const TAKES_AND_TELLS: &[Call] = &[
+    Call::Tuple(1, 2, MARK, Offer::Gap { mark: 0 }),
+    Call::Due(None),
+    Call::Tuple(1, 1, MARK, Offer::Taken),
+    Call::Tuple(1, 1, MARK, Offer::Repeat { mark: 1 }),
+    Call::Due(Some((1, 1))),
+    Call::Ready(false),
+    Call::Tell(1),
+    Call::Told(1, 1),
+    Call::Due(None),
+    Call::Tuple(0, 1, MARK, Offer::Taken),
+    Call::Next(Some(MARK)),
+    Call::Count(1),
+];
 
 #[test]
 fn takes_and_tells(rt: HostRuntime) -> Result<(), Fail> {
-    let mut consumer = Consumer::new(rt.alloc(), 2)?;
-    let item = Item::Mark { stamp: 1 };
-    assert_eq!(rt; consumer.tuple(1, 2, item)?, Offer::Gap { mark: 0 });
-    assert_eq!(rt; consumer.report_due(), None);
-    assert_eq!(rt; consumer.tuple(1, 1, item)?, Offer::Taken);
-    assert_eq!(rt; consumer.tuple(1, 1, item)?, Offer::Repeat { mark: 1 });
-    assert_eq!(rt; consumer.report_due(), Some((1, 1)));
-    assert!(rt; !consumer.ready());
-    consumer.tell(1);
-    assert_eq!(rt; consumer.told(1), 1);
-    assert_eq!(rt; consumer.report_due(), None);
-    assert_eq!(rt; consumer.tuple(0, 1, item)?, Offer::Taken);
-    assert_eq!(rt; consumer.next(), Some(item));
-    assert_eq!(rt; consumer.merge().count(), 1);
+    assert_eq!(rt; wrong_of_new(rt.alloc(), TAKES_AND_TELLS)?, None);
     Ok(())
 }
 
@@ -36,80 +118,53 @@ fn row(stamp: u64) -> Item {
     Item::Row { stamp, row }
 }
 
-// An offer of some number near the mark, answered as a plain rule says.
-fn offer(
-    rt: &impl Abort,
-    consumer: &mut Consumer,
-    edge: u32,
-    items: &[Item],
-    drawn: u64,
-) -> Result<(), Fail> {
-    assert!(rt; edge < consumer.merge().edges());
-    let mark = consumer.merge().mark(edge);
-    let number = mark.saturating_add(drawn % 4).saturating_sub(1).max(1);
-    let Some(item) = items.get((number - 1) as usize) else {
-        return Ok(());
-    };
-    let answer = consumer.tuple(edge, number, *item)?;
-    let wanted = if number <= mark {
-        Offer::Repeat { mark }
-    } else if number - mark > 1 {
-        Offer::Gap { mark }
-    } else {
-        Offer::Taken
-    };
-    assert_eq!(rt; answer, wanted);
-    Ok(())
+const SECOND_MARK: Item = Item::Mark { stamp: 4 };
+
+const END: Item = Item::End { stamp: 6 };
+
+// The rows of two edges come in the order of their stamps, a mark and the end once for both edges. Between them come
+// repeats and gaps, and the marks of the edges are told.
+fn merges_two() -> [Call; 34] {
+    [
+        Call::Tuple(0, 1, row(1), Offer::Taken),
+        Call::Tuple(0, 2, row(3), Offer::Taken),
+        Call::Ready(false),
+        Call::Next(None),
+        Call::Due(Some((0, 2))),
+        Call::Tuple(1, 2, SECOND_MARK, Offer::Gap { mark: 0 }),
+        Call::Tuple(1, 1, row(2), Offer::Taken),
+        Call::Due(Some((0, 2))),
+        Call::Tell(0),
+        Call::Due(Some((1, 1))),
+        Call::Ready(true),
+        Call::Next(Some(row(1))),
+        Call::Next(Some(row(2))),
+        Call::Next(None),
+        Call::Tuple(0, 1, row(1), Offer::Repeat { mark: 2 }),
+        Call::Tuple(0, 4, END, Offer::Gap { mark: 2 }),
+        Call::Tuple(0, 3, SECOND_MARK, Offer::Taken),
+        Call::Due(Some((0, 3))),
+        Call::Tuple(1, 2, SECOND_MARK, Offer::Taken),
+        Call::Next(Some(row(3))),
+        Call::Next(Some(SECOND_MARK)),
+        Call::Ready(false),
+        Call::Tuple(0, 4, END, Offer::Taken),
+        Call::Tuple(1, 3, row(5), Offer::Taken),
+        Call::Tuple(1, 4, END, Offer::Taken),
+        Call::Tell(1),
+        Call::Told(0, 2),
+        Call::Told(1, 4),
+        Call::Due(Some((0, 4))),
+        Call::Next(Some(row(5))),
+        Call::Next(Some(END)),
+        Call::Next(None),
+        Call::Tuple(1, 3, row(5), Offer::Repeat { mark: 4 }),
+        Call::Count(6),
+    ]
 }
 
-// Some thousand mixed calls give the rows of two edges in the order of their stamps.
 #[test]
-fn walks_beside_plain_lists(rt: HostRuntime) -> Result<(), Fail> {
-    let mut edges = [Vec::new(rt.alloc()), Vec::new(rt.alloc())];
-    let mut all = Vec::new(rt.alloc());
-    let mut drawn = 11;
-    for stamp in 1..500u64 {
-        drawn = shuffled(drawn);
-        edges[(drawn >> 40) as usize % 2].push(row(stamp))?;
-        all.push(row(stamp))?;
-        if stamp % 16 == 0 {
-            let mark = Item::Mark { stamp };
-            edges[0].push(mark)?;
-            edges[1].push(mark)?;
-            all.push(mark)?;
-        }
-    }
-    let end = Item::End { stamp: 500 };
-    edges[0].push(end)?;
-    edges[1].push(end)?;
-    all.push(end)?;
-
-    let mut consumer = Consumer::new(rt.alloc(), 2)?;
-    let mut told = [0, 0];
-    let mut given = Vec::new(rt.alloc());
-    for _turn in 0..5000 {
-        drawn = shuffled(drawn);
-        let edge = (drawn >> 40) as usize % 2;
-        offer(&rt, &mut consumer, edge as u32, &edges[edge], drawn >> 45)?;
-        assert!(rt; consumer.merge().edges() == 2 && consumer.merge().count() < 5000);
-        if consumer.ready() {
-            given.extend(consumer.next())?;
-        }
-        assert!(rt; consumer.merge().edges() == 2);
-        let marks = [consumer.merge().mark(0), consumer.merge().mark(1)];
-        let due = if marks[0] > told[0] {
-            Some((0, marks[0]))
-        } else if marks[1] > told[1] {
-            Some((1, marks[1]))
-        } else {
-            None
-        };
-        assert_eq!(rt; consumer.report_due(), due);
-        if (drawn >> 50) % 3 == 0 {
-            consumer.tell(edge as u32);
-            told[edge] = marks[edge];
-        }
-    }
-    assert_eq!(rt; given.as_slice(), all.as_slice());
+fn gives_two_edges_in_order(rt: HostRuntime) -> Result<(), Fail> {
+    assert_eq!(rt; wrong_of_new(rt.alloc(), &merges_two())?, None);
     Ok(())
 }

@@ -9,8 +9,6 @@ mod buffers;
 #[cfg(test)]
 mod consumers;
 #[cfg(test)]
-mod drawn;
-#[cfg(test)]
 mod merges;
 #[cfg(test)]
 mod producers;

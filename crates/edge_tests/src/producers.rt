@@ -1,9 +1,7 @@
-// A producer beside a plain program that looks at all numbers.
-ghost use Rattle.std.specs.Prelude.{◌<◌};
-
-use crate::drawn::shuffled;
+// A producer, call by call.
 use ack_buffer::AckBuffer;
 use flux_producer::{Due, Producer};
+use std::alloc::Global;
 use std::process::Abort;
 use std::test::Fail;
 use tuple_edge::{Item, OutOfMemory};
@@ -15,172 +13,209 @@ fn item(to: u32, number: u64) -> Item {
     }
 }
 
+// A call of a producer, and what it gives.
+#[derive(Clone, Copy)]
+enum Call {
+    // Produces the next item on an edge, which has this number.
+    Emit(u32, u64),
+    // Sends on an edge, to a replica, the item of a number; or sends nothing, as nothing is due.
+    Send(u32, u32, u64),
+    Rest,
+    // The items of an edge are acknowledged up to a number.
+    Ack(u32, u64),
+    // A replica wants the items of an edge from a number on.
+    Want(u32, u32, u64),
+    // It is to lead under this term; the term under which it led last, and whether it leads.
+    Lead(u64),
+    Term(u64, bool),
+    // How many out-edges there are.
+    Edges(u32),
+}
+
+impl Call {
+    // Whether a call gives what it has to.
+    fn holds(self, producer: &mut Producer) -> Result<bool, OutOfMemory> {
+        match self {
+            Call::Emit(to, number) => emits(producer, to, number),
+            Call::Send(to, copy, number) => Ok(sends(producer, Due { to, copy, number })),
+            Call::Rest => Ok(producer.due().is_none() && producer.send_due().is_none()),
+            Call::Ack(to, upto) => Ok(acknowledges(producer, to, upto)),
+            Call::Want(to, copy, from) => Ok(wants(producer, to, copy, from)),
+            Call::Lead(term) => {
+                producer.lead(term);
+                Ok(true)
+            }
+            Call::Term(term, leads) => Ok(producer.term() == term && producer.leads() == leads),
+            Call::Edges(edges) => Ok(producer.edges() == edges),
+        }
+    }
+}
+
+fn emits(producer: &mut Producer, to: u32, number: u64) -> Result<bool, OutOfMemory> {
+    producer.reserve(1)?;
+    if to >= producer.edges() || producer.buffer(to).produced() >= 1000 {
+        return Ok(false);
+    }
+    Ok(producer.emit(to, item(to, number)) == number)
+}
+
+fn sends(producer: &mut Producer, due: Due) -> bool {
+    producer.due() == Some(due) && producer.send_due() == Some((due, item(due.to, due.number)))
+}
+
+fn acknowledges(producer: &mut Producer, to: u32, upto: u64) -> bool {
+    if to >= producer.edges() || upto >= 1000 {
+        return false;
+    }
+    producer.ack(to, upto);
+    true
+}
+
+fn wants(producer: &mut Producer, to: u32, copy: u32, from: u64) -> bool {
+    if to >= producer.edges() || copy >= producer.copies() {
+        return false;
+    }
+    producer.want(to, copy, from);
+    true
+}
+
+// The first of these calls of a producer that doesn't give what it has to.
+fn first_wrong(producer: &mut Producer, calls: &[Call]) -> Result<Option<usize>, OutOfMemory> {
+    for (place, call) in calls.iter().enumerate() {
+        if !call.holds(producer)? {
+            return Ok(Some(place));
+        }
+    }
+    Ok(None)
+}
+
+// The same of a new producer of so many edges.
+fn wrong_of_new(
+    alloc: Global,
+    edges: u32,
+    leads: bool,
+    calls: &[Call],
+) -> Result<Option<usize>, OutOfMemory> {
+    let mut producer = Producer::new(alloc, 1, 0, edges, 2, leads)?;
+    let wrong = first_wrong(&mut producer, calls);
+    drop(producer);
+    wrong
+}
+
 // Each number goes to both replicas, and a new leader begins after what is acknowledged.
+const BOTH_REPLICAS: &[Call] = &[
+    Call::Emit(0, 1),
+    Call::Emit(0, 2),
+    Call::Send(0, 0, 1),
+    Call::Send(0, 1, 1),
+    Call::Send(0, 0, 2),
+    Call::Send(0, 1, 2),
+    Call::Rest,
+    Call::Edges(1),
+    Call::Ack(0, 1),
+    Call::Lead(2),
+    Call::Send(0, 0, 2),
+    Call::Term(2, true),
+];
+
 #[test]
 fn sends_each_number_to_both_replicas(rt: HostRuntime) -> Result<(), Fail> {
-    let mut producer = Producer::new(rt.alloc(), 1, 0, 1, 2, true)?;
-    producer.reserve(2)?;
-    assert_eq!(rt; producer.emit(0, item(0, 1)), 1);
-    assert_eq!(rt; producer.emit(0, item(0, 2)), 2);
-    for (number, copy) in [(1, 0), (1, 1), (2, 0), (2, 1)] {
-        let due = Due {
-            to: 0,
-            copy,
-            number,
-        };
-        assert_eq!(rt; producer.send_due(), Some((due, item(0, number))));
-    }
-    assert_eq!(rt; producer.send_due(), None);
-    assert_eq!(rt; producer.edges(), 1);
-    producer.ack(0, 1);
-    producer.lead(2);
-    let due = Due {
-        to: 0,
-        copy: 0,
-        number: 2,
-    };
-    assert_eq!(rt; producer.send_due(), Some((due, item(0, 2))));
-    assert_eq!(rt; producer.term(), 2);
+    assert_eq!(rt; wrong_of_new(rt.alloc(), 1, true, BOTH_REPLICAS)?, None);
     Ok(())
+}
+
+// An edge on which three items are acknowledged, and the fourth is kept.
+fn edge_with_the_fourth(rt: &impl Abort, alloc: Global) -> Result<Vec<AckBuffer>, OutOfMemory> {
+    let mut buffer = AckBuffer::starting(alloc, 3, 3);
+    buffer.reserve(1)?;
+    assert_eq!(rt; buffer.produce(item(0, 4)), 4);
+    Ok(vec![in alloc; buffer]?)
 }
 
 // A producer that starts over a buffer sends nothing until it leads, and then what isn't acknowledged.
+const AFTER_ACKNOWLEDGED: &[Call] = &[
+    Call::Rest,
+    Call::Lead(1),
+    Call::Send(0, 0, 4),
+    Call::Send(0, 1, 4),
+    Call::Rest,
+    Call::Emit(0, 5),
+];
+
+fn wrong_of_started(
+    rt: &impl Abort,
+    alloc: Global,
+    calls: &[Call],
+) -> Result<Option<usize>, OutOfMemory> {
+    let edges = edge_with_the_fourth(rt, alloc)?;
+    let mut producer = Producer::starting(alloc, 1, 0, 2, edges)?;
+    let wrong = first_wrong(&mut producer, calls);
+    drop(producer);
+    wrong
+}
+
 #[test]
 fn starts_after_what_is_acknowledged(rt: HostRuntime) -> Result<(), Fail> {
-    let mut buffer = AckBuffer::starting(rt.alloc(), 3, 3);
-    buffer.reserve(1)?;
-    assert_eq!(rt; buffer.produce(item(0, 4)), 4);
-    let mut producer = Producer::starting(rt.alloc(), 1, 0, 2, vec![in rt.alloc(); buffer]?)?;
-    assert_eq!(rt; producer.due(), None);
-    producer.lead(1);
-    let due = Due {
-        to: 0,
-        copy: 0,
-        number: 4,
-    };
-    assert_eq!(rt; producer.send_due(), Some((due, item(0, 4))));
-    Ok(())
-}
-
-// What a producer of two edges and two replicas has, by numbers alone.
-#[derive(Clone, Copy)]
-struct Plain {
-    term: u64,
-    leads: bool,
-    produced: [u64; 2],
-    low: [u64; 2],
-    cursors: [[u64; 2]; 2],
-}
-
-impl Plain {
-    // The first of all numbers, edges and replicas that is at its cursor and produced.
-    fn due(&self) -> Option<Due> {
-        for number in 1..3000 {
-            for to in 0..2 {
-                for copy in 0..2 {
-                    let next = self.cursors[to][copy];
-                    if self.leads && next == number && number <= self.produced[to] {
-                        return Some(Due {
-                            to: to as u32,
-                            copy: copy as u32,
-                            number,
-                        });
-                    }
-                }
-            }
-        }
+    assert_eq!(rt;
+        wrong_of_started(&rt, rt.alloc(), AFTER_ACKNOWLEDGED)?,
         None
-    }
-
-    fn rewind(&mut self, to: usize)
-        requires { to < 2 }
-    {
-        let next = self.low[to].wrapping_add(1);
-        self.cursors[to] = [next, next];
-    }
-}
-
-// One call of each kind, drawn by a number, on both.
-fn turn(
-    rt: &impl Abort,
-    producer: &mut Producer,
-    plain: &mut Plain,
-    drawn: u64,
-) -> Result<(), OutOfMemory> {
-    let to = (drawn >> 20) % 2;
-    let copy = (drawn >> 24) % 2;
-    let near = (drawn >> 28) % 8;
-    let edge = to as usize;
-    assert!(rt; producer.edges() == 2 && producer.copies() == 2);
-    match (drawn >> 33) % 16 {
-        0..4 => {
-            producer.reserve(1)?;
-            assert!(rt; producer.edges() == 2);
-            assert!(rt; producer.buffer(to as u32).produced() < 3000);
-            plain.produced[edge] = producer.emit(
-                to as u32,
-                item(to as u32, plain.produced[edge].wrapping_add(1)),
-            );
-        }
-        4 => {
-            let upto = plain.low[edge].wrapping_add(near / 2);
-            assert!(rt; upto < 3000);
-            producer.ack(to as u32, upto);
-            plain.low[edge] = upto;
-            let next = upto + 1;
-            let [first, second] = plain.cursors[edge];
-            plain.cursors[edge] = [next.max(first), next.max(second)];
-        }
-        5 => {
-            let from = plain.low[edge].wrapping_add(near);
-            producer.want(to as u32, copy as u32, from);
-            let least = plain.low[edge].wrapping_add(1);
-            let was = plain.cursors[edge][copy as usize];
-            if plain.leads {
-                plain.cursors[edge][copy as usize] = was.min(least.max(from));
-            }
-        }
-        6 if near == 0 => {
-            let term = plain.term.wrapping_add(copy);
-            producer.lead(term);
-            if copy > 0 {
-                plain.term = term;
-                plain.leads = true;
-                plain.rewind(0);
-                plain.rewind(1);
-            }
-        }
-        _ => {
-            let due = plain.due();
-            let sent = producer.send_due();
-            assert_eq!(rt; sent.map(|s| s.0), due);
-            if let Some((due, given)) = sent {
-                assert_eq!(rt; given, item(due.to, due.number));
-                plain.cursors[(due.to % 2) as usize][(due.copy % 2) as usize] = due
-                    .number
-                    .wrapping_add(1);
-            }
-        }
-    }
+    );
     Ok(())
 }
+
+// The least number comes first, of one number the lesser edge, and of one edge the lesser replica. An acknowledgement moves
+// the cursors on, a replica that wants items moves its own back, but to nothing that is acknowledged; a higher term moves
+// all of them back.
+const TWO_EDGES: &[Call] = &[
+    Call::Emit(1, 1),
+    Call::Emit(0, 1),
+    Call::Emit(1, 2),
+    Call::Want(0, 0, 1),
+    Call::Rest,
+    Call::Lead(0),
+    Call::Term(0, false),
+    Call::Rest,
+    Call::Lead(3),
+    Call::Term(3, true),
+    Call::Send(0, 0, 1),
+    Call::Send(0, 1, 1),
+    Call::Send(1, 0, 1),
+    Call::Emit(0, 2),
+    Call::Send(1, 1, 1),
+    Call::Send(0, 0, 2),
+    Call::Ack(1, 2),
+    Call::Send(0, 1, 2),
+    Call::Rest,
+    Call::Want(0, 1, 2),
+    Call::Send(0, 1, 2),
+    Call::Rest,
+    Call::Want(1, 0, 1),
+    Call::Rest,
+    Call::Emit(1, 3),
+    Call::Want(1, 1, 9),
+    Call::Send(1, 0, 3),
+    Call::Lead(3),
+    Call::Send(1, 1, 3),
+    Call::Rest,
+    Call::Ack(0, 1),
+    Call::Lead(4),
+    Call::Term(4, true),
+    Call::Send(0, 0, 2),
+    Call::Send(0, 1, 2),
+    Call::Send(1, 0, 3),
+    Call::Ack(1, 5),
+    Call::Rest,
+    Call::Emit(1, 4),
+    Call::Emit(1, 5),
+    Call::Rest,
+    Call::Emit(1, 6),
+    Call::Send(1, 0, 6),
+    Call::Send(1, 1, 6),
+    Call::Rest,
+];
 
 #[test]
-fn walks_beside_a_plain_program(rt: HostRuntime) -> Result<(), Fail> {
-    let mut producer = Producer::new(rt.alloc(), 1, 0, 2, 2, false)?;
-    let mut plain = Plain {
-        term: 0,
-        leads: false,
-        produced: [0, 0],
-        low: [0, 0],
-        cursors: [[1, 1], [1, 1]],
-    };
-    let mut drawn = 7;
-    for _turn in 0..4000 {
-        drawn = shuffled(drawn);
-        turn(&rt, &mut producer, &mut plain, drawn)?;
-    }
-    assert_eq!(rt; (producer.term(), producer.leads()), (plain.term, true));
-    assert!(rt; plain.term > 5 && plain.produced[0] > 300 && plain.low[1] > 100);
+fn sends_the_least_number_first(rt: HostRuntime) -> Result<(), Fail> {
+    assert_eq!(rt; wrong_of_new(rt.alloc(), 2, false, TWO_EDGES)?, None);
     Ok(())
 }
