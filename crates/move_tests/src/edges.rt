@@ -1,5 +1,5 @@
 // What a replica has of its edges when its move begins, and what is rebuilt of them.
-ghost use Rattle.std.specs.Prelude.{◌≡◌, ◌<◌, length};
+ghost use Rattle.std.specs.Prelude.{◌≡◌, ◌≤◌, ◌<◌, length};
 
 use flux_consumer::Consumer;
 use flux_producer::Producer;
@@ -16,11 +16,18 @@ fn take(consumer: &mut Consumer, edge: u32, number: u64) -> Result<(), OutOfMemo
     Ok(())
 }
 
+// Takes the first two items of the first in-edge.
+fn take_two(consumer: &mut Consumer) -> Result<(), OutOfMemory>
+    requires { 1 ≤ length consumer.old.merge.marks }
+{
+    take(consumer, 0, 1)?;
+    take(consumer, 0, 2)
+}
+
 // Two in-edges: on the first one two items wait, and nothing on the other.
 pub(crate) fn consumer(alloc: Global) -> Result<Consumer, OutOfMemory> {
     let mut consumer = Consumer::new(alloc, 2)?;
-    take(&mut consumer, 0, 1)?;
-    take(&mut consumer, 0, 2)?;
+    take_two(&mut consumer)?;
     Ok(consumer)
 }
 
@@ -40,13 +47,19 @@ fn ack(rt: &impl Abort, producer: &mut Producer, to: u32, upto: u64) {
     producer.ack(to, upto);
 }
 
+// Two items are produced on the first out-edge, of which one is acknowledged.
+fn emit_two(rt: &impl Abort, producer: &mut Producer) -> Result<(), OutOfMemory> {
+    emit(rt, producer, 0)?;
+    emit(rt, producer, 0)?;
+    ack(rt, producer, 0, 1);
+    Ok(())
+}
+
 // Two out-edges: of the first one an item is kept, and the second one is acknowledged up to 3, though
 // nothing was produced on it.
 pub(crate) fn producer(rt: &impl Abort, alloc: Global) -> Result<Producer, OutOfMemory> {
     let mut producer = Producer::new(alloc, 1, 0, 2, 2, true)?;
-    emit(rt, &mut producer, 0)?;
-    emit(rt, &mut producer, 0)?;
-    ack(rt, &mut producer, 0, 1);
+    emit_two(rt, &mut producer)?;
     ack(rt, &mut producer, 1, 3);
     Ok(producer)
 }

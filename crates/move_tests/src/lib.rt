@@ -18,3 +18,5 @@ mod passing;
 mod put_back;
 #[cfg(test)]
 mod rows;
+#[cfg(test)]
+mod survivor;

@@ -1,10 +1,10 @@
 // The list of a move, worked out by hand.
 ghost use Rattle.state_mover.specs.MoverView.{IsMidway};
-ghost use Rattle.std.specs.Prelude.{IfSome, IsSome};
+ghost use Rattle.std.specs.Prelude.{◌≡◌, IfSome, IsSome};
 ghost use Rattle.stream_ops.specs.Times.{IsTimely};
 
-use crate::edges::{consumer, producer};
 use crate::rows::total;
+use crate::survivor::{Survivor, opened};
 use state_mover::{Moved, Mover};
 use std::alloc::Global;
 use std::process::Abort;
@@ -25,6 +25,13 @@ fn bought(account: i64, qty: i64) -> Item
     Item::Row { stamp: 1, row }
 }
 
+fn buy(alloc: Global, state: &mut OpState, account: i64, qty: i64) -> Result<(), OutOfMemory>
+    ensures { state.new.old ≡ state.old.old }
+{
+    let mut out = Vec::new(alloc);
+    state.step(bought(account, qty), &mut out)
+}
+
 // The first twenty parts of a move.
 fn parts_of(alloc: Global, mover: &mut Mover, state: &OpState) -> Result<Vec<Moved>, OutOfMemory>
     requires watched { IsSome state.now.old }
@@ -37,21 +44,36 @@ fn parts_of(alloc: Global, mover: &mut Mover, state: &OpState) -> Result<Vec<Mov
     Ok(parts)
 }
 
+// The same where the operator is given two rows before the first part.
+fn later_parts_of(
+    alloc: Global,
+    mover: &mut Mover,
+    state: &mut OpState,
+) -> Result<Vec<Moved>, OutOfMemory>
+    requires watched { IsSome state.old.old }
+    requires midway { IfSome state.old.old (IsMidway mover.old) }
+{
+    buy(alloc, state, 2, 5)?;
+    buy(alloc, state, 3, 1)?;
+    parts_of(alloc, mover, state)
+}
+
 // What is moved with an operator that was given two rows: two more come before the first part is given.
+fn parts_of_two(alloc: Global, survivor: &mut Survivor) -> Result<Vec<Moved>, OutOfMemory> {
+    buy(alloc, &mut survivor.state, 1, 1)?;
+    buy(alloc, &mut survivor.state, 2, 2)?;
+    survivor.state.watch();
+    let mut mover = survivor.mover(alloc, 2)?;
+    let parts = later_parts_of(alloc, &mut mover, &mut survivor.state);
+    drop(mover);
+    parts
+}
+
 fn moved_parts(rt: &impl Abort, alloc: Global) -> Result<Vec<Moved>, OutOfMemory> {
-    let consumer = consumer(alloc)?;
-    let producer = producer(rt, alloc)?;
-    let mut out = Vec::new(alloc);
-    let mut state = OpState::new(alloc, total());
-    state.step(bought(1, 1), &mut out)?;
-    state.step(bought(2, 2), &mut out)?;
-    state.watch();
-    let entries = state.entry_count();
-    assert!(rt; entries < 1000);
-    let mut mover = Mover::begin(alloc, 2, &consumer, &producer, entries)?;
-    state.step(bought(2, 5), &mut out)?;
-    state.step(bought(3, 1), &mut out)?;
-    parts_of(alloc, &mut mover, &state)
+    let mut survivor = opened(rt, alloc, total())?;
+    let parts = parts_of_two(alloc, &mut survivor);
+    drop(survivor);
+    parts
 }
 
 // Two items wait on the first in-edge; of the first out-edge the second item is kept, and the other one
@@ -100,14 +122,19 @@ fn entries() -> [Entry; 10] {
     ]
 }
 
+// The parts of the move, and its end.
+fn listed(alloc: Global) -> Result<Vec<Moved>, OutOfMemory> {
+    let mut parts = Vec::new(alloc);
+    for (number, entry) in (1..11).zip(entries()) {
+        parts.push(Moved::Chunk { number, entry })?;
+    }
+    parts.push(Moved::End { count: 10 })?;
+    Ok(parts)
+}
+
 #[test]
 fn a_move_is_what_its_list_says(rt: HostRuntime) -> Result<(), Fail> {
     let parts = moved_parts(&rt, rt.alloc())?;
-    let mut wanted = Vec::new(rt.alloc());
-    for (number, entry) in (1..11).zip(entries()) {
-        wanted.push(Moved::Chunk { number, entry })?;
-    }
-    wanted.push(Moved::End { count: 10 })?;
-    assert_eq!(rt; parts.as_slice(), wanted.as_slice());
+    assert_eq!(rt; parts.as_slice(), listed(rt.alloc())?.as_slice());
     Ok(())
 }

@@ -2,46 +2,35 @@
 ghost use Rattle.std.specs.Prelude.{◌≡◌, IfOk, Some, length};
 ghost use Rattle.stream_ops.specs.Spec.{IsSpec};
 
-use crate::edges::{consumer, has_produced, has_taken, producer};
-use crate::passing::{begin_another, hold, moved};
-use crate::rows::{crossing, given, join, keep, last, step_on, total, window};
+use crate::edges::{has_produced, has_taken};
+use crate::passing::{hold, moved};
+use crate::rows::{crossing, join, keep, last, total, window};
+use crate::survivor::{Survivor, opened};
 use catch_up::{CaughtUp, Newcomer};
-use flux_consumer::Consumer;
-use flux_producer::Producer;
 use std::alloc::Global;
 use std::process::Abort;
 use std::test::Fail;
-use stream_ops::{OpSpec, OpState};
+use stream_ops::OpSpec;
 use tuple_edge::{Entry, Item, OutOfMemory};
-
-// A watched operator after thirty rows. A move had begun after twenty, which another one replaces.
-fn watched(
-    alloc: Global,
-    consumer: &Consumer,
-    producer: &Producer,
-    spec: OpSpec,
-) -> Result<OpState, OutOfMemory>
-    requires { IsSpec spec }
-    ensures { IfOk result (λ state. state.old ≡ Some state.entries) }
-{
-    let mut out = Vec::new(alloc);
-    let mut state = given(alloc, spec, 20)?;
-    begin_another(alloc, consumer, producer, &mut state)?;
-    step_on(&mut state, 20, 30, &mut out)?;
-    state.watch();
-    Ok(state)
-}
 
 // A newcomer that holds the third and the fifth item of the first in-edge, one that it has, and one
 // of the second in-edge past a gap.
+fn hold_some(newcomer: &mut Newcomer) -> Result<(), OutOfMemory>
+    requires { length newcomer.old.held ≡ 2 }
+    ensures { length newcomer.new.held ≡ 2 }
+{
+    hold(newcomer, 0, 3)?;
+    hold(newcomer, 0, 5)?;
+    hold(newcomer, 0, 1)?;
+    hold(newcomer, 1, 2)?;
+    Ok(())
+}
+
 fn newcomer(alloc: Global) -> Result<Newcomer, OutOfMemory>
     ensures { IfOk result (λ newcomer. length newcomer.held ≡ 2) }
 {
     let mut newcomer = Newcomer::begin(alloc, 2, 2)?;
-    hold(&mut newcomer, 0, 3)?;
-    hold(&mut newcomer, 0, 5)?;
-    hold(&mut newcomer, 0, 1)?;
-    hold(&mut newcomer, 1, 2)?;
+    hold_some(&mut newcomer)?;
     Ok(newcomer)
 }
 
@@ -61,24 +50,80 @@ fn is_caught_up(
     Ok(())
 }
 
-// Moves an operator of these settings with its edges, and looks at what was rebuilt. Meanwhile what it
-// keeps has changed.
+// All of an operator is moved to a newcomer, which goes on with it. Nothing is left to take then.
+fn catch_up(
+    rt: &impl Abort,
+    alloc: Global,
+    survivor: &mut Survivor,
+    newcomer: &mut Newcomer,
+    spec: OpSpec,
+) -> Result<CaughtUp, Fail>
+    requires spec { IsSpec spec }
+    requires watched { survivor.old.state.old ≡ Some survivor.old.state.entries }
+    requires edges { length newcomer.old.held ≡ 2 }
+{
+    let count = moved(alloc, survivor, newcomer)?;
+    let ended = newcomer.end(2, count, spec, 1, 0, 2)?;
+    assert_eq!(rt; newcomer.taken(), 0);
+    Ok(ended.ok_or("not caught up")?)
+}
+
+fn caught_up(
+    rt: &impl Abort,
+    alloc: Global,
+    survivor: &mut Survivor,
+    spec: OpSpec,
+) -> Result<CaughtUp, Fail>
+    requires spec { IsSpec spec }
+    requires watched { survivor.old.state.old ≡ Some survivor.old.state.entries }
+{
+    let mut newcomer = newcomer(alloc)?;
+    let caught = catch_up(rt, alloc, survivor, &mut newcomer, spec);
+    drop(newcomer);
+    caught
+}
+
+// What is rebuilt of an operator that keeps these entries is as it was when its move began.
+fn moves_kept(
+    rt: &impl Abort,
+    alloc: Global,
+    survivor: &mut Survivor,
+    spec: OpSpec,
+    kept: &[Entry],
+) -> Result<(), Fail>
+    requires spec { IsSpec spec }
+    requires watched { survivor.old.state.old ≡ Some survivor.old.state.entries }
+{
+    let caught = caught_up(rt, alloc, survivor, spec)?;
+    let same = is_caught_up(rt, alloc, &caught, kept);
+    drop(caught);
+    same
+}
+
+// Moves an operator with its edges, and looks at what was rebuilt. Meanwhile what it keeps has changed.
+fn is_moved(
+    rt: &impl Abort,
+    alloc: Global,
+    survivor: &mut Survivor,
+    spec: OpSpec,
+) -> Result<(), Fail>
+    requires { IsSpec spec }
+{
+    survivor.prepare(alloc)?;
+    let kept = survivor.state.entries(alloc)?;
+    moves_kept(rt, alloc, survivor, spec, &kept)?;
+    let now = survivor.state.entries(alloc)?;
+    assert_eq!(rt; now.as_slice() == kept.as_slice(), kept.is_empty());
+    Ok(())
+}
+
 fn moves(rt: &impl Abort, alloc: Global, spec: OpSpec) -> Result<(), Fail>
     requires { IsSpec spec }
 {
-    let consumer = consumer(alloc)?;
-    let producer = producer(rt, alloc)?;
-    let mut state = watched(alloc, &consumer, &producer, spec)?;
-    let kept = state.entries(alloc)?;
-    let mut newcomer = newcomer(alloc)?;
-    let count = moved(alloc, &consumer, &producer, &mut state, &mut newcomer)?;
-    let ended = newcomer.end(2, count, spec, 1, 0, 2)?;
-    let caught = ended.ok_or("not caught up")?;
-    is_caught_up(rt, alloc, &caught, &kept)?;
-    assert_eq!(rt; newcomer.taken(), 0);
-    let now = state.entries(alloc)?;
-    assert_eq!(rt; now.as_slice() == kept.as_slice(), kept.is_empty());
-    Ok(())
+    let mut survivor = opened(rt, alloc, spec)?;
+    let moved = is_moved(rt, alloc, &mut survivor, spec);
+    drop(survivor);
+    moved
 }
 
 #[test]

@@ -2,14 +2,13 @@
 ghost use Rattle.state_mover.specs.MoverView.{IsMidway};
 ghost use Rattle.std.specs.Prelude.{◌≡◌, ◌<◌, IfSome, IsSome, OnOk, Some, length};
 
-use crate::rows::step_on;
+use crate::rows::go_on;
+use crate::survivor::Survivor;
 use catch_up::{Hold, Newcomer};
-use flux_consumer::Consumer;
-use flux_producer::Producer;
 use state_mover::{Moved, Mover};
 use std::alloc::Global;
 use stream_ops::OpState;
-use tuple_edge::{Item, OutOfMemory, Row};
+use tuple_edge::{Item, OutOfMemory};
 
 // Holds an item.
 pub(crate) fn hold(newcomer: &mut Newcomer, edge: u32, number: u64) -> Result<Hold, OutOfMemory>
@@ -34,10 +33,10 @@ fn pass_one(mover: &mut Mover, state: &OpState, newcomer: &mut Newcomer) -> Resu
 
 // Gives all parts of a move to its newcomer, and a hundred rows to the operator after each of them.
 fn pass_all(
+    alloc: Global,
     mover: &mut Mover,
     state: &mut OpState,
     newcomer: &mut Newcomer,
-    out: &mut Vec<Row>,
 ) -> Result<(), OutOfMemory>
     requires watched { IsSome state.old.old }
     requires midway { IfSome state.old.old (IsMidway mover.old) }
@@ -45,45 +44,24 @@ fn pass_all(
 {
     for _part in 0..mover.total() {
         pass_one(mover, state, newcomer)?;
-        step_on(state, 100, 200, out)?;
+        go_on(alloc, state, 100, 200)?;
     }
-    Ok(())
-}
-
-// Begins a move of a watched operator, and gives its first part to nobody.
-pub(crate) fn begin_another(
-    alloc: Global,
-    consumer: &Consumer,
-    producer: &Producer,
-    state: &mut OpState,
-) -> Result<(), OutOfMemory> {
-    let entries = state.entry_count();
-    if entries > 1000 {
-        return Err(OutOfMemory);
-    }
-    state.watch();
-    let mut mover = Mover::begin(alloc, 1, consumer, producer, entries)?;
-    let _part = mover.next(state);
     Ok(())
 }
 
 // Moves a watched operator with its edges to a newcomer, and gives how many entries that took.
 pub(crate) fn moved(
     alloc: Global,
-    consumer: &Consumer,
-    producer: &Producer,
-    state: &mut OpState,
+    survivor: &mut Survivor,
     newcomer: &mut Newcomer,
 ) -> Result<u64, OutOfMemory>
-    requires watched { state.old.old ≡ Some state.old.entries }
+    requires watched { survivor.old.state.old ≡ Some survivor.old.state.entries }
     ensures held { OnOk result (newcomer.new.held ≡ newcomer.old.held) }
 {
-    let mut out = Vec::new(alloc);
-    let entries = state.entry_count();
-    if entries > 1000 {
-        return Err(OutOfMemory);
-    }
-    let mut mover = Mover::begin(alloc, 2, consumer, producer, entries)?;
-    pass_all(&mut mover, state, newcomer, &mut out)?;
-    Ok(mover.total() - 1)
+    let mut mover = survivor.mover(alloc, 2)?;
+    let passed = pass_all(alloc, &mut mover, &mut survivor.state, newcomer);
+    let entries = mover.total() - 1;
+    drop(mover);
+    passed?;
+    Ok(entries)
 }
