@@ -1,5 +1,5 @@
 -- How a core opens: its nodes in their numbers at the start, and nothing sent.
-use Rattle.std.specs.Prelude.{◌≡◌, ◌<◌, ◌*◌, ◌⊎◌, ℕ, false, List, [], All, IsTrue, length, map, slice_get}
+use Rattle.std.specs.Prelude.{◌≡◌, ◌<◌, ◌*◌, ◌⊎◌, ℕ, false, List, [], ◌∷◌, ◌++◌, All, IsTrue, length, map, slice_get}
 use Rattle.tuple_edge.specs.Input.{Input}
 use Rattle.tuple_edge.specs.declared.node.NodeId.{NodeId}
 use Rattle.tuple_edge.specs.declared.node.NodeId.TheVariants as node
@@ -11,7 +11,7 @@ use Rattle.pair_machine.specs.Machine.{new_node}
 use Rattle.ingress_egress.specs.EgressView.{EgressView}
 use Rattle.ingress_egress.specs.IngressView.{IngressView}
 use Rattle.replica_node.specs.ReplicaView.{ReplicaView}
-use Rattle.flux_core.specs.CoreView.{Content, CoreView, Log, any_controller, any_replica, core_of, pair_place, replica_place}
+use Rattle.flux_core.specs.CoreView.{Content, ControllerIs, CoreView, Log, ReplicaIs, any_controller, any_replica, core_of, pair_place, replica_place}
 use Rattle.flux_core.specs.Stands.{ContentStands}
 
 -- these nodes, with no packet ever sent
@@ -26,6 +26,18 @@ pub record AreEmpty (logs : List Log) (nodes : ℕ) : Type 0 where
 -- a node of this name stands for its numbers at the start, whatever the inputs
 abbrev pub Opens : PlanView → NodeId → Content → Type 0
 Opens plan n content = (rows : List Input) → ContentStands plan rows n content (new_node n)
+
+-- a list has one replica more than another, at its end, which opens as the node of this name
+pub record HasReplicaMore (plan : PlanView) (n : NodeId) (before after : List ReplicaView) : Type 0 where
+  pub last : ReplicaView
+  pub joined : after ≡ before ++ last ∷ []
+  pub opens : Opens plan n (ReplicaIs last)
+
+-- the same of controllers
+pub record HasControllerMore (plan : PlanView) (n : NodeId) (before after : List ControllerView) : Type 0 where
+  pub last : ControllerView
+  pub joined : after ≡ before ++ last ∷ []
+  pub opens : Opens plan n (ControllerIs last)
 
 -- a pair stands before another: in an earlier stage, or in the same one as an earlier partition
 abbrev pub IsBefore : (stage part of_stage of_part : ℕ) → Type 0

@@ -1,12 +1,13 @@
 // How a core is made.
 ghost use Rattle.flux_core.specs.CoreView.{inputs_of};
-ghost use Rattle.flux_core.specs.Opening.{AreEmpty, HasPairsBefore, bare_core};
+ghost use Rattle.flux_core.specs.Opening.{AreEmpty, HasControllerMore, HasPairsBefore, HasReplicaMore, bare_core};
 ghost use Rattle.flux_core.specs.Stands.{IsGiven, StandsFor};
 ghost use Rattle.pair_machine.specs.Machine.{opening};
 ghost use Rattle.plan_reader.specs.Nodes.{has_pair};
 ghost use Rattle.plan_reader.specs.PlanView.{IsPlan};
 ghost use Rattle.std.specs.Prelude.{◌≡◌, ◌≤◌, ◌+◌, [], true, IfOk, IsTrue, OnOk, length};
 ghost use Rattle.trade_text.specs.TradesView.{inputs_in};
+ghost use Rattle.tuple_edge.specs.declared.node.NodeId.TheVariants as node;
 
 use crate::logs::Logs;
 use crate::nodes::Core;
@@ -56,6 +57,40 @@ struct Pairs {
     controls: Vec<PairControl>,
 }
 
+// A replica joins those before it, as it opens.
+fn add_replica(
+    replicas: &mut Vec<Replica>,
+    alloc: Global,
+    plan: &Plan,
+    stage: u32,
+    part: u32,
+    which: Which,
+) -> Result<(), OutOfMemory>
+    requires { IsTrue (has_pair plan.now stage part) }
+    ensures { OnOk result (HasReplicaMore plan.now (node.Replica stage part which) replicas.old.items replicas.new.items) }
+{
+    let replica = Replica::new(alloc, plan, stage, part, which)?;
+    replicas.push(replica)?;
+    Ok(())
+}
+
+// A controller joins those before it, as it opens.
+fn add_control(
+    controls: &mut Vec<PairControl>,
+    alloc: Global,
+    plan: &Plan,
+    stage: u32,
+    part: u32,
+) -> Result<(), OutOfMemory>
+    requires limits { IsPlan plan.now }
+    requires there { IsTrue (has_pair plan.now stage part) }
+    ensures { OnOk result (HasControllerMore plan.now (node.Control stage part) controls.old.items controls.new.items) }
+{
+    let control = PairControl::new(alloc, stage, part, plan.sources(stage))?;
+    controls.push(control)?;
+    Ok(())
+}
+
 impl Pairs {
     // The pair of a partition joins those before it.
     fn add(&mut self, alloc: Global, plan: &Plan, stage: u32, part: u32) -> Result<(), OutOfMemory>
@@ -64,12 +99,9 @@ impl Pairs {
         requires before { HasPairsBefore plan.now self.old.replicas.items self.old.controls.items stage part }
         ensures { OnOk result (HasPairsBefore plan.now self.new.replicas.items self.new.controls.items stage (part + 1)) }
     {
-        let a = Replica::new(alloc, plan, stage, part, Which::A)?;
-        let b = Replica::new(alloc, plan, stage, part, Which::B)?;
-        let control = PairControl::new(alloc, stage, part, plan.sources(stage))?;
-        self.replicas.push(a)?;
-        self.replicas.push(b)?;
-        self.controls.push(control)?;
+        add_replica(&mut self.replicas, alloc, plan, stage, part, Which::A)?;
+        add_replica(&mut self.replicas, alloc, plan, stage, part, Which::B)?;
+        add_control(&mut self.controls, alloc, plan, stage, part)?;
         Ok(())
     }
 
