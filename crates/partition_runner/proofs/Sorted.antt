@@ -17,14 +17,13 @@ use Rattle.pair_machine.specs.declared.order.Order.{Order}
 use Rattle.pair_machine.proofs.Lists.{among_last, among_left, each_at, each_more}
 use Rattle.ingress_egress.specs.EgressView.{EgressView}
 use Rattle.ingress_egress.specs.IngressView.{IngressView}
-use Rattle.pair_control.specs.ControllerView.{ControllerView}
 use Rattle.pair_control.specs.StandsFor as control
 use Rattle.replica_node.specs.ReplicaView.{ReplicaView, node_of}
 use Rattle.replica_node.specs.StandsFor as replica
 use Rattle.partition_runner.specs.NodeOrder.{controls_among, nodes_before_egress, nodes_of, replicas_among}
 use Rattle.partition_runner.specs.Ran.{IsLegalRun, history_of}
 use Rattle.partition_runner.specs.Runs.{IsRun, history_in, ids_in}
-use Rattle.partition_runner.specs.Sorted.{AreSorted, FoundEgress, FoundIngress, IsNoEgress, IsNoIngress, control_of, controls_in, named_histories, named_parts, replica_of, replicas_in}
+use Rattle.partition_runner.specs.Sorted.{AreSorted, FoundEgress, FoundIngress, HasOneMore, IsNoEgress, IsNoIngress, control_of, controls_in, egress_with, ingress_with, named_histories, named_parts, replica_of, replicas_in}
 use Rattle.run_node.specs.States.{StandsFor, id_of}
 use Rattle.partition_runner.specs.declared.ran.Ran.{Ran}
 use Rattle.partition_runner.specs.declared.sorting.Sorted.{Sorted}
@@ -60,42 +59,29 @@ histories_more ps p hs hs_after h e n items old =
     let last : ◌≡◌ {A = NodeId × List Stamped} (h.node, h.entries.items) (id_of p.0, p.1) = λ i. (n i, items i) in
     ap named_histories e ∙ (map_more (λ (x : History). (x.node, x.entries.items)) hs h ∙ ((λ i. old i ++ last i ∷ []) ∙ sym (map_more (λ (q : NodeState × List Stamped). (id_of q.0, q.1)) ps p)))
 
-module _ (parts : List (NodeState × List Stamped)) (s t : Sorted) (items : List Stamped) (h : History) (old : AreSorted parts s) (pushed : t.histories.items ≡ s.histories.items ++ h ∷ []) (entries : h.entries.items ≡ items) where
-  pub more_ingress : (i : IngressView) → h.node ≡ node.Ingress → t.ingress ≡ Some i → t.replicas.items ≡ s.replicas.items → t.controls.items ≡ s.controls.items → t.egress ≡ s.egress → AreSorted (parts ++ (state.Ingress i, items) ∷ []) t
-  more_ingress i n a b c d = record {
-    ingress = subst (λ o. FoundIngress o (parts ++ (state.Ingress i, items) ∷ [])) (sym a) (items, among_last (state.Ingress i, items) parts);
-    replicas = b ∙ (old.replicas ∙ (sym (append-nil (replicas_in parts)) ∙ sym (replicas_more parts (state.Ingress i, items))));
-    controls = c ∙ (old.controls ∙ (sym (append-nil (controls_in parts)) ∙ sym (controls_more parts (state.Ingress i, items))));
-    egress = subst (λ o. FoundEgress o (parts ++ (state.Ingress i, items) ∷ [])) (sym d) (egress_still s.egress parts (state.Ingress i, items) tt old.egress);
-    histories = histories_more parts (state.Ingress i, items) s.histories.items t.histories.items h pushed n entries old.histories;
-  }
+ingress_more : (s : NodeState) (items : List Stamped) (o : Option IngressView) (ps : List (NodeState × List Stamped)) → FoundIngress o ps → FoundIngress (ingress_with s o) (ps ++ (s, items) ∷ [])
+ingress_more (state.Ingress i) items o ps h = (items, among_last (state.Ingress i, items) ps)
+ingress_more (state.Replica r) items o ps h = ingress_still o ps (state.Replica r, items) tt h
+ingress_more (state.Control c) items o ps h = ingress_still o ps (state.Control c, items) tt h
+ingress_more (state.Egress e) items o ps h = ingress_still o ps (state.Egress e, items) tt h
 
-  pub more_replica : (r : ReplicaView) → h.node ≡ node_of r.role → t.ingress ≡ s.ingress → t.replicas.items ≡ s.replicas.items ++ r ∷ [] → t.controls.items ≡ s.controls.items → t.egress ≡ s.egress → AreSorted (parts ++ (state.Replica r, items) ∷ []) t
-  more_replica r n a b c d = record {
-    ingress = subst (λ o. FoundIngress o (parts ++ (state.Replica r, items) ∷ [])) (sym a) (ingress_still s.ingress parts (state.Replica r, items) tt old.ingress);
-    replicas = b ∙ (ap (λ l. l ++ r ∷ []) old.replicas ∙ sym (replicas_more parts (state.Replica r, items)));
-    controls = c ∙ (old.controls ∙ (sym (append-nil (controls_in parts)) ∙ sym (controls_more parts (state.Replica r, items))));
-    egress = subst (λ o. FoundEgress o (parts ++ (state.Replica r, items) ∷ [])) (sym d) (egress_still s.egress parts (state.Replica r, items) tt old.egress);
-    histories = histories_more parts (state.Replica r, items) s.histories.items t.histories.items h pushed n entries old.histories;
-  }
+egress_more : (s : NodeState) (items : List Stamped) (o : Option EgressView) (ps : List (NodeState × List Stamped)) → FoundEgress o ps → FoundEgress (egress_with s o) (ps ++ (s, items) ∷ [])
+egress_more (state.Ingress i) items o ps h = egress_still o ps (state.Ingress i, items) tt h
+egress_more (state.Replica r) items o ps h = egress_still o ps (state.Replica r, items) tt h
+egress_more (state.Control c) items o ps h = egress_still o ps (state.Control c, items) tt h
+egress_more (state.Egress e) items o ps h = (items, among_last (state.Egress e, items) ps)
 
-  pub more_control : (c : ControllerView) → h.node ≡ control.node_of c → t.ingress ≡ s.ingress → t.replicas.items ≡ s.replicas.items → t.controls.items ≡ s.controls.items ++ c ∷ [] → t.egress ≡ s.egress → AreSorted (parts ++ (state.Control c, items) ∷ []) t
-  more_control x n a b c d = record {
-    ingress = subst (λ o. FoundIngress o (parts ++ (state.Control x, items) ∷ [])) (sym a) (ingress_still s.ingress parts (state.Control x, items) tt old.ingress);
-    replicas = b ∙ (old.replicas ∙ (sym (append-nil (replicas_in parts)) ∙ sym (replicas_more parts (state.Control x, items))));
-    controls = c ∙ (ap (λ l. l ++ x ∷ []) old.controls ∙ sym (controls_more parts (state.Control x, items)));
-    egress = subst (λ o. FoundEgress o (parts ++ (state.Control x, items) ∷ [])) (sym d) (egress_still s.egress parts (state.Control x, items) tt old.egress);
-    histories = histories_more parts (state.Control x, items) s.histories.items t.histories.items h pushed n entries old.histories;
-  }
-
-  pub more_egress : (x : EgressView) → h.node ≡ node.Egress → t.ingress ≡ s.ingress → t.replicas.items ≡ s.replicas.items → t.controls.items ≡ s.controls.items → t.egress ≡ Some x → AreSorted (parts ++ (state.Egress x, items) ∷ []) t
-  more_egress x n a b c d = record {
-    ingress = subst (λ o. FoundIngress o (parts ++ (state.Egress x, items) ∷ [])) (sym a) (ingress_still s.ingress parts (state.Egress x, items) tt old.ingress);
-    replicas = b ∙ (old.replicas ∙ (sym (append-nil (replicas_in parts)) ∙ sym (replicas_more parts (state.Egress x, items))));
-    controls = c ∙ (old.controls ∙ (sym (append-nil (controls_in parts)) ∙ sym (controls_more parts (state.Egress x, items))));
-    egress = subst (λ o. FoundEgress o (parts ++ (state.Egress x, items) ∷ [])) (sym d) (items, among_last (state.Egress x, items) parts);
-    histories = histories_more parts (state.Egress x, items) s.histories.items t.histories.items h pushed n entries old.histories;
-  }
+-- a node's own part was put to those of its kind, and then its history behind the others
+pub more_part : (parts : List (NodeState × List Stamped)) (before put after : Sorted) (s : NodeState) (items : List Stamped) (h : History) → AreSorted parts before → HasOneMore s before put →
+    after.ingress ≡ put.ingress → after.replicas.items ≡ put.replicas.items → after.controls.items ≡ put.controls.items → after.egress ≡ put.egress → after.histories.items ≡ put.histories.items ++ h ∷ [] →
+    h.node ≡ id_of s → h.entries.items ≡ items → AreSorted (parts ++ (s, items) ∷ []) after
+more_part parts before put after s items h old one ingress replicas controls egress histories n entries = record {
+  ingress = subst (λ o. FoundIngress o (parts ++ (s, items) ∷ [])) (sym (ingress ∙ one.ingress)) (ingress_more s items before.ingress parts old.ingress);
+  replicas = replicas ∙ (one.replicas ∙ (ap (λ l. l ++ replica_of s) old.replicas ∙ sym (replicas_more parts (s, items))));
+  controls = controls ∙ (one.controls ∙ (ap (λ l. l ++ control_of s) old.controls ∙ sym (controls_more parts (s, items))));
+  egress = subst (λ o. FoundEgress o (parts ++ (s, items) ∷ [])) (sym (egress ∙ one.egress)) (egress_more s items before.egress parts old.egress);
+  histories = histories_more parts (s, items) before.histories.items after.histories.items h (histories ∙ ap (λ l. l ++ h ∷ []) one.histories) n entries old.histories;
+}
 
 -- ---- names
 

@@ -25,6 +25,26 @@ control_of (state.Replica r) = []
 control_of (state.Control c) = c ∷ []
 control_of (state.Egress e) = []
 
+abbrev pub ingress_with : NodeState → Option IngressView → Option IngressView
+ingress_with (state.Ingress i) before = Some i
+ingress_with (state.Replica r) before = before
+ingress_with (state.Control c) before = before
+ingress_with (state.Egress e) before = before
+
+abbrev pub egress_with : NodeState → Option EgressView → Option EgressView
+egress_with (state.Ingress i) before = before
+egress_with (state.Replica r) before = before
+egress_with (state.Control c) before = before
+egress_with (state.Egress e) before = Some e
+
+-- one node's own part was put to those of its kind
+pub record HasOneMore (s : NodeState) (before after : Sorted) : Type 0 where
+  pub ingress : after.ingress ≡ ingress_with s before.ingress
+  pub replicas : after.replicas.items ≡ before.replicas.items ++ replica_of s
+  pub controls : after.controls.items ≡ before.controls.items ++ control_of s
+  pub egress : after.egress ≡ egress_with s before.egress
+  pub histories : after.histories.items ≡ before.histories.items
+
 -- the replicas among these, and the controllers, in their order
 abbrev pub replicas_in : List (NodeState × List Stamped) → List ReplicaView
 replicas_in [] = []

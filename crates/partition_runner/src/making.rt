@@ -3,9 +3,11 @@ ghost use Rattle.pair_machine.specs.Lists.{Each};
 ghost use Rattle.partition_runner.specs.Drafts.{all_unlinked, unlinked};
 ghost use Rattle.partition_runner.specs.Ready.{AreNodesOf, HaveTheirLinks};
 ghost use Rattle.plan_reader.specs.Nodes.{has_node};
+ghost use Rattle.plan_reader.specs.PlanView.{IsPlan};
+ghost use Rattle.replica_node.specs.Course.{AreTimely};
 ghost use Rattle.run_node.specs.NodeView.{name_of};
 ghost use Rattle.run_node.specs.States.{id_of};
-ghost use Rattle.std.specs.Prelude.{◌≡◌, [], true, IfOk, IfSome, IsTrue, is_some, map};
+ghost use Rattle.std.specs.Prelude.{◌≡◌, ◌≤◌, [], true, IfOk, IfSome, IsTrue, is_some, map, vec_capacity, vec_len};
 ghost use Rattle.trade_text.specs.TradesView.{inputs_in};
 
 use crate::connecting::connect_all;
@@ -88,10 +90,25 @@ fn finished<N: RunNames, M: Links, T: Tap>(
     let _stages = plan.stages();
     let _rows = trades.rows();
     let mut nodes = Vec::with_capacity(alloc, drafts.len())?;
-    for draft in drafts {
-        nodes.push(draft.finish(alloc))?;
-    }
+    finish_all(alloc, drafts, &mut nodes);
     Ok(nodes)
+}
+
+// Puts the nodes of these drafts, in their order, into a list with room for them.
+fn finish_all<N: RunNames, M: Links, T: Tap>(
+    alloc: Global,
+    drafts: Vec<Draft<N, M, T>>,
+    nodes: &mut Vec<Node<N, NodeState, M, T>>,
+)
+    requires planned { IsPlan N.plan }
+    requires timely { AreTimely N.inputs }
+    requires links { HaveTheirLinks N.plan drafts.items }
+    requires room { (vec_len nodes.old ≡ 0) × (vec_len drafts ≤ vec_capacity nodes.old) }
+    ensures { map (name_of id_of) nodes.new.items ≡ drafts.items }
+{
+    for draft in drafts {
+        nodes.push_reserved(draft.finish(alloc));
+    }
 }
 
 /// All nodes of the plan as they open, in their order, with their links; egress has the tap.

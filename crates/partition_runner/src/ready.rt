@@ -3,7 +3,7 @@ ghost use Rattle.partition_runner.specs.NodeOrder.{nodes_of};
 ghost use Rattle.partition_runner.specs.Runs.{IsRun, TapOfSome, parts_in};
 ghost use Rattle.partition_runner.specs.Sorted.{AreSorted};
 ghost use Rattle.run_node.specs.States.{StandsFor, id_of, rows_of};
-ghost use Rattle.std.specs.Prelude.{◌≡◌, ◌<◌, [], Some};
+ghost use Rattle.std.specs.Prelude.{◌≡◌, ◌≤◌, ◌<◌, [], IfOk, Some, vec_capacity, vec_len};
 ghost use Rattle.trade_text.specs.TradesView.{inputs_in};
 
 use crate::gate::Gate;
@@ -23,6 +23,25 @@ use std::thread::Threads;
 use trade_text::Trades;
 use tuple_edge::OutOfMemory;
 
+// Room for what is left of the nodes of a plan: in their order, and kind by kind.
+#[derive(Drop)]
+struct Room {
+    parts: Vec<Part<NodeState>>,
+    sorted: Sorted,
+}
+
+impl Room {
+    // Room for so many nodes.
+    fn new(alloc: Global, nodes: usize) -> Result<Room, OutOfMemory>
+        ensures parts { IfOk result (λ room. (vec_len room.parts ≡ 0) × (nodes ≤ vec_capacity room.parts)) }
+        ensures sorted { IfOk result (λ room. AreSorted [] room.sorted) }
+    {
+        let parts = Vec::with_capacity(alloc, nodes)?;
+        let sorted = Sorted::with_room(alloc, nodes)?;
+        Ok(Room { parts, sorted })
+    }
+}
+
 /// All nodes of a plan on the board, as they open, with their links, a tap beside egress, and room for
 /// what is left of them.
 #[derive(Drop)]
@@ -30,8 +49,7 @@ pub(crate) struct Ready<N: RunNames, M: Links, T: Tap> {
     board: Board<Node<N, NodeState, M, T>>,
     seats: Vec<BoardSeat<Node<N, NodeState, M, T>>>,
     places: usize,
-    parts: Vec<Part<NodeState>>,
-    room: Sorted,
+    room: Room,
 }
 
 impl<N: RunNames, M: Links, T: Tap> Model for Ready<N, M, T> {
@@ -47,7 +65,7 @@ impl<N: RunNames, M: Links, T: Tap> Model for Ready<N, M, T> {
     ghost view = { λ r. map (name_of id_of) (opening_of r.board) };
 
     ghost invariant = { λ r. ((0 < r.places) × (length (opening_of r.board) ≡ r.places)) × (AreAll r.board r.seats.items × AllHoldNone r.seats.items)
-        × AreNodesOf N.plan (map (name_of id_of) (opening_of r.board)) × ((vec_len r.parts ≡ 0) × (r.places ≤ vec_capacity r.parts)) × AreSorted [] r.room };
+        × AreNodesOf N.plan (map (name_of id_of) (opening_of r.board)) × ((vec_len r.room.parts ≡ 0) × (r.places ≤ vec_capacity r.room.parts)) × AreSorted [] r.room.sorted };
 }
 
 /// Makes the nodes, their links and the board for so many workers.
@@ -66,8 +84,7 @@ pub(crate) fn make_ready<N: RunNames, M: Links, T: Tap + Send>(
 {
     let nodes = make_nodes(alloc, plan, trades, tap, links)?;
     let places = nodes.len();
-    let parts = Vec::with_capacity(alloc, places)?;
-    let room = Sorted::with_room(alloc, places)?;
+    let room = Room::new(alloc, places)?;
     let Ok((board, seats)) = Board::new(alloc, nodes, threads) else {
         return Err(OutOfMemory);
     };
@@ -75,7 +92,6 @@ pub(crate) fn make_ready<N: RunNames, M: Links, T: Tap + Send>(
         board,
         seats,
         places,
-        parts,
         room,
     })
 }
@@ -113,9 +129,9 @@ pub(crate) fn run_ready<N: RunNames, M: Links, T: Tap + Send, R: Threads + Sync,
         board,
         seats,
         places,
-        parts,
         room,
     } = ready;
+    let Room { parts, sorted } = room;
     let shared = Shared {
         plan,
         script,
@@ -128,7 +144,7 @@ pub(crate) fn run_ready<N: RunNames, M: Links, T: Tap + Send, R: Threads + Sync,
     let failed = shared.failed.load(SeqCst);
     Ended {
         parts,
-        room,
+        room: sorted,
         tap,
         failed,
     }

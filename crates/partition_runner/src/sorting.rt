@@ -3,11 +3,11 @@ ghost use Rattle.pair_machine.specs.Lists.{Among};
 ghost use Rattle.partition_runner.specs.NodeOrder.{nodes_of};
 ghost use Rattle.partition_runner.specs.Ran.{IsLegalRun};
 ghost use Rattle.partition_runner.specs.Runs.{IsRun, parts_in};
-ghost use Rattle.partition_runner.specs.Sorted.{AreSorted};
+ghost use Rattle.partition_runner.specs.Sorted.{AreSorted, HasOneMore};
 ghost use Rattle.run_node.specs.States.{StandsFor, id_of};
 ghost use Rattle.run_node.specs.declared.state.NodeState.TheVariants as state;
 ghost use Rattle.run_node.specs.declared.state.NodeState.{NodeState};
-ghost use Rattle.std.specs.Prelude.{◌++◌, ◌∷◌, [], IfOk, List};
+ghost use Rattle.std.specs.Prelude.{◌++◌, ◌∷◌, [], IfOk, List, OnOk};
 ghost use Rattle.tuple_edge.specs.declared.event.Stamped.{Stamped};
 
 use crate::ran::Ran;
@@ -46,50 +46,56 @@ impl Sorted {
             histories,
         })
     }
+
+    // Puts a node's own part to those of its kind.
+    fn add(&mut self, state: NodeState) -> Result<(), OutOfMemory>
+        ensures { OnOk result (HasOneMore state self.old self.new) }
+    {
+        match state {
+            NodeState::Ingress(node) => {
+                self.ingress = Some(node);
+                Ok(())
+            }
+            NodeState::Replica(node) => {
+                self.replicas.push(node)?;
+                Ok(())
+            }
+            NodeState::Control(node) => {
+                self.controls.push(node)?;
+                Ok(())
+            }
+            NodeState::Egress(node) => {
+                self.egress = Some(node);
+                Ok(())
+            }
+        }
+    }
 }
 
 // One part more.
-fn with_part(sorted: Sorted, part: Part<NodeState>) -> Result<Sorted, OutOfMemory>
-    ensures { (parts : List (NodeState × List Stamped)) → AreSorted parts sorted
-        → IfOk result (AreSorted (parts ++ (part.state, part.history.items) ∷ [])) }
+fn add_part(sorted: &mut Sorted, part: Part<NodeState>) -> Result<(), OutOfMemory>
+    ensures { OnOk result ((parts : List (NodeState × List Stamped)) → AreSorted parts sorted.old
+        → AreSorted (parts ++ (part.state, part.history.items) ∷ []) sorted.new) }
 {
-    let mut sorted = sorted;
     let Part { state, history } = part;
     let node = state.id();
+    sorted.add(state)?;
     sorted.histories.push(History {
         node,
         entries: history,
     })?;
-    match state {
-        NodeState::Ingress(node) => {
-            sorted.ingress = Some(node);
-            Ok(sorted)
-        }
-        NodeState::Replica(node) => {
-            sorted.replicas.push(node)?;
-            Ok(sorted)
-        }
-        NodeState::Control(node) => {
-            sorted.controls.push(node)?;
-            Ok(sorted)
-        }
-        NodeState::Egress(node) => {
-            sorted.egress = Some(node);
-            Ok(sorted)
-        }
-    }
+    Ok(())
 }
 
 // All parts, kind by kind.
-fn sort_all(room: Sorted, parts: Vec<Part<NodeState>>) -> Result<Sorted, OutOfMemory>
-    requires { AreSorted [] room }
-    ensures { IfOk result (AreSorted (parts_in parts.items)) }
+fn sort_all(sorted: &mut Sorted, parts: Vec<Part<NodeState>>) -> Result<(), OutOfMemory>
+    requires { AreSorted [] sorted.old }
+    ensures { OnOk result (AreSorted (parts_in parts.items) sorted.new) }
 {
-    let mut sorted = room;
     for part in parts {
-        sorted = with_part(sorted, part)?;
+        add_part(sorted, part)?;
     }
-    Ok(sorted)
+    Ok(())
 }
 
 /// What a run has left of the nodes of a plan, kind by kind, in the room that was made for it.
@@ -102,7 +108,8 @@ pub(crate) fn ran_of<N: RunNames>(
     ensures run { IfOk result (IsLegalRun N.plan N.inputs N.script) }
     ensures egress { IfOk result (λ ran. (h : List Stamped) × Among (state.Egress ran.egress, h) (parts_in parts.items)) }
 {
-    let sorted = sort_all(room, parts)?;
+    let mut sorted = room;
+    sort_all(&mut sorted, parts)?;
     let Sorted {
         ingress,
         replicas,

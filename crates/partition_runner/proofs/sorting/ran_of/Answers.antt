@@ -6,16 +6,16 @@ use Rattle.partition_runner.proofs.Sorted.{egress_there, ingress_there, legal_ru
 use Rattle.partition_runner.proofs.sorting.ran_of.Goals as goal
 
 pub unreachable-requires : goal.unreachable-requires
-unreachable-requires g c = ingress_there g.N.RunNames.plan (parts_in c.args.parts.items) c.requires.run.nodes (subst (λ o. FoundIngress o (parts_in c.args.parts.items)) c.in_default.is c.in_ok-sorted.ensures.ingress)
+unreachable-requires g c = ingress_there g.N.RunNames.plan (parts_in c.args.parts.items) c.requires.run.nodes (subst (λ o. FoundIngress o (parts_in c.args.parts.items)) c.in_default.is c.in_ok-sort_all.ensures.ingress)
 
 pub unreachable-requires-in_default-egress : goal.unreachable-requires-in_default-egress
-unreachable-requires-in_default-egress g c = egress_there g.N.RunNames.plan (parts_in c.args.parts.items) c.requires.run.nodes (subst (λ o. FoundEgress o (parts_in c.args.parts.items)) c.in_default-egress.is c.in_ok-sorted.ensures.egress)
+unreachable-requires-in_default-egress g c = egress_there g.N.RunNames.plan (parts_in c.args.parts.items) c.requires.run.nodes (subst (λ o. FoundEgress o (parts_in c.args.parts.items)) c.in_default-egress.is c.in_ok-sort_all.ensures.egress)
 
 pub returns-clause-run : goal.returns-clause-run
 returns-clause-run g c =
-    let s = c.in_ok-sorted.sorted in
+    let s = c.sort_all.new.sorted in
     let ran : Ran = record { ingress = c.in-Some.ingress; replicas = s.replicas; controls = s.controls; egress = c.in-Some-egress.egress; histories = s.histories } in
-    legal_run g.N.RunNames.plan g.N.RunNames.inputs g.N.RunNames.script (parts_in c.args.parts.items) s ran c.requires.run c.in_ok-sorted.ensures c.in-Some.is c.in-Some-egress.is refl refl refl
+    legal_run g.N.RunNames.plan g.N.RunNames.inputs g.N.RunNames.script (parts_in c.args.parts.items) s ran c.requires.run c.in_ok-sort_all.ensures c.in-Some.is c.in-Some-egress.is refl refl refl
 
 pub returns-clause-egress : goal.returns-clause-egress
-returns-clause-egress g c = subst (λ o. FoundEgress o (parts_in c.args.parts.items)) c.in-Some-egress.is c.in_ok-sorted.ensures.egress
+returns-clause-egress g c = subst (λ o. FoundEgress o (parts_in c.args.parts.items)) c.in-Some-egress.is c.in_ok-sort_all.ensures.egress

@@ -13,7 +13,7 @@ loop-part-preserved c =
       tt,
       record {
         left = append_assoc c.loop-part.yielded (c.in-Some.part ∷ []) (into_iter_items c.next.new.self) ∙ (ap (λ l. c.loop-part.yielded ++ l) (sym step.0) ∙ h.left);
-        done = subst (λ l. AreSorted l c.in_ok-sorted.sorted) (sym (parts_in-more c.loop-part.yielded c.in-Some.part)) (c.in_ok-sorted.ensures (parts_in c.loop-part.yielded) h.done);
+        done = subst (λ l. AreSorted l c.add_part.new.sorted) (sym (parts_in-more c.loop-part.yielded c.in-Some.part)) (c.in_ok-add_part.ensures (parts_in c.loop-part.yielded) h.done);
       },
     )
 
