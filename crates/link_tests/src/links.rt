@@ -1,8 +1,9 @@
 // Links beside the lists that they are to give.
-ghost use Rattle.std.specs.Prelude.{◌≡◌, ◌<◌, ◌≤◌, ◌+◌, ◌^◌, length};
+ghost use Rattle.std.specs.Prelude.{◌≡◌, ◌<◌, ◌≤◌, ◌+◌, ◌^◌, [], length};
 
 use flux_link::{Arrival, Choice, Inlet, LossyIn, MemLink, Outlet, RING_PACKETS, ring};
 use std::alloc::Global;
+use std::process::Abort;
 use std::test::Fail;
 use std::thread;
 use tuple_edge::{Body, OutOfMemory, Packet};
@@ -53,9 +54,10 @@ fn indexes<I: Inlet>(alloc: Global, inlet: &mut I) -> Result<Vec<u64>, OutOfMemo
     Ok(all)
 }
 
-#[test]
-fn memory_link_is_exact(rt: HostRuntime) -> Result<(), Fail> {
-    let mut link = MemLink::new(rt.alloc(), 1)?;
+// A link of one packet takes one, gives a second one back, and then gives the first.
+fn one_by_one(rt: &impl Abort, link: &mut MemLink)
+    requires { link.old.given ≡ [] }
+{
     assert_eq!(rt; link.recv(), None);
     assert_eq!(rt; link.send(packet(5)), Ok(()));
     assert_eq!(rt; link.send(packet(6)), Err(packet(6)));
@@ -64,10 +66,26 @@ fn memory_link_is_exact(rt: HostRuntime) -> Result<(), Fail> {
         packet: packet(5),
     };
     assert_eq!(rt; link.recv(), Some(arrival));
-    let mut link = MemLink::new(rt.alloc(), 2)?;
+}
+
+fn link_of_one(rt: &impl Abort, alloc: Global) -> Result<(), OutOfMemory> {
+    let mut link = MemLink::new(alloc, 1)?;
+    one_by_one(rt, &mut link);
+    Ok(())
+}
+
+// What is given of two packets, of which the first falls behind.
+fn indexes_behind(rt: &impl Abort, alloc: Global) -> Result<Vec<u64>, OutOfMemory> {
+    let choices = vec![in alloc; Choice::Behind]?;
+    let mut link = MemLink::new(alloc, 2)?;
     assert!(rt; link.send(packet(1)).is_ok() && link.send(packet(2)).is_ok());
-    let mut lossy = LossyIn::new(link, vec![in rt.alloc(); Choice::Behind]?);
-    assert!(rt; indexes(rt.alloc(), &mut lossy)?[..] == [2, 1]);
+    indexes(alloc, &mut LossyIn::new(link, choices))
+}
+
+#[test]
+fn memory_link_is_exact(rt: HostRuntime) -> Result<(), Fail> {
+    link_of_one(&rt, rt.alloc())?;
+    assert!(rt; indexes_behind(&rt, rt.alloc())?[..] == [2, 1]);
     let mut none = MemLink::new(rt.alloc(), 0)?;
     assert_eq!(rt; none.send(packet(1)), Err(packet(1)));
     Ok(())
