@@ -1,0 +1,38 @@
+// Plans and scripts of texts, and events without their lines.
+use failure_script::{Script, read_script};
+use plan_reader::{Plan, read_plan};
+use run_journal::Lined;
+use std::alloc::Global;
+use std::test::Fail;
+use tuple_edge::Event;
+
+/// A plan of one stage of one partition.
+pub(crate) const ONE: &[u8] = b"flux 1\nstage 1 parts 1 by account total account\n";
+
+/// A plan of two stages, of two partitions and of one.
+pub(crate) const TWO: &[u8] =
+    b"flux 1\nstage 1 parts 2 by account total account\nstage 2 parts 1 by symbol total symbol\n";
+
+/// The header of trades.
+pub(crate) const NAMES: &[u8] = b"time,account,symbol,side,qty,price\n";
+
+/// The plan of two stages.
+pub(crate) fn two(alloc: Global) -> Result<Plan, Fail> {
+    Ok(read_plan(alloc, TWO)?)
+}
+
+/// The script that a text says for a plan.
+pub(crate) fn script(alloc: Global, plan: &[u8], text: &[u8]) -> Result<Script, Fail> {
+    let plan = read_plan(alloc, plan)?;
+    Ok(read_script(alloc, text, &plan)?)
+}
+
+/// The events without their lines.
+pub(crate) fn events(alloc: Global, lined: &[Lined]) -> Result<Vec<Event>, Fail> {
+    let mut events = Vec::new(alloc);
+    events.reserve(lined.len())?;
+    for one in lined {
+        events.push(one.event)?;
+    }
+    Ok(events)
+}
