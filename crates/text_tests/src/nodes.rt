@@ -77,7 +77,11 @@ fn knows_sources_and_settings(rt: HostRuntime) -> Result<(), Fail> {
     assert_eq!(rt; plan.sources(2), 3);
     assert_eq!(rt; plan.sources(3), 5);
     assert_eq!(rt; plan.version(), 1);
+    Ok(())
+}
 
+#[test]
+fn knows_two_sources_of_ingress(rt: HostRuntime) -> Result<(), Fail> {
     let two = read_plan(rt.alloc(), b"flux 2\nstage 1 parts 3 by qty total both\n")?;
     assert_eq!(rt; two.version(), 2);
     assert_eq!(rt; two.sources(1), 2);
