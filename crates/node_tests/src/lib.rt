@@ -1,10 +1,13 @@
-//! Tests by public calls of the nodes that have items: ingress and egress. The crate has no code of its own:
-//! it stands above them so that each is proved once, and not a second time with its tests.
+//! Tests by public calls of the nodes and of what they are made of: numbered edges, moves, replicas, ingress and egress.
+//! The crate has no code of its own: it stands above these crates so that each of them is proved once, and not a second
+//! time with its tests.
 #![tactic(auto)]
 
 #[cfg(test)]
-mod boundary;
+mod edges;
 #[cfg(test)]
-mod egress;
+mod ends;
 #[cfg(test)]
-mod ingress;
+mod moves;
+#[cfg(test)]
+mod replicas;
