@@ -1,7 +1,7 @@
 // The lines of a list of stories.
 use crate::fault::Fault;
-use plan_reader::{Words, number_of};
 use std::str::from_utf8;
+use text_words::{Words, number_of};
 
 /// What is told of a story.
 #[derive(Clone, Copy)]

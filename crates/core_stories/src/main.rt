@@ -19,12 +19,12 @@ use again::again;
 use fault::Fault;
 use inputs::{bytes_of, inputs_of};
 use listed::{Kind, Listed, listed_at};
-use plan_reader::Lines;
 use sender::sent_text;
 use std::alloc::Global;
 use std::env;
 use std::process::ExitCode;
 use telling::{put, tell_drain, tell_ending, tell_state};
+use text_words::Lines;
 use tuple_edge::OutOfMemory;
 
 fn main(rt: HostRuntime) -> ExitCode {
