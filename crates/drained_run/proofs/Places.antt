@@ -13,7 +13,7 @@ use Rattle.pair_machine.specs.Counts.{flow_of}
 use Rattle.pair_machine.specs.Links.{HasNode}
 use Rattle.pair_machine.proofs.EdgeLaws.{get_of, parts_at}
 use Rattle.flux_core.specs.CoreView.{pair_place, replica_place}
-use Rattle.partition_runner.specs.NodeOrder.{controls_among, controls_of, pair_nodes, replicas_among, replicas_of, stage_nodes, stages_nodes}
+use Rattle.plan_nodes.specs.NodeOrder.{controls_among, controls_of, pair_nodes, replicas_among, replicas_of, stage_nodes, stages_nodes}
 
 -- ---- lists put together
 

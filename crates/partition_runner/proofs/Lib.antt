@@ -1,9 +1,4 @@
-pub mod Law
-pub mod Settled
-pub mod Gathered
-pub mod Joining
-pub mod Sources
-pub mod NodeOrder
+pub mod Timely
 pub mod Unlinked
 pub mod Sorted
 pub mod TapLaw

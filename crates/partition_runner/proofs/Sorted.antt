@@ -20,16 +20,16 @@ use Rattle.ingress_egress.specs.IngressView.{IngressView}
 use Rattle.pair_control.specs.StandsFor as control
 use Rattle.replica_node.specs.ReplicaView.{ReplicaView, node_of}
 use Rattle.replica_node.specs.StandsFor as replica
-use Rattle.partition_runner.specs.NodeOrder.{controls_among, nodes_before_egress, nodes_of, replicas_among}
+use Rattle.plan_nodes.specs.NodeOrder.{controls_among, nodes_before_egress, nodes_of, replicas_among}
 use Rattle.partition_runner.specs.Ran.{IsLegalRun, history_of}
-use Rattle.partition_runner.specs.Runs.{IsRun, history_in, ids_in}
+use Rattle.linked_run.specs.Runs.{IsRun, history_in, ids_in}
 use Rattle.partition_runner.specs.Sorted.{AreSorted, FoundEgress, FoundIngress, HasOneMore, IsNoEgress, IsNoIngress, control_of, controls_in, egress_with, ingress_with, named_histories, named_parts, replica_of, replicas_in}
-use Rattle.run_node.specs.States.{StandsFor, id_of}
+use Rattle.plan_nodes.specs.States.{StandsFor, id_of}
 use Rattle.partition_runner.specs.declared.ran.Ran.{Ran}
 use Rattle.partition_runner.specs.declared.sorting.Sorted.{Sorted}
-use Rattle.run_node.specs.declared.state.NodeState.{NodeState}
-use Rattle.run_node.specs.declared.state.NodeState.TheVariants as state
-use Rattle.partition_runner.proofs.NodeOrder.{ids_distinct, nodes_apart}
+use Rattle.plan_nodes.specs.declared.state.NodeState.{NodeState}
+use Rattle.plan_nodes.specs.declared.state.NodeState.TheVariants as state
+use Rattle.plan_nodes.proofs.NodeOrder.{ids_distinct, nodes_apart}
 
 -- ---- one part more
 

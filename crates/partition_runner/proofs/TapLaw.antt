@@ -20,12 +20,12 @@ use Rattle.pair_machine.proofs.Lists.{each_at}
 use Rattle.pair_machine.proofs.Logs.{logs_there}
 use Rattle.pair_machine.proofs.Names.{is_node-true, node_self}
 use Rattle.ingress_egress.specs.EgressView.{EgressView}
-use Rattle.partition_runner.specs.NodeOrder.{nodes_of}
-use Rattle.partition_runner.specs.Runs.{IsRun, history_in, ids_in}
-use Rattle.run_node.specs.States.{StandsFor, id_of, rows_of}
-use Rattle.run_node.specs.declared.state.NodeState.{NodeState}
-use Rattle.run_node.specs.declared.state.NodeState.TheVariants as state
-use Rattle.partition_runner.proofs.NodeOrder.{Apart, ids_distinct, nodes_apart}
+use Rattle.plan_nodes.specs.NodeOrder.{nodes_of}
+use Rattle.linked_run.specs.Runs.{IsRun, history_in, ids_in}
+use Rattle.plan_nodes.specs.States.{StandsFor, id_of, rows_of}
+use Rattle.plan_nodes.specs.declared.state.NodeState.{NodeState}
+use Rattle.plan_nodes.specs.declared.state.NodeState.TheVariants as state
+use Rattle.plan_nodes.proofs.NodeOrder.{Apart, ids_distinct, nodes_apart}
 
 prefix_more : (xs ys zs : List Row) → IsPrefix xs ys → IsPrefix ys zs → IsPrefix xs zs
 prefix_more xs ys zs a b = (a.0 ++ b.0, sym (append_assoc xs a.0 b.0) ∙ (ap (λ l. l ++ b.0) a.1 ∙ b.1))

@@ -12,15 +12,25 @@ use Rattle.pair_machine.proofs.Lists.{each_at, each_right}
 use Rattle.pair_machine.proofs.PlanNodes.{nodes_named}
 use Rattle.pair_machine.specs.Courses.{Pairwise}
 use Rattle.pair_machine.specs.Lists.{Each}
-use Rattle.partition_runner.specs.Drafts.{Grows, LeadsTo, LeadsToAll, all_unlinked, unlinked}
-use Rattle.partition_runner.specs.Linked.{AreDistinct, AreLinked, IsLinkFrom, ids_of}
+use Rattle.linked_run.specs.Drafts.{Grows, LeadsTo, LeadsToAll}
+use Rattle.partition_runner.specs.Drafts.{all_unlinked, unlinked}
+use Rattle.linked_run.specs.Linked.{AreDistinct, AreLinked, IsLinkFrom, ids_of}
 use Rattle.run_node.specs.FirstLinks.{identity_to}
-use Rattle.partition_runner.specs.NodeOrder.{nodes_before_egress, nodes_of}
+use Rattle.plan_nodes.specs.NodeOrder.{nodes_before_egress, nodes_of}
 use Rattle.run_node.specs.NodeView.{NodeName}
 use Rattle.partition_runner.specs.Ready.{HaveTheirLinks}
-use Rattle.partition_runner.specs.Runs.{any_tapped}
-use Rattle.partition_runner.proofs.Joining.{same_ids}
-use Rattle.partition_runner.proofs.NodeOrder.{Apart, all_there, names_distinct, nodes_apart, nodes_there}
+use Rattle.linked_run.specs.Runs.{any_tapped}
+use Rattle.linked_run.proofs.Joining.{same_ids}
+use Rattle.plan_nodes.proofs.NodeOrder.{Apart, all_there, nodes_apart, nodes_there}
+
+-- no name stands twice where no node does
+pub names_distinct : (ms : List NodeName) → Apart (ids_of ms) → AreDistinct ms
+names_distinct [] h = tt
+names_distinct (m ∷ ms) h = (others ms h.0, names_distinct ms h.1)
+  where
+    others : (ns : List NodeName) → Each (λ k. is_node m.id k ≡ false) (ids_of ns) → Each (λ n. is_node m.id n.id ≡ false) ns
+    others [] e = tt
+    others (n ∷ ns) e = (e.0, others ns e.1)
 
 take_next : (ns : List NodeId) (i : ℕ) (d : NodeId) → i < length ns → take (i + 1) ns ≡ take i ns ++ get_or ns i d ∷ []
 take_next ns i d l = let one : suc i ≡ i + 1 = omega arith in ap (λ k. take k ns) (sym one) ∙ go ns i l

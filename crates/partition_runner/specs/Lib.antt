@@ -1,6 +1,3 @@
-pub mod Linked
-pub mod Runs
-pub mod NodeOrder
 pub mod Ran
 pub mod Drafts
 pub mod Ready

@@ -17,7 +17,7 @@ use Rattle.ingress_egress.specs.IngressStands as ingress
 use Rattle.pair_control.specs.StandsFor as control
 use Rattle.replica_node.specs.ReplicaView.{node_of}
 use Rattle.replica_node.specs.StandsFor as replica
-use Rattle.partition_runner.specs.NodeOrder.{controls_of, nodes_of, replicas_of}
+use Rattle.plan_nodes.specs.NodeOrder.{controls_of, nodes_of, replicas_of}
 use Rattle.partition_runner.specs.declared.ran.Ran.{Ran}
 
 module _ (plan : PlanView) (inputs : List Input) (script : List Order) where

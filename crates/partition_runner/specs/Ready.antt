@@ -2,11 +2,11 @@
 use Rattle.std.specs.Prelude.{◌≡◌, true, List}
 use Rattle.plan_reader.specs.PlanView.{PlanView}
 use Rattle.pair_machine.specs.Lists.{Each}
-use Rattle.partition_runner.specs.Drafts.{LeadsToAll}
-use Rattle.partition_runner.specs.Linked.{AreLinked, ids_of}
-use Rattle.partition_runner.specs.NodeOrder.{nodes_of}
+use Rattle.linked_run.specs.Drafts.{LeadsToAll}
+use Rattle.linked_run.specs.Linked.{AreLinked, ids_of}
+use Rattle.plan_nodes.specs.NodeOrder.{nodes_of}
 use Rattle.run_node.specs.NodeView.{NodeName}
-use Rattle.partition_runner.specs.Runs.{any_tapped}
+use Rattle.linked_run.specs.Runs.{any_tapped}
 
 -- these are the plan's nodes in their order, each in-link is another one's link to it, and one has a tap
 pub record AreNodesOf (plan : PlanView) (names : List NodeName) : Type 0 where

@@ -8,10 +8,10 @@ use Rattle.ingress_egress.specs.EgressView.{EgressView}
 use Rattle.ingress_egress.specs.IngressView.{IngressView}
 use Rattle.pair_control.specs.ControllerView.{ControllerView}
 use Rattle.replica_node.specs.ReplicaView.{ReplicaView}
-use Rattle.run_node.specs.States.{id_of}
+use Rattle.plan_nodes.specs.States.{id_of}
 use Rattle.partition_runner.specs.declared.sorting.Sorted.{Sorted}
-use Rattle.run_node.specs.declared.state.NodeState.{NodeState}
-use Rattle.run_node.specs.declared.state.NodeState.TheVariants as state
+use Rattle.plan_nodes.specs.declared.state.NodeState.{NodeState}
+use Rattle.plan_nodes.specs.declared.state.NodeState.TheVariants as state
 
 abbrev pub replica_of : NodeState → List ReplicaView
 replica_of (state.Ingress i) = []

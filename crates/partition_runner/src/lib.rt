@@ -6,27 +6,19 @@
 //! they reach. A tap beside egress gave on a front of its rows; where there was no memory, a front of the plan's output.
 //! How far a run comes is not promised.
 //!
-//! It stands on `run_node` for a node and what it does in a turn, on `claim_board`, where nodes float between workers, on
-//! `flux_link` for links, and on the laws of `pair_machine` for histories.
+//! It stands on `plan_nodes` for the nodes of a plan, on `linked_run`, which links nodes and turns them on a `claim_board`, on
+//! `run_node` for a node with its links, and on `flux_link` for rings.
 #![tactic(auto)]
 
-mod connecting;
-mod floating;
-mod gate;
 mod lossy_rings;
 mod making;
-mod opening;
-mod order;
 mod ran;
 mod ready;
 mod rings;
-mod running;
 mod runs;
-mod settling;
 mod sorting;
-mod worker;
 
-pub use gate::{FreeGate, Gate};
+pub use linked_run::{FreeGate, Gate};
 pub use lossy_rings::LossyRings;
 pub use ran::Ran;
 pub use rings::Rings;

@@ -4,17 +4,16 @@ ghost use Rattle.partition_runner.specs.Drafts.{all_unlinked, unlinked};
 ghost use Rattle.partition_runner.specs.Ready.{AreNodesOf, HaveTheirLinks};
 ghost use Rattle.plan_reader.specs.Nodes.{has_node};
 ghost use Rattle.plan_reader.specs.PlanView.{IsPlan};
-ghost use Rattle.replica_node.specs.Course.{AreTimely};
+ghost use Rattle.run_node.specs.Timely.{AreTimely};
 ghost use Rattle.run_node.specs.NodeView.{name_of};
-ghost use Rattle.run_node.specs.States.{id_of};
+ghost use Rattle.plan_nodes.specs.States.{id_of};
 ghost use Rattle.std.specs.Prelude.{◌≡◌, ◌≤◌, [], true, IfOk, IfSome, IsTrue, is_some, map, vec_capacity, vec_len};
 ghost use Rattle.trade_text.specs.TradesView.{inputs_in};
 
-use crate::connecting::connect_all;
-use crate::opening::opening_state;
-use crate::order::nodes_before_egress;
+use linked_run::connect_all;
+use plan_nodes::{NodeState, nodes_before_egress, opening_state};
 use plan_reader::Plan;
-use run_node::{Draft, Links, Node, NodeState, RunNames, Tap};
+use run_node::{Draft, Links, Node, RunNames, Tap};
 use std::alloc::Global;
 use trade_text::Trades;
 use tuple_edge::{NodeId, OutOfMemory};
@@ -26,7 +25,7 @@ fn draft_of<N: RunNames, M: Links, T: Tap>(
     trades: &Trades,
     id: NodeId,
     tap: Option<T>,
-) -> Result<Draft<N, M, T>, OutOfMemory>
+) -> Result<Draft<N, NodeState, M, T>, OutOfMemory>
     requires plan { plan.now ≡ N.plan }
     requires trades { inputs_in trades.now ≡ N.inputs }
     requires there { IsTrue (has_node plan.now id) }
@@ -43,7 +42,7 @@ fn untapped<N: RunNames, M: Links, T: Tap>(
     plan: &Plan,
     trades: &Trades,
     ids: &[NodeId],
-) -> Result<Vec<Draft<N, M, T>>, OutOfMemory>
+) -> Result<Vec<Draft<N, NodeState, M, T>>, OutOfMemory>
     requires plan { plan.now ≡ N.plan }
     requires trades { inputs_in trades.now ≡ N.inputs }
     requires there { Each (λ n. has_node plan.now n ≡ true) ids.now }
@@ -63,7 +62,7 @@ fn drafts_of<N: RunNames, M: Links, T: Tap>(
     plan: &Plan,
     trades: &Trades,
     tap: T,
-) -> Result<Vec<Draft<N, M, T>>, OutOfMemory>
+) -> Result<Vec<Draft<N, NodeState, M, T>>, OutOfMemory>
     requires plan { plan.now ≡ N.plan }
     requires trades { inputs_in trades.now ≡ N.inputs }
     requires tap { T.given tap ≡ [] }
@@ -80,7 +79,7 @@ fn finished<N: RunNames, M: Links, T: Tap>(
     alloc: Global,
     plan: &Plan,
     trades: &Trades,
-    drafts: Vec<Draft<N, M, T>>,
+    drafts: Vec<Draft<N, NodeState, M, T>>,
 ) -> Result<Vec<Node<N, NodeState, M, T>>, OutOfMemory>
     requires plan { plan.now ≡ N.plan }
     requires trades { inputs_in trades.now ≡ N.inputs }
@@ -97,7 +96,7 @@ fn finished<N: RunNames, M: Links, T: Tap>(
 // Puts the nodes of these drafts, in their order, into a list with room for them.
 fn finish_all<N: RunNames, M: Links, T: Tap>(
     alloc: Global,
-    drafts: Vec<Draft<N, M, T>>,
+    drafts: Vec<Draft<N, NodeState, M, T>>,
     nodes: &mut Vec<Node<N, NodeState, M, T>>,
 )
     requires planned { IsPlan N.plan }

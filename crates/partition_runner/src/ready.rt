@@ -1,20 +1,19 @@
 // A run that is ready: its nodes on the board, and room for what it leaves.
-ghost use Rattle.partition_runner.specs.NodeOrder.{nodes_of};
-ghost use Rattle.partition_runner.specs.Runs.{IsRun, TapOfSome, parts_in};
+ghost use Rattle.plan_nodes.specs.NodeOrder.{nodes_of};
+ghost use Rattle.linked_run.specs.Runs.{IsRun, TapOfSome, parts_in};
 ghost use Rattle.partition_runner.specs.Sorted.{AreSorted};
-ghost use Rattle.run_node.specs.States.{StandsFor, id_of, rows_of};
+ghost use Rattle.plan_nodes.specs.States.{StandsFor, id_of, rows_of};
 ghost use Rattle.std.specs.Prelude.{◌≡◌, ◌≤◌, ◌<◌, [], IfOk, Some, vec_capacity, vec_len};
 ghost use Rattle.trade_text.specs.TradesView.{inputs_in};
 
-use crate::gate::Gate;
 use crate::making::make_nodes;
-use crate::running::run_linked;
 use crate::sorting::Sorted;
-use crate::worker::Shared;
 use claim_board::{Board, BoardSeat};
 use failure_script::Script;
+use linked_run::{Gate, Shared, run_linked};
+use plan_nodes::NodeState;
 use plan_reader::Plan;
-use run_node::{Links, Node, NodeState, Part, RunNames, Tap};
+use run_node::{Links, Node, Part, RunNames, Tap};
 use std::alloc::Global;
 use std::marker::Model;
 use std::sync::atomic::AtomicBool;
@@ -57,7 +56,7 @@ impl<N: RunNames, M: Links, T: Tap> Model for Ready<N, M, T> {
     ghost use Rattle.partition_runner.specs.Ready.{AreNodesOf};
     ghost use Rattle.partition_runner.specs.Sorted.{AreSorted};
     ghost use Rattle.run_node.specs.NodeView.{NodeName, name_of};
-    ghost use Rattle.run_node.specs.States.{id_of};
+    ghost use Rattle.plan_nodes.specs.States.{id_of};
     ghost use Rattle.std.specs.Prelude.{◌≡◌, ◌<◌, ◌≤◌, [], List, length, map, vec_capacity, vec_len};
 
     ghost Value = { List NodeName };

@@ -5,12 +5,12 @@ ghost use Rattle.partition_runner.specs.Ran.{IsLegalRun};
 ghost use Rattle.std.specs.Prelude.{◌≡◌, ◌≤◌, [], IfOk, MatchResult};
 ghost use Rattle.trade_text.specs.TradesView.{inputs_in};
 
-use crate::gate::Gate;
 use crate::ran::Ran;
 use crate::ready::{Ended, Ready, make_ready, run_ready};
 use crate::rings::Rings;
 use crate::sorting::ran_of;
 use failure_script::Script;
+use linked_run::Gate;
 use plan_reader::Plan;
 use run_node::{Links, NoTap, RunNames, Tap};
 use std::alloc::Global;

@@ -1,20 +1,21 @@
 // What a run leaves of its nodes is sorted, kind by kind.
 ghost use Rattle.pair_machine.specs.Lists.{Among};
-ghost use Rattle.partition_runner.specs.NodeOrder.{nodes_of};
+ghost use Rattle.plan_nodes.specs.NodeOrder.{nodes_of};
 ghost use Rattle.partition_runner.specs.Ran.{IsLegalRun};
-ghost use Rattle.partition_runner.specs.Runs.{IsRun, parts_in};
+ghost use Rattle.linked_run.specs.Runs.{IsRun, parts_in};
 ghost use Rattle.partition_runner.specs.Sorted.{AreSorted, HasOneMore};
-ghost use Rattle.run_node.specs.States.{StandsFor, id_of};
-ghost use Rattle.run_node.specs.declared.state.NodeState.TheVariants as state;
-ghost use Rattle.run_node.specs.declared.state.NodeState.{NodeState};
+ghost use Rattle.plan_nodes.specs.States.{StandsFor, id_of};
+ghost use Rattle.plan_nodes.specs.declared.state.NodeState.TheVariants as state;
+ghost use Rattle.plan_nodes.specs.declared.state.NodeState.{NodeState};
 ghost use Rattle.std.specs.Prelude.{◌++◌, ◌∷◌, [], IfOk, List, OnOk};
 ghost use Rattle.tuple_edge.specs.declared.event.Stamped.{Stamped};
 
 use crate::ran::Ran;
 use ingress_egress::{Egress, Ingress};
 use pair_control::PairControl;
+use plan_nodes::NodeState;
 use replica_node::Replica;
-use run_node::{Acts, NodeState, Part, RunNames};
+use run_node::{Acts, Part, RunNames};
 use std::alloc::Global;
 use tuple_edge::{History, OutOfMemory};
 

@@ -30,7 +30,7 @@ use Rattle.pair_machine.specs.Scripts.{DoesNotRepeat, HappenOnce, IsAllowedAt}
 use Rattle.pair_machine.specs.Within.{IsWithinScript, history_events}
 use Rattle.pair_machine.specs.declared.order.Order.{Order}
 use Rattle.pair_machine.proofs.CourseKept.{one_more, one_more_met}
-use Rattle.replica_node.specs.Course.{AreTimely}
+use Rattle.run_node.specs.Timely.{AreTimely}
 use Rattle.pair_machine.proofs.Lists.{each_all, each_append, each_map}
 use Rattle.run_node.specs.declared.acts.Task.{Task}
 use Rattle.run_node.specs.declared.acts.Task.TheVariants as task

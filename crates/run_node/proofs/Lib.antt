@@ -3,5 +3,3 @@ pub mod SentPackets
 pub mod FirstLinks
 pub mod Events
 pub mod Merged
-pub mod Room
-pub mod Acting

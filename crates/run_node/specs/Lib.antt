@@ -5,5 +5,5 @@ pub mod Tasks
 pub mod NodeView
 pub mod FirstLinks
 pub mod SoundNode
-pub mod States
+pub mod Timely
 pub mod Fresh

@@ -19,7 +19,7 @@ use Rattle.pair_machine.specs.Lists.{Each}
 use Rattle.pair_machine.specs.Numbers.{Node}
 use Rattle.pair_machine.specs.Within.{IsWithinScript}
 use Rattle.pair_machine.specs.declared.order.Order.{Order}
-use Rattle.replica_node.specs.Course.{AreTimely}
+use Rattle.run_node.specs.Timely.{AreTimely}
 use Rattle.run_node.specs.Ends.{InLink, OutLink, emitted_to, leads_to}
 use Rattle.run_node.specs.Fits.{Came, Fit}
 use Rattle.run_node.specs.NodeView.{NodeView}

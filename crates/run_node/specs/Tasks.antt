@@ -14,7 +14,7 @@ use Rattle.pair_machine.specs.Courses.{Arrivals, IsStep, packets_to}
 use Rattle.pair_machine.specs.Links.{link}
 use Rattle.pair_machine.specs.Machine.{partner_node}
 use Rattle.pair_machine.specs.Numbers.{Node}
-use Rattle.replica_node.specs.Course.{AreTimely}
+use Rattle.run_node.specs.Timely.{AreTimely}
 use Rattle.run_node.specs.declared.acts.Task.{Task}
 use Rattle.run_node.specs.declared.acts.Task.TheVariants as task
 use Rattle.run_node.specs.declared.fired.Fired.{Fired}

@@ -4,11 +4,10 @@ ghost use Rattle.pair_machine.specs.Links.{HasNode, link};
 ghost use Rattle.pair_machine.specs.Machine.{new_node};
 ghost use Rattle.plan_reader.specs.Nodes.{has_link};
 ghost use Rattle.plan_reader.specs.PlanView.{IsPlan};
-ghost use Rattle.replica_node.specs.Course.{AreTimely};
+ghost use Rattle.run_node.specs.Timely.{AreTimely};
 ghost use Rattle.run_node.specs.FirstLinks.{identity_to};
 ghost use Rattle.run_node.specs.NodeView.{name_of};
 ghost use Rattle.run_node.specs.SoundNode.{TapFits};
-ghost use Rattle.run_node.specs.States.{IsOfPlan, StandsFor, id_of, rows_of};
 ghost use Rattle.std.specs.Prelude.{◌≡◌, ◌++◌, ◌∷◌, [], IsSome, IsTrue, OnOk, is_some};
 ghost use Rattle.tuple_edge.specs.declared.node.NodeId.{NodeId};
 
@@ -19,7 +18,6 @@ use crate::names::RunNames;
 use crate::node::Node;
 use crate::out_end::OutEnd;
 use crate::sending::place_to;
-use crate::state::NodeState;
 use crate::tap::Tap;
 use std::alloc::Global;
 use std::marker::{Model, PhantomData};
@@ -27,35 +25,34 @@ use tuple_edge::{NodeId, OutOfMemory};
 
 /// A node as it opens, with the links that it has got so far.
 #[derive(Drop)]
-pub struct Draft<N: RunNames, M: Links, T: Tap> {
-    state: NodeState,
+pub struct Draft<N: RunNames, A: Acts, M: Links, T: Tap> {
+    state: A,
     ins: Vec<InEnd<M::In>>,
     outs: Vec<OutEnd<M::Out>>,
     tap: Option<T>,
     of: PhantomData<N>,
 }
 
-impl<N: RunNames, M: Links, T: Tap> Model for Draft<N, M, T> {
+impl<N: RunNames, A: Acts, M: Links, T: Tap> Model for Draft<N, A, M, T> {
     ghost use Rattle.run_node.specs.Ends.{links_of};
     ghost use Rattle.run_node.specs.Fresh.{IsFresh};
     ghost use Rattle.run_node.specs.NodeView.{NodeName, in_names, out_names};
-    ghost use Rattle.run_node.specs.States.{id_of, rows_of};
     ghost use Rattle.std.specs.Prelude.{is_some};
 
     ghost Value = { NodeName };
 
-    ghost view = { λ d. record { id = id_of d.state; ins = in_names d.ins.items; outs = out_names (links_of d.outs.items); tapped = is_some d.tap } };
+    ghost view = { λ d. record { id = A.id d.state; ins = in_names d.ins.items; outs = out_names (links_of d.outs.items); tapped = is_some d.tap } };
 
-    ghost invariant = { λ d. IsFresh T.given N.plan N.inputs d.state (links_of d.outs.items) d.tap };
+    ghost invariant = { λ d. IsFresh T.given A.id A.of_plan A.stands A.rows N.plan N.inputs d.state (links_of d.outs.items) d.tap };
 }
 
-impl<N: RunNames, M: Links, T: Tap> Draft<N, M, T> {
+impl<N: RunNames, A: Acts, M: Links, T: Tap> Draft<N, A, M, T> {
     /// A node that has no link yet.
-    pub fn new(alloc: Global, state: NodeState, tap: Option<T>) -> Draft<N, M, T>
-        requires of_plan { IsOfPlan N.plan state }
-        requires opening { StandsFor N.plan N.inputs state (new_node (id_of state)) }
-        requires tap { TapFits T.given rows_of tap state }
-        ensures { result ≡ record { id = id_of state; ins = []; outs = []; tapped = is_some tap } }
+    pub fn new(alloc: Global, state: A, tap: Option<T>) -> Draft<N, A, M, T>
+        requires of_plan { A.of_plan N.plan state }
+        requires opening { A.stands N.plan N.inputs state (new_node (A.id state)) }
+        requires tap { TapFits T.given A.rows tap state }
+        ensures { result ≡ record { id = A.id state; ins = []; outs = []; tapped = is_some tap } }
     {
         Draft {
             state,
@@ -102,12 +99,12 @@ impl<N: RunNames, M: Links, T: Tap> Draft<N, M, T> {
     }
 
     /// The node, which has its links now.
-    pub fn finish(self, alloc: Global) -> Node<N, NodeState, M, T>
+    pub fn finish(self, alloc: Global) -> Node<N, A, M, T>
         requires planned { IsPlan N.plan }
         requires timely { AreTimely N.inputs }
         requires there { HasNode (flow_of N.plan N.inputs) self.id }
         requires linked { (to : NodeId) → IsTrue (has_link N.plan (link self.id to)) → IsSome (identity_to self.outs to) }
-        ensures { name_of id_of result ≡ self }
+        ensures { name_of A.id result ≡ self }
     {
         let Draft {
             state,

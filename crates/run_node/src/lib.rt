@@ -6,9 +6,9 @@
 //! true course within the script, and it stands for the numbers after it; its name stays. With a node in one hand and the
 //! sender of one of its in-links in the other, `settle` shows that what the node took there was sent to it.
 //!
-//! It stands on the nodes (`ingress_egress`, `replica_node`, `pair_control`) for what is done, which is [`NodeState`] behind
-//! [`Acts`], on `flux_link` for the ends of links, on `failure_script` for orders, and on the laws of `pair_machine` for
-//! histories. Of `claim_board` it takes only that a node has a name there.
+//! What a node is and does of itself is left to [`Acts`]: no crate of the nodes stands below this one. It stands on
+//! `flux_link` for the ends of links, on `failure_script` for orders, and on the laws of `pair_machine` for histories. Of
+//! `claim_board` it takes only that a node has a name there.
 #![tactic(auto)]
 
 mod acts;
@@ -30,7 +30,6 @@ mod receiving;
 mod round;
 mod sending;
 mod settling;
-mod state;
 mod tap;
 mod turn;
 
@@ -41,5 +40,4 @@ pub use links::Links;
 pub use names::RunNames;
 pub use node::Node;
 pub use part::Part;
-pub use state::NodeState;
 pub use tap::{NoTap, Tap};

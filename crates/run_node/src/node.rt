@@ -9,13 +9,13 @@ ghost use Rattle.pair_machine.specs.Numbers.{Node as NodeNumbers};
 ghost use Rattle.pair_machine.specs.Scripts.{IsAllowedAt};
 ghost use Rattle.plan_reader.specs.Nodes.{has_link};
 ghost use Rattle.plan_reader.specs.PlanView.{IsPlan};
-ghost use Rattle.replica_node.specs.Course.{AreTimely};
+ghost use Rattle.run_node.specs.Timely.{AreTimely};
 ghost use Rattle.run_node.specs.Ends.{leads_to, links_of};
 ghost use Rattle.run_node.specs.Fits.{Came, Fit};
 ghost use Rattle.run_node.specs.NodeView.{name_of};
 ghost use Rattle.run_node.specs.SoundNode.{IsTrueView, TapFits};
-ghost use Rattle.run_node.specs.Tasks.{CameFor, event_of};
-ghost use Rattle.std.specs.Prelude.{◌≡◌, [], true, IfSome, IsTrue, None, Some};
+ghost use Rattle.run_node.specs.Tasks.{CameFor, event_of, most_packets};
+ghost use Rattle.std.specs.Prelude.{◌≡◌, ◌≤◌, ◌+◌, [], true, IfSome, IsTrue, None, OnOk, Some, vec_capacity, vec_len};
 ghost use Rattle.tuple_edge.specs.declared.node.NodeId.{NodeId};
 
 use crate::acts::{Acts, Task};
@@ -31,6 +31,7 @@ use crate::part::Part;
 use crate::receiving::receive;
 use crate::round::Round;
 use crate::tap::Tap;
+use flux_link::Outlet;
 use plan_reader::Plan;
 use std::alloc::Global;
 use std::marker::{Model, PhantomData};
@@ -38,6 +39,25 @@ use tuple_edge::{NUMBER_LIMIT, OutOfMemory, Outbox, Stamped, Worked};
 
 // No clock passes it.
 const LAST_CLOCK: u64 = NUMBER_LIMIT - 1;
+
+// Makes room for what one event adds: an entry of the history, and the packets that it sends.
+fn reserve_event<O: Outlet + Drop>(
+    history: &mut Vec<Stamped>,
+    outs: &mut Outs<O>,
+    outbox: &mut Outbox,
+) -> Result<(), OutOfMemory>
+    ensures history { history.new.items ≡ history.old.items }
+    ensures links { outs.new.links ≡ outs.old.links }
+    ensures packets { outbox.new.packets ≡ outbox.old.packets }
+    ensures entry { OnOk result (vec_len history.new + 1 ≤ vec_capacity history.new) }
+    ensures room { OnOk result (most_packets ≤ outs.new.room) }
+    ensures spare { OnOk result (most_packets ≤ outbox.new.spare) }
+{
+    history.reserve(1)?;
+    outs.reserve(MOST_PACKETS)?;
+    outbox.reserve(MOST_PACKETS)?;
+    Ok(())
+}
 
 /// A node with its links, the arrival that it keeps, its clock and its history.
 #[derive(Drop)]
@@ -147,9 +167,7 @@ impl<N: RunNames, A: Acts, M: Links, T: Tap> Node<N, A, M, T> {
         if clock >= LAST_CLOCK || self.fired.repeats(&task) || !self.state.may(plan, &task) {
             return Ok(false);
         }
-        self.history.reserve(1)?;
-        self.outs.reserve(MOST_PACKETS)?;
-        self.outbox.reserve(MOST_PACKETS)?;
+        reserve_event(&mut self.history, &mut self.outs, &mut self.outbox)?;
         let event = task.event_at(self.state.id());
         match self.state.act(&task, &mut self.outbox)? {
             Worked::Idle => return Ok(false),

@@ -4,8 +4,8 @@ use Rattle.tuple_edge.specs.declared.node.NodeId.TheVariants as node
 use Rattle.plan_reader.specs.Nodes.{has_node}
 use Rattle.pair_machine.specs.Lists.{Each}
 use Rattle.pair_machine.proofs.Lists.{each_left}
-use Rattle.partition_runner.specs.NodeOrder.{nodes_before_egress}
-use Rattle.partition_runner.proofs.NodeOrder.{nodes_there}
+use Rattle.plan_nodes.specs.NodeOrder.{nodes_before_egress}
+use Rattle.plan_nodes.proofs.NodeOrder.{nodes_there}
 use Rattle.partition_runner.proofs.making.drafts_of.Goals as goal
 
 pub untapped-requires-clause-there : goal.untapped-requires-clause-there

@@ -1,8 +1,8 @@
 use Rattle.std.proofs.Common.{◌≡◌, ◌∙◌, ◌+◌, ◌++◌, ◌∷◌, [], ap, sym, arith, append_assoc, append-nil, length, length-append}
 use Rattle.std.specs.Vec.Iter.{into_iter_items}
 use Rattle.run_node.specs.NodeView.{name_of}
-use Rattle.run_node.specs.States.{id_of}
-use Rattle.partition_runner.proofs.Gathered.{empty_list}
+use Rattle.plan_nodes.specs.States.{id_of}
+use Rattle.linked_run.proofs.Gathered.{empty_list}
 use Rattle.partition_runner.proofs.Unlinked.{is_finished, map_last}
 use Rattle.partition_runner.proofs.making.finish_all.Goals as goal
 

@@ -2,7 +2,7 @@ use Rattle.std.proofs.Common.{◌≡◌, ◌≤◌, ◌++◌, length, vec_len, v
 use Rattle.std.specs.Prelude.{map}
 use Rattle.std.specs.Vec.Iter.{into_iter_items}
 use Rattle.run_node.specs.NodeView.{name_of}
-use Rattle.run_node.specs.States.{id_of}
+use Rattle.plan_nodes.specs.States.{id_of}
 use Rattle.partition_runner.proofs.making.finish_all.Given as goal
 
 abbrev pub invariant-loop-draft : goal.invariant-loop-draft

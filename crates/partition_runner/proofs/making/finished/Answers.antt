@@ -1,8 +1,8 @@
 use Rattle.std.proofs.Common.{subst}
 use Rattle.plan_reader.specs.PlanView.{IsPlan, PlanView}
-use Rattle.replica_node.specs.Course.{AreTimely}
+use Rattle.run_node.specs.Timely.{AreTimely}
 use Rattle.partition_runner.specs.Ready.{HaveTheirLinks}
-use Rattle.partition_runner.proofs.Sources.{are_timely}
+use Rattle.partition_runner.proofs.Timely.{are_timely}
 use Rattle.partition_runner.proofs.making.finished.Goals as goal
 
 pub finish_all-requires-clause-planned : goal.finish_all-requires-clause-planned

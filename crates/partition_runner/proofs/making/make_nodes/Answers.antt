@@ -1,5 +1,5 @@
 use Rattle.std.proofs.Common.{◌≡◌, ◌∙◌, ◌++◌, List, length, take, drop, sym, subst, arith}
-use Rattle.partition_runner.specs.Linked.{AreDistinct, AreLinked}
+use Rattle.linked_run.specs.Linked.{AreDistinct, AreLinked}
 use Rattle.run_node.specs.NodeView.{NodeName}
 use Rattle.partition_runner.specs.Ready.{AreNodesOf, HaveTheirLinks}
 use Rattle.run_node.proofs.Places.{written}

@@ -2,9 +2,10 @@ use Rattle.std.proofs.Common.{map, subst, sym}
 use Rattle.claim_board.specs.Board.{opening_of}
 use Rattle.plan_reader.specs.PlanView.{IsPlan}
 use Rattle.run_node.specs.NodeView.{name_of}
-use Rattle.partition_runner.specs.Runs.{IsRun, parts_in}
-use Rattle.run_node.specs.States.{StandsFor, id_of}
-use Rattle.partition_runner.proofs.NodeOrder.{Apart, names_distinct, nodes_apart}
+use Rattle.linked_run.specs.Runs.{IsRun, parts_in}
+use Rattle.plan_nodes.specs.States.{StandsFor, id_of}
+use Rattle.plan_nodes.proofs.NodeOrder.{Apart, nodes_apart}
+use Rattle.partition_runner.proofs.Unlinked.{names_distinct}
 use Rattle.partition_runner.proofs.ready.run_ready.Goals as goal
 
 pub run_linked-parts-requires-clause-planned : goal.run_linked-parts-requires-clause-planned

@@ -9,12 +9,12 @@ use Rattle.plan_reader.specs.PlanView.{PlanView}
 use Rattle.pair_machine.specs.Lists.{Among}
 use Rattle.pair_machine.specs.Output.{output}
 use Rattle.pair_machine.specs.declared.order.Order.{Order}
-use Rattle.partition_runner.specs.NodeOrder.{nodes_of}
-use Rattle.partition_runner.specs.Runs.{IsRun, parts_in}
-use Rattle.run_node.specs.States.{StandsFor, id_of, rows_of}
+use Rattle.plan_nodes.specs.NodeOrder.{nodes_of}
+use Rattle.linked_run.specs.Runs.{IsRun, parts_in}
+use Rattle.plan_nodes.specs.States.{StandsFor, id_of, rows_of}
 use Rattle.partition_runner.specs.declared.ran.Ran.{Ran}
-use Rattle.run_node.specs.declared.state.NodeState.{NodeState}
-use Rattle.run_node.specs.declared.state.NodeState.TheVariants as state
+use Rattle.plan_nodes.specs.declared.state.NodeState.{NodeState}
+use Rattle.plan_nodes.specs.declared.state.NodeState.TheVariants as state
 use Rattle.partition_runner.proofs.TapLaw.{tap_of_egress, tap_of_output}
 use Rattle.partition_runner.proofs.runs.run_named.Goals as goal
 

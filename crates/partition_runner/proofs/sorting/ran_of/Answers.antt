@@ -1,5 +1,5 @@
 use Rattle.std.proofs.Common.{refl, subst}
-use Rattle.partition_runner.specs.Runs.{parts_in}
+use Rattle.linked_run.specs.Runs.{parts_in}
 use Rattle.partition_runner.specs.Sorted.{FoundEgress, FoundIngress}
 use Rattle.partition_runner.specs.declared.ran.Ran.{Ran}
 use Rattle.partition_runner.proofs.Sorted.{egress_there, ingress_there, legal_run}

@@ -1,8 +1,8 @@
 use Rattle.std.proofs.Common.{◌≡◌, ◌∙◌, ◌++◌, ◌∷◌, [], ap, sym, subst, arith, append_assoc, append-nil}
 use Rattle.std.specs.Vec.Iter.{into_iter_items}
-use Rattle.partition_runner.specs.Runs.{parts_in}
+use Rattle.linked_run.specs.Runs.{parts_in}
 use Rattle.partition_runner.specs.Sorted.{AreSorted}
-use Rattle.partition_runner.proofs.Gathered.{empty_list, parts_in-more}
+use Rattle.linked_run.proofs.Gathered.{empty_list, parts_in-more}
 use Rattle.partition_runner.proofs.sorting.sort_all.Goals as goal
 
 pub loop-part-preserved : goal.loop-part-preserved

@@ -1,6 +1,6 @@
 use Rattle.std.proofs.Common.{◌≡◌, ◌++◌}
 use Rattle.std.specs.Vec.Iter.{into_iter_items}
-use Rattle.partition_runner.specs.Runs.{parts_in}
+use Rattle.linked_run.specs.Runs.{parts_in}
 use Rattle.partition_runner.specs.Sorted.{AreSorted}
 use Rattle.partition_runner.proofs.sorting.sort_all.Given as goal
 

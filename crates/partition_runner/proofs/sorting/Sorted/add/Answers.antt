@@ -1,7 +1,7 @@
 use Rattle.std.proofs.Common.{Some, append-nil, refl, subst, sym}
 use Rattle.partition_runner.specs.Sorted.{HasOneMore}
 use Rattle.partition_runner.specs.declared.sorting.Sorted.{Sorted}
-use Rattle.run_node.specs.declared.state.NodeState.{NodeState}
+use Rattle.plan_nodes.specs.declared.state.NodeState.{NodeState}
 use Rattle.partition_runner.proofs.sorting.Sorted.add.Goals as goal
 
 pub returns-in-Ingress : goal.returns-in-Ingress

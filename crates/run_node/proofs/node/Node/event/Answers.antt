@@ -19,7 +19,7 @@ invariant_of-self-2 g c =
     let n = c.self.inside in
     let c_new = c.max-clock.result + 1 in
     let packets = c.act.new.out.packets in
-    let reserved = c.reserve-2.ensures.links in
+    let reserved = c.reserve_event.ensures.links in
     let sent = c.send_all.ensures ∙ ap (with_all_sent c_new packets) reserved in
     let flushed : c.flush.new.self.links ≡ with_all_sent c_new packets n.outs.links = ap (λ (o : OutsView). o.links) c.flush.ensures ∙ sent in
     let did = c.in_ok-act.was ∙ ap Ok c.in-Did.is in
@@ -34,7 +34,7 @@ invariant_of-self-2 g c =
     (c.act.ensures.here did) (c.act.ensures.step did) (c.act.ensures.linked did g.N.RunNames.plan c.self.invariant.2.named) allowed in
     let fired : fired_after n.fired c.args.task ≡ c.after-self-inside.result = sym c.after-self-inside.ensures in
     let event = c.event_at-event.ensures ∙ ap (λ k. event_of k c.args.task) c.id.ensures in
-    let history = c.push_reserved.ensures.items ∙ (ap (λ l. l ++ record { clock = c_new; event = c.event_at-event.result } ∷ []) c.reserve.ensures.items ∙ ap (λ e. n.history.items ++ record { clock = c_new; event = e } ∷ []) event) in
+    let history = c.push_reserved.ensures.items ∙ (ap (λ l. l ++ record { clock = c_new; event = c.event_at-event.result } ∷ []) c.reserve_event.ensures.history ∙ ap (λ e. n.history.items ++ record { clock = c_new; event = e } ∷ []) event) in
     let at_links = subst (λ l. IsSoundNode g.A.Acts.id g.A.Acts.of_plan g.A.Acts.stands g.N.RunNames.plan g.N.RunNames.inputs g.N.RunNames.script c.act.new.self n.ins.items l n.kept c_new c.after-self-inside.result (n.history.items ++ record { clock = c_new; event = event_of (g.A.Acts.id n.state) c.args.task } ∷ [])) (sym flushed) (subst (λ f. IsSoundNode g.A.Acts.id g.A.Acts.of_plan g.A.Acts.stands g.N.RunNames.plan g.N.RunNames.inputs g.N.RunNames.script c.act.new.self n.ins.items (with_all_sent c_new packets n.outs.links) n.kept c_new f (n.history.items ++ record { clock = c_new; event = event_of (g.A.Acts.id n.state) c.args.task } ∷ [])) fired sound) in
     (c.clear.ensures.packets, tap_later g.T.Tap.given g.A.Acts.rows n.tap n.state c.act.new.self c.act.ensures.rows c.self.invariant.1, subst (λ (l : List Stamped). IsSoundNode g.A.Acts.id g.A.Acts.of_plan g.A.Acts.stands g.N.RunNames.plan g.N.RunNames.inputs g.N.RunNames.script c.act.new.self n.ins.items c.flush.new.self.links n.kept c_new c.after-self-inside.result l) (sym history) at_links)
 
@@ -43,7 +43,7 @@ returns-clause-name g c =
     let n = c.self.inside in
     let c_new = c.max-clock.result + 1 in
     let packets = c.act.new.out.packets in
-    let reserved = c.reserve-2.ensures.links in
+    let reserved = c.reserve_event.ensures.links in
     let sent = c.send_all.ensures ∙ ap (with_all_sent c_new packets) reserved in
     let flushed : c.flush.new.self.links ≡ with_all_sent c_new packets n.outs.links = ap (λ (o : OutsView). o.links) c.flush.ensures ∙ sent in
     let outs : out_names c.flush.new.self.links ≡ out_names n.outs.links = ap out_names flushed ∙ names-with_all_sent c_new packets n.outs.links in
@@ -56,17 +56,17 @@ pub invariant_of-self-in_err-act : goal.invariant_of-self-in_err-act
 invariant_of-self-in_err-act g c =
     let n = c.self.inside in
     let sound = c.self.invariant.2 in
-    let same = c.reserve-2.ensures.links in
+    let same = c.reserve_event.ensures.links in
     let still = sound_still g.A.Acts.id g.A.Acts.of_plan g.A.Acts.stands g.N.RunNames.plan g.N.RunNames.inputs g.N.RunNames.script n.state n.ins.items n.outs.links n.kept n.clock n.fired n.history.items sound
-    c.act.new.self c.reserve-2.new.self.links c.reserve.new.self.items same c.reserve.ensures.items c.act.ensures.id (c.act.ensures.of_plan g.N.RunNames.plan sound.named) (λ x h. c.in_err-act.ensures.unchanged g.N.RunNames.plan g.N.RunNames.inputs x h) in
+    c.act.new.self c.reserve_event.new.outs.links c.reserve_event.new.history.items same c.reserve_event.ensures.history c.act.ensures.id (c.act.ensures.of_plan g.N.RunNames.plan sound.named) (λ x h. c.in_err-act.ensures.unchanged g.N.RunNames.plan g.N.RunNames.inputs x h) in
     (c.in_err-act.ensures.unsent, tap_later g.T.Tap.given g.A.Acts.rows n.tap n.state c.act.new.self c.act.ensures.rows c.self.invariant.1, still)
 
 pub invariant_of-self-in-Idle : goal.invariant_of-self-in-Idle
 invariant_of-self-in-Idle g c =
     let n = c.self.inside in
     let sound = c.self.invariant.2 in
-    let same = c.reserve-2.ensures.links in
+    let same = c.reserve_event.ensures.links in
     let idle = c.act.ensures.idle (c.in_ok-act.was ∙ ap Ok c.in-Idle.is) in
     let still = sound_still g.A.Acts.id g.A.Acts.of_plan g.A.Acts.stands g.N.RunNames.plan g.N.RunNames.inputs g.N.RunNames.script n.state n.ins.items n.outs.links n.kept n.clock n.fired n.history.items sound
-    c.act.new.self c.reserve-2.new.self.links c.reserve.new.self.items same c.reserve.ensures.items c.act.ensures.id (c.act.ensures.of_plan g.N.RunNames.plan sound.named) (λ x h. subst (λ st. g.A.Acts.stands g.N.RunNames.plan g.N.RunNames.inputs st x) (sym idle.0) h) in
+    c.act.new.self c.reserve_event.new.outs.links c.reserve_event.new.history.items same c.reserve_event.ensures.history c.act.ensures.id (c.act.ensures.of_plan g.N.RunNames.plan sound.named) (λ x h. subst (λ st. g.A.Acts.stands g.N.RunNames.plan g.N.RunNames.inputs st x) (sym idle.0) h) in
     (idle.1, tap_later g.T.Tap.given g.A.Acts.rows n.tap n.state c.act.new.self c.act.ensures.rows c.self.invariant.1, still)

@@ -1,0 +1,4 @@
+pub mod Law
+pub mod Settled
+pub mod Gathered
+pub mod Joining

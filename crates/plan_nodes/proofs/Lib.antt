@@ -1,0 +1,4 @@
+pub mod Room
+pub mod Acting
+pub mod NodeOrder
+pub mod Sources

@@ -1,0 +1,107 @@
+-- A node's own part, of any of the four kinds: its name, the plans that it is of, the numbers that it stands for, and what it may do.
+use Rattle.std.specs.Prelude.{◌≡◌, ◌≢◌, ◌≤◌, List, [], Result, Ok, OnErr, length}
+use mathlib.Core.List.{IsPrefix}
+use Rattle.tuple_edge.specs.Input.{Input}
+use Rattle.tuple_edge.specs.declared.event.Worked.{Worked}
+use Rattle.tuple_edge.specs.declared.event.Worked.TheVariants.{Did, Idle}
+use Rattle.tuple_edge.specs.declared.node.NodeId.{NodeId}
+use Rattle.tuple_edge.specs.declared.node.NodeId.TheVariants as node
+use Rattle.tuple_edge.specs.declared.packet.Body.{Body}
+use Rattle.tuple_edge.specs.declared.row.Row.{Row}
+use Rattle.tuple_edge.specs.declared.memory.OutOfMemory.{OutOfMemory}
+use Rattle.plan_reader.specs.PlanView.{PlanView}
+use Rattle.pair_machine.specs.Counts.{flow_of}
+use Rattle.pair_machine.specs.Machine.{at_node}
+use Rattle.pair_machine.specs.Numbers.{Node}
+use Rattle.pair_machine.specs.Receivers.{GoOverLinks}
+use Rattle.ingress_egress.specs.EgressStands as egress
+use Rattle.ingress_egress.specs.EgressView.{EgressView, MayWork}
+use Rattle.ingress_egress.specs.IngressStands as ingress
+use Rattle.ingress_egress.specs.IngressView.{IngressView}
+use Rattle.pair_control.specs.Admitted as control_admitted
+use Rattle.pair_control.specs.ControllerView.{ControllerView}
+use Rattle.pair_control.specs.StandsFor as control
+use Rattle.replica_node.specs.Admitted as replica_admitted
+use Rattle.replica_node.specs.Phases.{mode_in}
+use Rattle.replica_node.specs.ReplicaView.{ReplicaView, node_of}
+use Rattle.replica_node.specs.StandsFor as replica
+use Rattle.replica_node.specs.declared.phase.Mode.TheVariants as mode
+use Rattle.run_node.specs.Tasks.{DoesStep, event_of, most_packets}
+use Rattle.run_node.specs.declared.acts.Task.{Task}
+use Rattle.run_node.specs.declared.acts.Task.TheVariants as task
+use Rattle.plan_nodes.specs.declared.state.NodeState.{NodeState}
+use Rattle.plan_nodes.specs.declared.state.NodeState.TheVariants as state
+
+-- its name in the plan
+abbrev pub id_of : NodeState → NodeId
+id_of (state.Ingress i) = node.Ingress
+id_of (state.Replica r) = node_of r.role
+id_of (state.Control c) = control.node_of c
+id_of (state.Egress e) = node.Egress
+
+-- it is a node of the plan
+abbrev pub IsOfPlan : PlanView → NodeState → Type 0
+IsOfPlan plan (state.Ingress i) = ingress.IsOfPlan plan i
+IsOfPlan plan (state.Replica r) = replica.IsOfPlan plan r.role
+IsOfPlan plan (state.Control c) = control.IsOfPlan plan c
+IsOfPlan plan (state.Egress e) = egress.IsOfPlan plan e
+
+-- it stands for a node's numbers
+abbrev pub StandsFor : PlanView → List Input → NodeState → Node → Type 0
+StandsFor plan inputs (state.Ingress i) x = ingress.StandsFor plan inputs i x
+StandsFor plan inputs (state.Replica r) x = replica.StandsFor plan inputs r x
+StandsFor plan inputs (state.Control c) x = control.StandsFor (flow_of plan inputs) c x
+StandsFor plan inputs (state.Egress e) x = egress.StandsFor plan inputs e x
+
+-- the rows that it emitted: only egress emits rows
+abbrev pub rows_of : NodeState → List Row
+rows_of (state.Ingress i) = []
+rows_of (state.Replica r) = []
+rows_of (state.Control c) = []
+rows_of (state.Egress e) = e.emitted
+
+-- ---- what it may do
+
+abbrev pub IngressMay : IngressView → Task → Type 0
+IngressMay i (task.Take from index packet) = ingress.IsAdmitted i from packet.body
+IngressMay i task.Work = Unit {0}
+IngressMay i task.Make = Unit {0}
+IngressMay i t = ⊥
+
+abbrev pub ReplicaMay : ReplicaView → Task → Type 0
+ReplicaMay r (task.Take from index packet) = replica_admitted.IsAdmitted r from packet.body
+ReplicaMay r task.Work = replica_admitted.MayWorkIn r.phase
+ReplicaMay r task.Make = ⊥
+ReplicaMay r task.Kill = mode_in r.phase ≢ mode.Gone
+ReplicaMay r task.AskStop = mode_in r.phase ≡ mode.Running
+ReplicaMay r task.AskBack = mode_in r.phase ≡ mode.Running
+
+abbrev pub ControlMay : ControllerView → Task → Type 0
+ControlMay c (task.Take from index packet) = control_admitted.IsAdmitted c from packet.body
+ControlMay c t = ⊥
+
+abbrev pub EgressMay : EgressView → Task → Type 0
+EgressMay e (task.Take from index packet) = egress.IsAdmitted e from packet.body
+EgressMay e task.Work = MayWork e
+EgressMay e t = ⊥
+
+abbrev pub MayDo : NodeState → Task → Type 0
+MayDo (state.Ingress i) t = IngressMay i t
+MayDo (state.Replica r) t = ReplicaMay r t
+MayDo (state.Control c) t = ControlMay c t
+MayDo (state.Egress e) t = EgressMay e t
+
+-- ---- what it does
+
+-- what came of a task: a step of the machine, or nothing
+pub record HasActed (old new : NodeState) (t : Task) (result : Result Worked OutOfMemory) (packets : List (NodeId × Body)) : Type 0 where
+  pub here : result ≡ Ok Did → at_node (event_of (id_of old) t) ≡ id_of old
+  pub step : result ≡ Ok Did → DoesStep id_of StandsFor t old new packets
+  pub few : result ≡ Ok Did → length packets ≤ most_packets
+  pub linked : result ≡ Ok Did → (plan : PlanView) → IsOfPlan plan old → GoOverLinks plan (id_of old) packets
+  pub idle : result ≡ Ok Idle → (new ≡ old) × (packets ≡ [])
+  pub unsent : OnErr result (packets ≡ [])
+  pub unchanged : OnErr result ((plan : PlanView) (inputs : List Input) (x : Node) → StandsFor plan inputs old x → StandsFor plan inputs new x)
+  pub id : id_of new ≡ id_of old
+  pub of_plan : (plan : PlanView) → IsOfPlan plan old → IsOfPlan plan new
+  pub rows : IsPrefix (rows_of old) (rows_of new)
