@@ -1,5 +1,5 @@
 // A call of `flux` over files and sinks in memory.
-use drained_run::FreeGate;
+use crate::hold::Hold;
 use flux_outside::{MemFiles, MemSink};
 use flux_top::flux;
 use std::alloc::Global;
@@ -93,10 +93,11 @@ pub(crate) fn call<R: Threads + Sync>(
     line: &str,
     files: &mut MemFiles,
     sinks: &Sinks,
+    gate: &Hold,
 ) -> Result<Called, OutOfMemory> {
     let words = words_of(alloc, line)?;
     let mut out = sinks.out.make(alloc)?;
     let mut err = sinks.err.make(alloc)?;
-    let status = flux(rt, alloc, &words, files, &mut out, &mut err, &FreeGate);
+    let status = flux(rt, alloc, &words, files, &mut out, &mut err, gate);
     Ok(Called { status, out, err })
 }

@@ -10,6 +10,7 @@
 //   last, rows        of the next call's output only the last line, or only the rows, are shown
 //   out ROOM MOST N.. the next call's output takes ROOM bytes in all, at most MOST a put, and its Nth puts fail
 //   err ROOM MOST N.. the same of what it says
+//   hold              in the next call worker 0 waits in its first turn for worker 1, and it is told whether it saw it
 //   has NAME LINE     tells whether a file has this line; `front NAME TEXT` whether it has one that begins so
 //   begins NAME OTHER tells whether a file begins with another one
 //   with A | B ..     the case is made once for each such line, with its values in place of @1@, @2@ and so on
@@ -30,6 +31,7 @@ pub(crate) enum Line<'a> {
     Keep(&'a str),
     Last,
     Rows,
+    Hold,
     Out(&'a str),
     Err(&'a str),
     Asks(Question, &'a str),
@@ -55,6 +57,7 @@ fn line_of<'a>(word: &str, rest: &'a str) -> Option<Line<'a>> {
         "keep" => Some(Line::Keep(rest.strip_prefix("out ")?)),
         "last" => Some(Line::Last),
         "rows" => Some(Line::Rows),
+        "hold" => Some(Line::Hold),
         "out" => Some(Line::Out(rest)),
         "err" => Some(Line::Err(rest)),
         "has" => Some(Line::Asks(Question::Has, rest)),

@@ -8,6 +8,7 @@
 mod call;
 mod case;
 mod content;
+mod hold;
 mod line;
 mod script;
 mod show;

@@ -1,6 +1,7 @@
 // A case while it is made: its files, what was said of the next call, and what is shown so far.
 use crate::call::{Called, Sinks, call};
 use crate::content::push_times;
+use crate::hold::Hold;
 use crate::line::{Line, Question};
 use crate::show::{last_of, push_line, push_text, rows_of};
 use flux_outside::MemFiles;
@@ -28,6 +29,7 @@ pub(crate) struct Stage {
     keep: Option<String>,
     part: Part,
     sinks: Sinks,
+    holds: bool,
     shown: Vec<u8>,
 }
 
@@ -42,6 +44,7 @@ impl Stage {
             keep: None,
             part: Part::All,
             sinks: Sinks::new(alloc),
+            holds: false,
             shown: Vec::new(alloc),
         }
     }
@@ -71,6 +74,7 @@ impl Stage {
             Line::Keep(name) => self.keep = Some(String::from_str(self.alloc, name)?),
             Line::Last => self.part = Part::Last,
             Line::Rows => self.part = Part::Rows,
+            Line::Hold => self.holds = true,
             Line::Out(numbers) => return self.sinks.out.read(numbers),
             Line::Err(numbers) => return self.sinks.err.read(numbers),
             Line::Asks(question, words) => return self.take_question(written, question, words),
@@ -103,12 +107,30 @@ impl Stage {
         written: &str,
         words: &str,
     ) -> Result<(), OutOfMemory> {
-        let called = call(rt, self.alloc, words, &mut self.files, &self.sinks)?;
+        let gate = Hold::new(self.holds);
+        let called = call(rt, self.alloc, words, &mut self.files, &self.sinks, &gate)?;
         self.keep_output(called.out.taken())?;
         self.show(written, &called)?;
+        self.show_gate(&gate)?;
         self.part = Part::All;
         self.sinks = Sinks::new(self.alloc);
+        self.holds = false;
         Ok(())
+    }
+
+    // Shows whether a worker that was held up saw the other one.
+    fn show_gate(&mut self, gate: &Hold) -> Result<(), OutOfMemory> {
+        if self.holds {
+            self.show_answer("hold", gate.has_seen())?;
+        }
+        Ok(())
+    }
+
+    // Shows an answer to what was written.
+    fn show_answer(&mut self, written: &str, answer: bool) -> Result<(), OutOfMemory> {
+        let answer = if answer { "yes" } else { "no" };
+        let line = format!(in self.alloc; "{written}: {answer}")?;
+        push_line(&mut self.shown, "? ", line.as_bytes())
     }
 
     // Keeps the output as a file, where that was asked for.
@@ -152,13 +174,7 @@ impl Stage {
         let Some((name, other)) = words.split_once(' ') else {
             return Ok(false);
         };
-        let answer = if self.answer(question, name, other) {
-            "yes"
-        } else {
-            "no"
-        };
-        let line = format!(in self.alloc; "{written}: {answer}")?;
-        push_line(&mut self.shown, "? ", line.as_bytes())?;
+        self.show_answer(written, self.answer(question, name, other))?;
         Ok(true)
     }
 

@@ -6,12 +6,12 @@ use tuple_edge::OutOfMemory;
 const BETWEEN: &str = " | ";
 
 // The three numbers of a range.
-fn read_range(text: &str) -> Option<(u32, u32, usize)> {
+fn read_range(text: &str) -> Option<(u32, u32, u32)> {
     let mut words = text.split(' ');
     let first = words.next()?.parse::<u32>().ok()?;
     let last = words.next()?.parse::<u32>().ok()?;
-    let step = words.next()?.parse::<usize>().ok()?;
-    if step == 0 || words.next().is_some() {
+    let step = words.next()?.parse::<u32>().ok()?;
+    if words.next().is_some() {
         return None;
     }
     Some((first, last, step))
@@ -22,8 +22,10 @@ fn push_range(alloc: Global, text: &str, into: &mut Vec<String>) -> Result<bool,
     let Some((first, last, step)) = read_range(text) else {
         return Ok(false);
     };
-    for number in (first..=last).step_by(step) {
-        into.push(format!(in alloc; "{number}")?)?;
+    for number in first..=last {
+        if number.wrapping_sub(first).checked_rem(step) == Some(0) {
+            into.push(format!(in alloc; "{number}")?)?;
+        }
     }
     Ok(true)
 }
