@@ -8,6 +8,7 @@ use Rattle.plan_reader.specs.Nodes.{carries_any, has_link, has_node}
 use Rattle.plan_reader.specs.PlanView.{PlanView}
 use Rattle.pair_machine.specs.Counts.{flow_of}
 use Rattle.pair_machine.specs.Links.{HasNode, link}
+use Rattle.pair_machine.specs.Numbers.{is_node}
 use Rattle.pair_machine.proofs.Lists.{each_at, each_right}
 use Rattle.pair_machine.proofs.PlanNodes.{nodes_named}
 use Rattle.pair_machine.specs.Courses.{Pairwise}
