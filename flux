@@ -59,8 +59,17 @@ as CSV: the same text as eval, whatever fails under a safe script.
                 flux replay reads it
 
 An option stands anywhere behind run, once, as --threads 2 or as --threads=2. A name isn't empty and doesn't
-begin with "-". Under a script that isn't safe, as one by which both replicas of a pair fail, the exit
-status may be 6: then the rows that were emitted before are written, without the last line.
+begin with "-".
+
+A script is safe where no pair has two orders of which one is a kill. 1.0.a and 1.0.b are the two replicas of
+the pair 1.0: if the script has a line for each of them, and one of the two lines is a kill, it isn't safe.
+This names each pair for which a script that is accepted isn't safe, and says nothing of a safe script:
+
+  awk '$1 == "kill" || $1 == "stop" { split($2, n, "."); pair = n[1] + 0 "." n[2] + 0; orders[pair]++
+    if ($1 == "kill") kills[pair]++ } END { for (pair in kills) if (orders[pair] > 1) print pair }' SCRIPT
+
+Under a script that isn't safe a pair may be lost. Then the exit status is 6, and the rows that were emitted
+before are written, without the last line.
 
 Try it, in this repository:
 
@@ -100,7 +109,7 @@ came in and how many rows went out, and the sums of their quantities and values.
   COUNT       how many trades, 0 to 100000
   options     those of run: --cash, --script, --threads, --turns, --journal
 
-Where a pair is lost, nothing is written.
+Where a pair is lost, nothing is written. flux run --help says under which scripts that may be.
 
 Try it, in this repository:
 
