@@ -5,7 +5,7 @@ use Rattle.tuple_edge.specs.declared.node.NodeId.{NodeId}
 use Rattle.flux_producer.specs.ProducerView.{ProducerView, contents_of, without_room}
 use Rattle.ingress_egress.specs.IngressStands as ingress
 use Rattle.ingress_egress.specs.IngressView.{IngressView, contents_in, new_producer, producer_at}
-use Rattle.node_edges.proofs.Producers.{producers_follow}
+use Rattle.node_edges.proofs.Producers.{few_in_pairs, producers_follow}
 use Rattle.node_edges.specs.OutEdges.{ProducerStands}
 use Rattle.pair_machine.specs.Boundary.{ingress_source, source_made}
 use Rattle.pair_machine.specs.Counts.{flow_of, items_on, made_on}
@@ -45,7 +45,7 @@ replica_twice v = ap (λ p. record v { phase = p }) (phase_twice v.phase)
 module _ (plan : PlanView) (rows : List Input) (p : Partition) where
   running_looks : (made : ℕ → ℕ) (x : machine.Producer) (one other : ProducerView) → contents_of one ≡ contents_of other
       → ProducerStands (flow_of plan rows) (items_on plan rows) p made x one → ProducerStands (flow_of plan rows) (items_on plan rows) p made x other
-  running_looks = (producers_follow (flow_of plan rows) (items_on plan rows) p).contents
+  running_looks = (producers_follow (flow_of plan rows) (items_on plan rows) p (few_in_pairs plan rows)).contents
 
   phase_in : (f : Phase) (x : Replica) → PhaseStands plan rows p f x → PhaseStands plan rows p (rules.contents_in_phase f) x
   phase_in (phase.Running r) (Running y) h = record {
@@ -89,7 +89,7 @@ module _ (plan : PlanView) (rows : List Input) (i : IngressView) (n : Node) wher
   source_looks : (q : ℕ) (one other : ProducerView) → contents_of one ≡ contents_of other
       → ProducerStands (flow_of plan rows) (items_on plan rows) (ingress_source q) (source_made (flow_of plan rows) (ingress_in n) q) ((ingress_in n).producers q) one
       → ProducerStands (flow_of plan rows) (items_on plan rows) (ingress_source q) (source_made (flow_of plan rows) (ingress_in n) q) ((ingress_in n).producers q) other
-  source_looks q = (producers_follow (flow_of plan rows) (items_on plan rows) (ingress_source q)).contents (source_made (flow_of plan rows) (ingress_in n) q) ((ingress_in n).producers q)
+  source_looks q = (producers_follow (flow_of plan rows) (items_on plan rows) (ingress_source q) (few_in_pairs plan rows)).contents (source_made (flow_of plan rows) (ingress_in n) q) ((ingress_in n).producers q)
 
   same_producers : (q : ℕ) → contents_of (producer_at (contents_in i) q) ≡ contents_of (producer_at i q)
   same_producers q = ap contents_of (get_or-map contents_of i.producers q (new_producer 0 0) refl) ∙ contents_twice (producer_at i q)

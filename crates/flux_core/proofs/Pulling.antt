@@ -51,7 +51,7 @@ module _ (plan : PlanView) (rows : List Input) where
     pub numbers : o ≡ Some (record { low = (buffer_at p t).low; produced = (buffer_at p t).produced })
     pub item : (k : ℕ) (i : Item) → buffer.item_at (buffer_at p t) k ≡ Some i → item_at (items_on plan rows edge) k ≡ Some i
 
-  by_edge : (made low : ℕ) (cursors : Which → ℕ) (p : ProducerView) (t : ℕ) (edge : EdgeId) → EdgeStands (items_on plan rows edge) made low cursors (edge_at p t)
+  by_edge : (made low : ℕ) (cursors : ℕ → ℕ) (p : ProducerView) (t : ℕ) (edge : EdgeId) → EdgeStands (items_on plan rows edge) made low cursors (edge_at p t)
       → Buffered p t (Some (record { low = low; produced = made })) edge
   by_edge made low cursors p t edge h = record {
     numbers = λ j. Some (record { low = sym h.low j; produced = sym h.produced j });

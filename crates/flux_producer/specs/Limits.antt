@@ -3,4 +3,4 @@ use Rattle.std.specs.Prelude.{ℕ}
 
 -- a consumer has at most so many replicas, and at least one
 abbrev pub max_copies : ℕ
-max_copies = 2
+max_copies = 3

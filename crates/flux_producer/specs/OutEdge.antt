@@ -1,5 +1,5 @@
 -- An out-edge: what is not acknowledged, and for each replica of its consumer the next number to send.
-use Rattle.std.specs.Prelude.{ℕ, ◌+◌, ◌<◌, ◌≤◌, List, [], ◌∷◌, map, max, min, slice_index, slice_set}
+use Rattle.std.specs.Prelude.{ℕ, ◌+◌, ◌<◌, ◌≤◌, List, [], ◌∷◌, map, max, min, replicate, slice_index, slice_set}
 use Rattle.tuple_edge.specs.Limits.{number_limit}
 use Rattle.tuple_edge.specs.declared.item.Item.{Item}
 use Rattle.ack_buffer.specs.Buffer.{BufferView, produced_on, starting_at, trimmed}
@@ -20,7 +20,7 @@ cursor_of e c = slice_index e.cursors c
 
 -- the cursors that send again all that is not acknowledged
 abbrev pub from_low : BufferView → List ℕ
-from_low b = (b.low + 1) ∷ (b.low + 1) ∷ []
+from_low b = replicate max_copies (b.low + 1)
 
 -- an out-edge with this buffer, before anything is sent
 abbrev pub over : BufferView → OutEdgeView

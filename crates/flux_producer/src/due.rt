@@ -6,7 +6,7 @@ ghost use Rattle.std.specs.Prelude.{◌≡◌};
 pub struct Due {
     /// The target partition, from 0.
     pub to: u32,
-    /// The replica: 0 or 1.
+    /// The replica, from 0.
     pub copy: u32,
     /// The number of the item, from 1.
     pub number: u64,

@@ -11,7 +11,7 @@ use std::marker::Model;
 use tuple_edge::{Item, OutOfMemory};
 
 /// The greatest number of replicas of a consumer.
-pub const MAX_COPIES: u32 = 2;
+pub const MAX_COPIES: u32 = 3;
 
 /// An out-edge: its buffer, and for each replica of its consumer the next number to send.
 #[derive(Drop)]
@@ -38,7 +38,7 @@ impl OutEdge {
         let next = buffer.low() + 1;
         OutEdge {
             buffer,
-            cursors: [next, next],
+            cursors: [next; MAX_COPIES as usize],
         }
     }
 
@@ -82,7 +82,7 @@ impl OutEdge {
     {
         self.buffer.trim(upto);
         let next = self.buffer.low() + 1;
-        self.cursors = [next.max(self.cursors[0]), next.max(self.cursors[1])];
+        self.cursors = self.cursors.map(|cursor| next.max(cursor));
     }
 
     // Goes back to a number that a replica wants.
@@ -100,7 +100,7 @@ impl OutEdge {
         ensures { self.new ≡ rewound self.old }
     {
         let next = self.buffer.low() + 1;
-        self.cursors = [next, next];
+        self.cursors = [next; MAX_COPIES as usize];
     }
 
     // Gives the item at a replica's cursor, and goes on to the next number. None where it isn't

@@ -14,7 +14,6 @@ use Rattle.tuple_edge.specs.declared.memory.OutOfMemory.{OutOfMemory}
 use Rattle.tuple_edge.specs.declared.node.EdgeId.{EdgeId}
 use Rattle.tuple_edge.specs.declared.node.NodeId.{NodeId}
 use Rattle.tuple_edge.specs.declared.node.NodeId.TheVariants as node
-use Rattle.tuple_edge.specs.declared.node.Which.TheVariants.{A, B}
 use Rattle.tuple_edge.specs.declared.packet.Body.{Body}
 use Rattle.tuple_edge.specs.declared.packet.Body.TheVariants as body
 use Rattle.ack_buffer.specs.Buffer as buffer
@@ -47,6 +46,7 @@ use Rattle.pair_machine.proofs.PlanFlow.{plan_is_flow}
 use Rattle.pair_machine.proofs.Tests.{nat_not}
 use Rattle.node_edges.specs.OutEdges.{AreNext, ProducerStands, any_due_in, copy_of, due_in, which_at}
 use Rattle.node_edges.proofs.Producers as producers
+use Rattle.node_edges.proofs.Producers.{few_in_pairs, few_of_pair}
 use Rattle.ingress_egress.specs.IngressStands.{IsAdmitted, IsDone, IsMade, IsMadeIn, IsRefused, IsTaken, IsWorked, StandsFor}
 use Rattle.ingress_egress.specs.IngressView.{AreWide, HasMadeNext, IngressView, made_next, new_producer, new_producers, producer_at, producer_in, sending_due, sending_first, taking, tuple_of, tuples_of, with_producer, working}
 use Rattle.ingress_egress.specs.IngressView as code
@@ -116,6 +116,10 @@ module _ (plan : PlanView) (rows : List Input) where
   unfolding flow_of
   targets_are i first = sym (parts_at plan.stages 0 i.first first)
 
+  pairs_are : (flow_of plan rows).replicas ≡ 2
+  unfolding flow_of
+  pairs_are = refl
+
   some_stage : IsPlan plan → 1 ≤ (flow_of plan rows).stages
   some_stage is = (plan_is_flow plan rows is).some_stage
 
@@ -128,11 +132,11 @@ module _ (plan : PlanView) (rows : List Input) where
       → ProducerStands (flow_of plan rows) (items_on plan rows) (ingress_source q) (source_made (flow_of plan rows) new_ingress q) (new_ingress.producers q) (new_producer parts q)
   opens_at is parts q same l =
       let f = flow_of plan rows in
-      let two : length (copies f (ingress_source q)) ≡ 2 = ap (λ b. length (if b then A ∷ [] else A ∷ B ∷ [])) (not_last is) in
+      let two : copies f (ingress_source q) ≡ 2 = ap (λ b. if b then 1 else f.replicas) (not_last is) ∙ pairs_are in
       let opened = producers.opens f (items_on plan rows) (ingress_source q) 1 true refl in
       subst (λ made. ProducerStands f (items_on plan rows) (ingress_source q) made (new_ingress.producers q) (new_producer parts q)) (λ j t. sym (((all_made plan rows is).by_ingress q t l).none) j)
       (subst (λ n. ProducerStands f (items_on plan rows) (ingress_source q) (λ t. 0) (new_ingress.producers q) (opening 0 q parts n true)) two
-      (subst (λ n. ProducerStands f (items_on plan rows) (ingress_source q) (λ t. 0) (new_ingress.producers q) (opening 0 q n (length (copies f (ingress_source q))) true)) (sym same) opened))
+      (subst (λ n. ProducerStands f (items_on plan rows) (ingress_source q) (λ t. 0) (new_ingress.producers q) (opening 0 q n (copies f (ingress_source q)) true)) (sym same) opened))
 
   pub opens : IsPlan plan → (i : IngressView) → i.inputs ≡ rows → slice_get plan.stages 0 ≡ Some i.first → i.mark ≡ plan.mark → i.makes ≡ 0 → i.producers ≡ new_producers i.first.parts plan.version
       → StandsFor plan rows i (new_node node.Ingress)
@@ -186,13 +190,13 @@ module _ (plan : PlanView) (rows : List Input) where
 
   want_taken : (i : IngressView) (from : NodeId) (edge : EdgeId) (number : ℕ) → edge.from < length i.producers → edge.to < i.first.parts
       → (m : Message) → BodyStands plan rows (link from node.Ingress) (body.Want edge number) m → (n : Node) → StandsFor plan rows i n
-      → (does (flow_of plan rows) node.Ingress (Takes from m) n ≡ Ok (IngressNode (machine.with_producer (ingress_in n) edge.from (wanted ((ingress_in n).producers edge.from) edge.to (which_of from) number)), []))
-      × StandsFor plan rows (taking i from (body.Want edge number)) (IngressNode (machine.with_producer (ingress_in n) edge.from (wanted ((ingress_in n).producers edge.from) edge.to (which_of from) number)))
+      → (does (flow_of plan rows) node.Ingress (Takes from m) n ≡ Ok (IngressNode (machine.with_producer (ingress_in n) edge.from (wanted ((ingress_in n).producers edge.from) edge.to (copy_of (which_of from)) number)), []))
+      × StandsFor plan rows (taking i from (body.Want edge number)) (IngressNode (machine.with_producer (ingress_in n) edge.from (wanted ((ingress_in n).producers edge.from) edge.to (copy_of (which_of from)) number)))
   want_taken i from edge number l k (Want named at) st n s = (
-    (λ j. Ok (IngressNode (machine.with_producer (ingress_in n) (sym st.0 j).from (wanted ((ingress_in n).producers (sym st.0 j).from) (sym st.0 j).to (which_of from) (sym st.1 j))), [])),
-    with_stands i n edge.from (wanted ((ingress_in n).producers edge.from) edge.to (which_of from) number) (wanted_from (producer_at i edge.from) edge.to (copy_of (which_of from)) number) s l
-        (producers.wants (flow_of plan rows) (items_on plan rows) (ingress_source edge.from) (source_made (flow_of plan rows) (ingress_in n) edge.from) ((ingress_in n).producers edge.from) (producer_at i edge.from) edge.to (which_of from) number
-        (let e = targets_are i s.first in omega arith) (s.producers edge.from (let e = s.sources in omega arith))),
+    (λ j. Ok (IngressNode (machine.with_producer (ingress_in n) (sym st.0 j).from (wanted ((ingress_in n).producers (sym st.0 j).from) (sym st.0 j).to (copy_of (which_of from)) (sym st.1 j))), [])),
+    with_stands i n edge.from (wanted ((ingress_in n).producers edge.from) edge.to (copy_of (which_of from)) number) (wanted_from (producer_at i edge.from) edge.to (copy_of (which_of from)) number) s l
+        (producers.wants (flow_of plan rows) (items_on plan rows) (ingress_source edge.from) (source_made (flow_of plan rows) (ingress_in n) edge.from) ((ingress_in n).producers edge.from) (producer_at i edge.from) edge.to (copy_of (which_of from)) number
+        (let e = targets_are i s.first in omega arith) (few_of_pair (which_of from)) (s.producers edge.from (let e = s.sources in omega arith))),
   )
   want_taken i from edge number l k m st n s = absurd st
 
@@ -204,14 +208,14 @@ module _ (plan : PlanView) (rows : List Input) where
   take_course i (node.Replica stage part which) (body.Want edge number) ok at index act a n s asks =
       let to : edge.to < i.first.parts = let e = ok.1.2 in let l = ok.1.3 in omega arith in
       let h = want_taken i (node.Replica stage part which) edge number ok.1.1 to a.0 a.2 n s in
-      ((IngressNode (machine.with_producer (ingress_in n) edge.from (wanted ((ingress_in n).producers edge.from) edge.to which number)), []), (λ j. does (flow_of plan rows) node.Ingress (a.1 j) n) ∙ h.0, h.1, λ to. tt)
+      ((IngressNode (machine.with_producer (ingress_in n) edge.from (wanted ((ingress_in n).producers edge.from) edge.to (copy_of which) number)), []), (λ j. does (flow_of plan rows) node.Ingress (a.1 j) n) ∙ h.0, h.1, λ to. tt)
   take_course i from b ok at index act a n s asks = absurd ok
 
   -- ---- work
 
   -- what is due of a source is what the machine says
   due_same : (i : IngressView) (n : Node) (q : ℕ) → q < plan.version → StandsFor plan rows i n → any_due_in (due_of (producer_at i q)) ≡ source_due (flow_of plan rows) (ingress_in n) q
-  due_same i n q l s = producers.due_is (flow_of plan rows) (items_on plan rows) (ingress_source q) (source_made (flow_of plan rows) (ingress_in n) q) ((ingress_in n).producers q) (producer_at i q) (s.producers q l)
+  due_same i n q l s = producers.due_is (flow_of plan rows) (items_on plan rows) (ingress_source q) (few_in_pairs plan rows) (source_made (flow_of plan rows) (ingress_in n) q) ((ingress_in n).producers q) (producer_at i q) (s.producers q l)
 
   first_is : (i : IngressView) (n : Node) → StandsFor plan rows i n
       → code.source_due i ≡ first_below (λ q. is_some (source_due (flow_of plan rows) (ingress_in n) q)) ((flow_of plan rows).sources 1)
@@ -240,8 +244,8 @@ module _ (plan : PlanView) (rows : List Input) where
   sends_so is i q l first (Some d) found some = λ clock a act n s asks.
       let f = flow_of plan rows in
       let x = ingress_in n in
-      let h = producers.sends f (items_on plan rows) (ingress_source q) (source_made f x q) (x.producers q) (producer_at i q) d found (s.producers q (let e = s.sources in omega arith)) in
-      let held = h.held ((asks.0.1 q).above d.to (which_at d.copy)) (most_made is q d.to x.makes) in
+      let h = producers.sends f (items_on plan rows) (ingress_source q) (few_in_pairs plan rows) (source_made f x q) (x.producers q) (producer_at i q) d found (s.producers q (let e = s.sources in omega arith)) in
+      let held = h.held ((asks.0.1 q).above d.to d.copy) (most_made is q d.to x.makes) in
       let at = h.item held.0 held.1 in (
         (IngressNode (machine.with_producer x q (producing.sent_on (x.producers q) (due_in d))), sends_due f (ingress_source q) (due_in d)),
         (λ j. does f node.Ingress (act j) n) ∙ works_as i n (Some q) first s ∙ ap (λ z. as_ingress (source_sends f x q z)) h.due,

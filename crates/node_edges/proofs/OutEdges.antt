@@ -1,20 +1,18 @@
 -- One out-edge, after each of its changes, stands for the numbers that the machine then has.
 use Rattle.std.proofs.Common.{◌≡◌, ◌<◌, ◌≤◌, ◌+◌, ◌-◌, ℕ, zero, suc, Bool, true, false, List, [], ◌∷◌, ◌++◌, None, Some, drop, take, max, refl, sym, ap, ◌∙◌, subst, arith}
-use Rattle.std.specs.Prelude.{if◌then◌else◌, min, map, nat_le, slice_get, slice_set}
+use Rattle.std.specs.Prelude.{◌==◌, if◌then◌else◌, min, map, nat_le, slice_get, slice_index, slice_set}
 use Rattle.std.proofs.lemmas.Bool.{leb-true, leb-false}
 use Rattle.std.proofs.lemmas.List.{drop-drop}
 use Rattle.tuple_edge.specs.declared.item.Item.{Item}
-use Rattle.tuple_edge.specs.declared.node.Which.{Which}
-use Rattle.tuple_edge.specs.declared.node.Which.TheVariants.{A, B}
+use Rattle.flux_producer.specs.Limits.{max_copies}
 use Rattle.ack_buffer.specs.Buffer.{BufferView, produced_on, trimmed}
 use Rattle.ack_buffer.specs.Buffer as buffer
 use Rattle.flux_producer.specs.OutEdge.{OutEdgeView, acknowledged, cursor_of, over, rewound, sent, wanted, with_item}
 use Rattle.merge_order.specs.Edges.{item_at}
 use Rattle.merge_order.proofs.AfterNext.{front_more}
 use Rattle.pair_machine.specs.Contents.{between}
-use Rattle.pair_machine.specs.Numbers.{is_which}
 use Rattle.std.proofs.Common.{length}
-use Rattle.node_edges.specs.OutEdges.{EdgeStands, copy_of, with_items}
+use Rattle.node_edges.specs.OutEdges.{EdgeStands, with_items}
 use Rattle.flux_producer.specs.ProducerView.{without_room}
 use Rattle.std.proofs.lemmas.Option.{slice_get_within}
 use Rattle.std.proofs.lemmas.List.{append-nil, length-take-le, append_assoc}
@@ -53,44 +51,51 @@ between_acked low upto made edge =
     drop_take (upto - low) (made - low) (drop low edge) ∙ ap (λ n. take n (drop (upto - low) (drop low edge))) left
     ∙ ap (take (made - max low upto)) (drop-drop (upto - low) low edge ∙ ap (λ n. drop n edge) further)
 
-pub acked_stands : (edge : List Item) (made low upto : ℕ) (cursors : Which → ℕ) (e : OutEdgeView) → EdgeStands edge made low cursors e
+pub acked_stands : (edge : List Item) (made low upto : ℕ) (cursors : ℕ → ℕ) (e : OutEdgeView) → EdgeStands edge made low cursors e
     → EdgeStands edge made (max low upto) (λ c. max (cursors c) (max low upto + 1)) (acknowledged e upto)
 acked_stands edge made low upto cursors e s = record {
   low = ap (λ n. max n upto) s.low;
   produced = s.produced;
   kept = (λ i. drop (upto - s.low i) (s.kept i)) ∙ between_acked low upto made edge;
-  cursors = (λ i. map (max (max (s.low i) upto + 1)) (s.cursors i)) ∙ (λ i. swapped A i ∷ swapped B i ∷ []);
+  cursors = (λ i. map (max (max (s.low i) upto + 1)) (s.cursors i)) ∙ (λ i. swapped 0 i ∷ swapped 1 i ∷ swapped 2 i ∷ []);
 }
   where
-    swapped : (c : Which) → max (max low upto + 1) (cursors c) ≡ max (cursors c) (max low upto + 1)
+    swapped : (c : ℕ) → max (max low upto + 1) (cursors c) ≡ max (cursors c) (max low upto + 1)
     swapped c = omega arith
 
 -- ---- a want
 
-pub wanted_stands : (edge : List Item) (made low from : ℕ) (cursors : Which → ℕ) (w : Which) (e : OutEdgeView) → EdgeStands edge made low cursors e
-    → EdgeStands edge made low (λ d. if is_which d w then min (cursors w) (max from (low + 1)) else cursors d) (wanted e (copy_of w) from)
-wanted_stands edge made low from cursors A e s = record {
+pub wanted_stands : (edge : List Item) (made low from : ℕ) (cursors : ℕ → ℕ) (c : ℕ) (e : OutEdgeView) → c < max_copies → EdgeStands edge made low cursors e
+    → EdgeStands edge made low (λ d. if d == c then min (cursors c) (max from (low + 1)) else cursors d) (wanted e c from)
+wanted_stands edge made low from cursors zero e l s = record {
   low = s.low;
   produced = s.produced;
   kept = s.kept;
   cursors = λ i. slice_set (s.cursors i) 0 (min (cursor_of (record e { cursors = s.cursors i }) 0) (max from (s.low i + 1)));
 }
-wanted_stands edge made low from cursors B e s = record {
+wanted_stands edge made low from cursors (suc zero) e l s = record {
   low = s.low;
   produced = s.produced;
   kept = s.kept;
   cursors = λ i. slice_set (s.cursors i) 1 (min (cursor_of (record e { cursors = s.cursors i }) 1) (max from (s.low i + 1)));
 }
+wanted_stands edge made low from cursors (suc (suc zero)) e l s = record {
+  low = s.low;
+  produced = s.produced;
+  kept = s.kept;
+  cursors = λ i. slice_set (s.cursors i) 2 (min (cursor_of (record e { cursors = s.cursors i }) 2) (max from (s.low i + 1)));
+}
+wanted_stands edge made low from cursors (suc (suc (suc c))) e l s = absurd (omega arith)
 
 -- ---- a new leader
 
-pub rewound_stands : (edge : List Item) (made low : ℕ) (cursors : Which → ℕ) (e : OutEdgeView) → EdgeStands edge made low cursors e
+pub rewound_stands : (edge : List Item) (made low : ℕ) (cursors : ℕ → ℕ) (e : OutEdgeView) → EdgeStands edge made low cursors e
     → EdgeStands edge made low (λ c. low + 1) (rewound e)
 rewound_stands edge made low cursors e s = record {
   low = s.low;
   produced = s.produced;
   kept = s.kept;
-  cursors = λ i. (s.low i + 1) ∷ (s.low i + 1) ∷ [];
+  cursors = λ i. (s.low i + 1) ∷ (s.low i + 1) ∷ (s.low i + 1) ∷ [];
 }
 
 -- ---- starting
@@ -102,25 +107,39 @@ over_stands edge made low b at most s = record {
   low = at;
   produced = s.produced ∙ length-take-le made edge most;
   kept = s.items ∙ ap (λ n. drop n (take made edge)) at ∙ drop_take low made edge;
-  cursors = λ i. (at i + 1) ∷ (at i + 1) ∷ [];
+  cursors = λ i. (at i + 1) ∷ (at i + 1) ∷ (at i + 1) ∷ [];
 }
 
 -- ---- sending
 
-pub sent_stands : (edge : List Item) (made low : ℕ) (cursors : Which → ℕ) (w : Which) (e : OutEdgeView) → EdgeStands edge made low cursors e
-    → EdgeStands edge made low (λ d. if is_which d w then cursors w + 1 else cursors d) (sent e (copy_of w))
-sent_stands edge made low cursors A e s = record {
+pub sent_stands : (edge : List Item) (made low : ℕ) (cursors : ℕ → ℕ) (c : ℕ) (e : OutEdgeView) → c < max_copies → EdgeStands edge made low cursors e
+    → EdgeStands edge made low (λ d. if d == c then cursors c + 1 else cursors d) (sent e c)
+sent_stands edge made low cursors zero e l s = record {
   low = s.low;
   produced = s.produced;
   kept = s.kept;
   cursors = λ i. slice_set (s.cursors i) 0 (cursor_of (record e { cursors = s.cursors i }) 0 + 1);
 }
-sent_stands edge made low cursors B e s = record {
+sent_stands edge made low cursors (suc zero) e l s = record {
   low = s.low;
   produced = s.produced;
   kept = s.kept;
   cursors = λ i. slice_set (s.cursors i) 1 (cursor_of (record e { cursors = s.cursors i }) 1 + 1);
 }
+sent_stands edge made low cursors (suc (suc zero)) e l s = record {
+  low = s.low;
+  produced = s.produced;
+  kept = s.kept;
+  cursors = λ i. slice_set (s.cursors i) 2 (cursor_of (record e { cursors = s.cursors i }) 2 + 1);
+}
+sent_stands edge made low cursors (suc (suc (suc c))) e l s = absurd (omega arith)
+
+-- the number to send next to a replica
+pub cursor_is : (next : ℕ → ℕ) (e : OutEdgeView) (c : ℕ) → c < max_copies → e.cursors ≡ next 0 ∷ next 1 ∷ next 2 ∷ [] → cursor_of e c ≡ next c
+cursor_is next e zero l s = ap (λ cs. slice_index cs 0) s
+cursor_is next e (suc zero) l s = ap (λ cs. slice_index cs 1) s
+cursor_is next e (suc (suc zero)) l s = ap (λ cs. slice_index cs 2) s
+cursor_is next e (suc (suc (suc c))) l s = absurd (omega arith)
 
 -- what a buffer holds under a number is the item of that number
 number_in : (low made number : ℕ) (edge : List Item) (b : Bool) → nat_le number low ≡ b → (i : Item)
@@ -132,7 +151,7 @@ number_in low made (suc n) edge false test i e =
     let place : low + (suc n - low - 1) ≡ n = omega arith in
     sym (at_drop low (suc n - low - 1) edge ∙ ap (slice_get edge) place) ∙ at_take (made - low) (suc n - low - 1) (drop low edge) i e
 
-pub held_is : (edge : List Item) (made low : ℕ) (cursors : Which → ℕ) (e : OutEdgeView) (number : ℕ) (i : Item) → EdgeStands edge made low cursors e
+pub held_is : (edge : List Item) (made low : ℕ) (cursors : ℕ → ℕ) (e : OutEdgeView) (number : ℕ) (i : Item) → EdgeStands edge made low cursors e
     → buffer.item_at e.buffer number ≡ Some i → item_at edge number ≡ Some i
 held_is edge made low cursors e number i s found =
     number_in low made number edge (nat_le number low) refl i
@@ -140,7 +159,7 @@ held_is edge made low cursors e number i s found =
 
 -- ---- making
 
-made_by_test : (edge : List Item) (made low : ℕ) (cursors : Which → ℕ) (e : OutEdgeView) (i : Item) (b : Bool) → nat_le (made + 1) low ≡ b → EdgeStands edge made low cursors e
+made_by_test : (edge : List Item) (made low : ℕ) (cursors : ℕ → ℕ) (e : OutEdgeView) (i : Item) (b : Bool) → nat_le (made + 1) low ≡ b → EdgeStands edge made low cursors e
     → slice_get edge made ≡ Some i
     → EdgeStands edge (made + 1) low cursors (record e {
       buffer = if b then record e.buffer { produced = e.buffer.produced + 1 }
@@ -169,7 +188,7 @@ made_by_test edge made low cursors e i false test s at =
       cursors = s.cursors;
     }
 
-pub made_stands : (edge : List Item) (made low : ℕ) (cursors : Which → ℕ) (e : OutEdgeView) (i : Item) → EdgeStands edge made low cursors e
+pub made_stands : (edge : List Item) (made low : ℕ) (cursors : ℕ → ℕ) (e : OutEdgeView) (i : Item) → EdgeStands edge made low cursors e
     → item_at edge (made + 1) ≡ Some i → EdgeStands edge (made + 1) low cursors (with_item e i)
 made_stands edge made low cursors e i s at =
     let next : made + 1 ≡ suc made = omega arith in
@@ -183,7 +202,7 @@ made_stands edge made low cursors e i s at =
 -- ---- several items
 
 -- edges that differ in room alone stand for the same
-pub without_stands : (edge : List Item) (made low : ℕ) (cursors : Which → ℕ) (e other : OutEdgeView) → without_room other ≡ without_room e → EdgeStands edge made low cursors e
+pub without_stands : (edge : List Item) (made low : ℕ) (cursors : ℕ → ℕ) (e other : OutEdgeView) → without_room other ≡ without_room e → EdgeStands edge made low cursors e
     → EdgeStands edge made low cursors other
 without_stands edge made low cursors e other same s = record {
   low = ap (λ (z : OutEdgeView). z.buffer.low) same ∙ s.low;
@@ -201,7 +220,7 @@ front_at items (y ∷ front) news i zero e = let z : ⊥ = cc e in absurd z
 front_at [] (y ∷ front) news i (suc later) e = let z : ⊥ = cc e in absurd z
 front_at (x ∷ items) (y ∷ front) news i (suc later) e = front_at items front news i later (let z : take later items ≡ front ++ i ∷ news = cc e in z)
 
-pub more_stands : (edge : List Item) (made later low : ℕ) (cursors : Which → ℕ) (e : OutEdgeView) (news : List Item) → made ≤ length edge → later ≤ length edge
+pub more_stands : (edge : List Item) (made later low : ℕ) (cursors : ℕ → ℕ) (e : OutEdgeView) (news : List Item) → made ≤ length edge → later ≤ length edge
     → take later edge ≡ take made edge ++ news → EdgeStands edge made low cursors e → EdgeStands edge later low cursors (with_items e news)
 more_stands edge made later low cursors e [] some most front s =
     let same : later ≡ made = omega (arith, length-take-le later edge most, length-take-le made edge some, ap length (front ∙ append-nil (take made edge))) in
@@ -236,7 +255,7 @@ held_there edge made low number false test above below long =
     let place : low + (number - low - 1) ≡ number - 1 = omega arith in
     (one.0, into_take (made - low) (number - low - 1) (drop low edge) one.0 (omega arith) (at_drop low (number - low - 1) edge ∙ ap (slice_get edge) place ∙ one.1))
 
-pub is_held : (edge : List Item) (made low : ℕ) (cursors : Which → ℕ) (e : OutEdgeView) (number : ℕ) → EdgeStands edge made low cursors e → low < number → number ≤ made → made ≤ length edge
+pub is_held : (edge : List Item) (made low : ℕ) (cursors : ℕ → ℕ) (e : OutEdgeView) (number : ℕ) → EdgeStands edge made low cursors e → low < number → number ≤ made → made ≤ length edge
     → (i : Item) × (buffer.item_at e.buffer number ≡ Some i)
 is_held edge made low cursors e number s above below long =
     let h = held_there edge made low number (nat_le number low) refl above below long in

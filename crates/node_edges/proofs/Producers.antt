@@ -1,15 +1,19 @@
 -- Each call of a producer in code is what the machine's producer does.
+use Rattle.tuple_edge.specs.declared.node.Which.TheVariants.{A, B}
+use Rattle.tuple_edge.specs.declared.node.Which.{Which}
+use Rattle.tuple_edge.specs.Input.{Input}
+use Rattle.plan_reader.specs.PlanView.{PlanView}
+use Rattle.pair_machine.specs.Counts.{flow_of}
 use Rattle.std.proofs.Common.{◌≡◌, ◌<◌, ◌≤◌, ◌+◌, ℕ, zero, suc, Bool, true, false, List, [], ◌∷◌, Option, None, Some, length, map, max, refl, sym, ap, ◌∙◌, subst, arith}
-use Rattle.std.specs.Prelude.{◌==◌, ◌&&◌, if◌then◌else◌, min, nat_le, nat_lt, slice_index, slice_index_or, replicate}
+use Rattle.std.specs.Prelude.{◌==◌, ◌&&◌, if◌then◌else◌, min, nat_le, nat_lt, slice_index_or, replicate}
 use Rattle.std.proofs.Math.ListN.{length-set}
 use Rattle.std.proofs.lemmas.Bool.{eqb-true, eq-eqb}
 use Rattle.std.proofs.lemmas.List.{get_or-set_same, get_or-set_other, length-map, length-replicate}
 use Rattle.tuple_edge.specs.declared.item.Item.{Item}
 use Rattle.tuple_edge.specs.declared.node.EdgeId.{EdgeId}
-use Rattle.tuple_edge.specs.declared.node.Which.{Which}
-use Rattle.tuple_edge.specs.declared.node.Which.TheVariants.{A, B}
 use Rattle.ack_buffer.specs.Buffer.{BufferView, starting_at}
 use Rattle.flux_producer.specs.Due as code
+use Rattle.flux_producer.specs.Limits.{max_copies}
 use Rattle.flux_producer.specs.OutEdge.{OutEdgeView, acknowledged, over, rewound, sent, unused, with_item}
 use Rattle.flux_producer.specs.OutEdge as edge
 use Rattle.flux_producer.specs.ProducerView.{ProducerView, buffer_at, cursor_at, edge_at, sent_on, with_edge, without_room}
@@ -17,14 +21,14 @@ use Rattle.flux_producer.specs.declared.due.Due.{Due as Sending}
 use Rattle.flux_producer.proofs.Dues.{due_least}
 use Rattle.pair_machine.specs.Consumers.{with_at}
 use Rattle.pair_machine.specs.Flow.{Flow}
-use Rattle.pair_machine.specs.Numbers.{Partition, Producer, is_which, out_edge}
+use Rattle.pair_machine.specs.Numbers.{Partition, Producer, out_edge, copy_of}
 use Rattle.pair_machine.specs.Producers.{Due, acked_to, copies, due, due_below, due_copies, due_copy, wanted}
 use Rattle.pair_machine.specs.Producers as machine
 use Rattle.pair_machine.proofs.Found.{IsDue, is_due}
-use Rattle.pair_machine.proofs.Tests.{nat_self}
-use Rattle.node_edges.specs.OutEdges.{EdgeStands, ProducerStands, any_due_in, copy_of, due_in, which_at, with_items}
+use Rattle.pair_machine.proofs.Tests.{nat_self, if_elim}
+use Rattle.node_edges.specs.OutEdges.{EdgeStands, ProducerStands, any_due_in, due_in, with_items}
 use Rattle.node_edges.specs.ProducerLaws as law
-use Rattle.node_edges.proofs.OutEdges.{acked_stands, held_is, is_held, made_stands, more_stands, over_stands, without_stands, rewound_stands, sent_stands, wanted_stands}
+use Rattle.node_edges.proofs.OutEdges.{acked_stands, cursor_is, held_is, is_held, made_stands, more_stands, over_stands, without_stands, rewound_stands, sent_stands, wanted_stands}
 
 -- what is due, in code and in the machine ------------------------------------------------
 
@@ -37,10 +41,6 @@ sooner_in None e = refl
 sooner_in (Some d) None = refl
 sooner_in (Some d) (Some e) = if_due (nat_le d.number e.number) d e
 
-sooner_none : (d : Option Due) → machine.sooner d None ≡ d
-sooner_none None = refl
-sooner_none (Some d) = refl
-
 if_some : (b : Bool) (d : Sending) → any_due_in (if b then Some d else None) ≡ (if b then Some (due_in d) else None)
 if_some true d = refl
 if_some false d = refl
@@ -49,20 +49,9 @@ if_leads : (b : Bool) (d : Option Sending) → any_due_in (if b then d else None
 if_leads true d = refl
 if_leads false d = refl
 
--- the copies of an edge, by how many they are
-copies_are : (b : Bool) (n : ℕ) → n ≡ length (if b then A ∷ [] else A ∷ B ∷ []) → (due : ℕ → Option Sending) (of : Which → Option Due)
-    → any_due_in (due 0) ≡ of A → any_due_in (due 1) ≡ of B → (of_copies : List Which → Option Due)
-    → of_copies (A ∷ []) ≡ machine.sooner (of A) None → of_copies (A ∷ B ∷ []) ≡ machine.sooner (of A) (machine.sooner (of B) None)
-    → any_due_in (code.soonest_below due n) ≡ of_copies (if b then A ∷ [] else A ∷ B ∷ [])
-copies_are true n e due of first second of_copies one two =
-    ap (λ k. any_due_in (code.soonest_below due k)) e ∙ first ∙ sym (one ∙ sooner_none (of A))
-copies_are false n e due of first second of_copies one two =
-    ap (λ k. any_due_in (code.soonest_below due k)) e ∙ sooner_in (due 0) (due 1)
-    ∙ (λ i. machine.sooner (first i) (second i)) ∙ sym (two ∙ ap (machine.sooner (of A)) (sooner_none (of B)))
-
 module _ (f : Flow) (on : EdgeId → List Item) (p : Partition) where
   -- one edge of a producer is another one, which stands for the numbers; the others did before
-  with_stands : (made lows : ℕ → ℕ) (next : ℕ → Which → ℕ) (y : ProducerView) (t : ℕ) (e : OutEdgeView) →
+  with_stands : (made lows : ℕ → ℕ) (next : ℕ → ℕ → ℕ) (y : ProducerView) (t : ℕ) (e : OutEdgeView) →
       t < length y.edges → EdgeStands (on (out_edge p t)) (made t) (lows t) (next t) e →
       (j : ℕ) → ((j == t) ≡ false → EdgeStands (on (out_edge p j)) (made j) (lows j) (next j) (edge_at y j)) →
       EdgeStands (on (out_edge p j)) (made j) (lows j) (next j) (edge_at (with_edge y t e) j)
@@ -162,27 +151,27 @@ module _ (f : Flow) (on : EdgeId → List Item) (p : Partition) where
           (sym e) (s.edges j k));
     }
 
-    rewinds : (t : ℕ) (w : Which) (from : ℕ) → t < f.targets p.stage → ProducerStands f on p made x y
-        → ProducerStands f on p made (machine.rewound x t w from) (with_edge y t (edge.wanted (edge_at y t) (copy_of w) from))
-    rewinds t w from l s = record {
+    rewinds : (t c from : ℕ) → t < f.targets p.stage → c < max_copies → ProducerStands f on p made x y
+        → ProducerStands f on p made (machine.rewound x t c from) (with_edge y t (edge.wanted (edge_at y t) c from))
+    rewinds t c from l few s = record {
       stage = s.stage;
       from = s.from;
       copies = s.copies;
-      targets = length-set y.edges t (edge.wanted (edge_at y t) (copy_of w) from) ∙ s.targets;
+      targets = length-set y.edges t (edge.wanted (edge_at y t) c from) ∙ s.targets;
       term = s.term;
       leads = s.leads;
-      edges = λ j k. with_stands made x.lows (machine.rewound x t w from).cursors y t (edge.wanted (edge_at y t) (copy_of w) from) (there t l s)
-          (subst (λ b. EdgeStands (on (out_edge p t)) (made t) (x.lows t) (λ d. if b && is_which d w then min (x.cursors t w) (max from (x.lows t + 1)) else x.cursors t d) (edge.wanted (edge_at y t) (copy_of w) from))
-          (sym (nat_self t)) (wanted_stands (on (out_edge p t)) (made t) (x.lows t) from (x.cursors t) w (edge_at y t) (s.edges t l)))
+      edges = λ j k. with_stands made x.lows (machine.rewound x t c from).cursors y t (edge.wanted (edge_at y t) c from) (there t l s)
+          (subst (λ b. EdgeStands (on (out_edge p t)) (made t) (x.lows t) (λ d. if b && (d == c) then min (x.cursors t c) (max from (x.lows t + 1)) else x.cursors t d) (edge.wanted (edge_at y t) c from))
+          (sym (nat_self t)) (wanted_stands (on (out_edge p t)) (made t) (x.lows t) from (x.cursors t) c (edge_at y t) few (s.edges t l)))
           j
-          (λ e. subst (λ b. EdgeStands (on (out_edge p j)) (made j) (x.lows j) (λ d. if b && is_which d w then min (x.cursors t w) (max from (x.lows t + 1)) else x.cursors j d) (edge_at y j)) (sym e) (s.edges j k));
+          (λ e. subst (λ b. EdgeStands (on (out_edge p j)) (made j) (x.lows j) (λ d. if b && (d == c) then min (x.cursors t c) (max from (x.lows t + 1)) else x.cursors j d) (edge_at y j)) (sym e) (s.edges j k));
     }
 
     pub wants : law.Wants f on p made x y
-    wants t w from l s = go y.leads x.leads s.leads
+    wants t c from l few s = go y.leads x.leads s.leads
       where
-        go : (a b : Bool) → a ≡ b → ProducerStands f on p made (if b then machine.rewound x t w from else x) (if a then with_edge y t (edge.wanted (edge_at y t) (copy_of w) from) else y)
-        go true true e = rewinds t w from l s
+        go : (a b : Bool) → a ≡ b → ProducerStands f on p made (if b then machine.rewound x t c from else x) (if a then with_edge y t (edge.wanted (edge_at y t) c from) else y)
+        go true true e = rewinds t c from l few s
         go false false e = s
         go true false e = let z : ⊥ = cc e in absurd z
         go false true e = let z : ⊥ = cc e in absurd z
@@ -226,34 +215,6 @@ module _ (f : Flow) (on : EdgeId → List Item) (p : Partition) where
           (λ e. subst (λ b. EdgeStands (on (out_edge p j)) (if b then made t + 1 else made j) (x.lows j) (x.cursors j) (edge_at y j)) (sym e) (s.edges j k));
     }
 
-    -- ---- what is due
-
-    copy_due : (t c : ℕ) (w : Which) → which_at c ≡ w → EdgeStands (on (out_edge p t)) (made t) (x.lows t) (x.cursors t) (edge_at y t) → cursor_at y t c ≡ x.cursors t w
-        → any_due_in (code.due_at y t c) ≡ due_copy (made t) x t w
-    copy_due t c w same s cursor =
-        if_some (nat_le (cursor_at y t c) (buffer_at y t).produced) (record { to = t; copy = c; number = cursor_at y t c })
-        ∙ (λ i. if nat_le (cursor i) (s.produced i) then Some (record { to = t; copy = same i; number = cursor i }) else None)
-
-    target_due : (t : ℕ) → t < f.targets p.stage → ProducerStands f on p made x y → any_due_in (code.due_to y t) ≡ due_copies (made t) x t (copies f p)
-    target_due t l s =
-        let e = s.edges t l in
-        copies_are (p.stage == f.stages) y.copies s.copies (code.due_at y t) (due_copy (made t) x t)
-        (copy_due t 0 A refl e (ap (λ cs. slice_index cs 0) e.cursors))
-        (copy_due t 1 B refl e (ap (λ cs. slice_index cs 1) e.cursors))
-        (due_copies (made t) x t) refl refl
-
-    below_due : (n : ℕ) → n ≤ f.targets p.stage → ProducerStands f on p made x y → any_due_in (code.soonest_below (code.due_to y) n) ≡ due_below made x (copies f p) n
-    below_due zero l s = refl
-    below_due (suc n) l s =
-        sooner_in (code.soonest_below (code.due_to y) n) (code.due_to y n)
-        ∙ (λ i. machine.sooner (below_due n (omega arith) s i) (target_due n (omega arith) s i))
-
-    pub due_is : law.IsDue f on p made x y
-    due_is s =
-        if_leads y.leads (code.soonest_below (code.due_to y) (length y.edges))
-        ∙ (λ i. if s.leads i then any_due_in (code.soonest_below (code.due_to y) (s.targets i)) else None)
-        ∙ ap (λ o. if x.leads then o else None) (below_due (f.targets p.stage) (omega arith) s)
-
   pub makes : law.MakesMore f on p
   makes made later news x y z m next s = record {
     stage = m.stage ∙ s.stage;
@@ -268,16 +229,44 @@ module _ (f : Flow) (on : EdgeId → List Item) (p : Partition) where
         (more_stands (on (out_edge p t)) (made t) (later t) (x.lows t) (x.cursors t) (edge_at y t) (news t) n.some n.most n.front (s.edges t l));
   }
 
+module _ (f : Flow) (on : EdgeId → List Item) (p : Partition) (few_replicas : f.replicas ≤ max_copies) where
+  few_copies : copies f p ≤ max_copies
+  few_copies = if_elim (λ n. n ≤ max_copies) (p.stage == f.stages) 1 f.replicas (λ e. omega arith) (λ e. few_replicas)
+
+  -- ---- what is due
+
+  module _ (made : ℕ → ℕ) (x : Producer) (y : ProducerView) where
+    copy_due : (t c : ℕ) → EdgeStands (on (out_edge p t)) (made t) (x.lows t) (x.cursors t) (edge_at y t) → cursor_at y t c ≡ x.cursors t c
+        → any_due_in (code.due_at y t c) ≡ due_copy (made t) x t c
+    copy_due t c s cursor =
+        if_some (nat_le (cursor_at y t c) (buffer_at y t).produced) (record { to = t; copy = c; number = cursor_at y t c })
+        ∙ (λ i. if nat_le (cursor i) (s.produced i) then Some (record { to = t; copy = c; number = cursor i }) else None)
+
+    copies_due : (t n : ℕ) → n ≤ max_copies → EdgeStands (on (out_edge p t)) (made t) (x.lows t) (x.cursors t) (edge_at y t)
+        → any_due_in (code.soonest_below (code.due_at y t) n) ≡ due_copies (made t) x t n
+    copies_due t zero few e = refl
+    copies_due t (suc n) few e =
+        sooner_in (code.soonest_below (code.due_at y t) n) (code.due_at y t n)
+        ∙ (λ i. machine.sooner (copies_due t n (omega arith) e i) (copy_due t n e (cursor_is (x.cursors t) (edge_at y t) n (omega arith) e.cursors) i))
+
+    target_due : (t : ℕ) → t < f.targets p.stage → ProducerStands f on p made x y → any_due_in (code.due_to y t) ≡ due_copies (made t) x t (copies f p)
+    target_due t l s =
+        ap (λ n. any_due_in (code.soonest_below (code.due_at y t) n)) s.copies
+        ∙ copies_due t (copies f p) few_copies (s.edges t l)
+
+    below_due : (n : ℕ) → n ≤ f.targets p.stage → ProducerStands f on p made x y → any_due_in (code.soonest_below (code.due_to y) n) ≡ due_below made x (copies f p) n
+    below_due zero l s = refl
+    below_due (suc n) l s =
+        sooner_in (code.soonest_below (code.due_to y) n) (code.due_to y n)
+        ∙ (λ i. machine.sooner (below_due n (omega arith) s i) (target_due n (omega arith) s i))
+
+    pub due_is : law.IsDue f on p made x y
+    due_is s =
+        if_leads y.leads (code.soonest_below (code.due_to y) (length y.edges))
+        ∙ (λ i. if s.leads i then any_due_in (code.soonest_below (code.due_to y) (s.targets i)) else None)
+        ∙ ap (λ o. if x.leads then o else None) (below_due (f.targets p.stage) (omega arith) s)
+
   -- ---- sending
-
-  which_copy : (c : ℕ) → c < 2 → copy_of (which_at c) ≡ c
-  which_copy zero l = refl
-  which_copy (suc zero) l = refl
-  which_copy (suc (suc c)) l = absurd (omega arith)
-
-  few_copies : (b : Bool) → length (if b then A ∷ [] else A ∷ B ∷ []) ≤ 2
-  few_copies true = omega arith
-  few_copies false = omega arith
 
   -- what is due is to a replica that is there
   copy_there : (y : ProducerView) (d : Sending) (b : Bool) → y.leads ≡ b → (if b then code.soonest_below (code.due_to y) (length y.edges) else None) ≡ Some d → d.copy < y.copies
@@ -285,20 +274,20 @@ module _ (f : Flow) (on : EdgeId → List Item) (p : Partition) where
   copy_there y d true e found = (due_least y (Some d) (sym found)).waits.copy
 
   module _ (made : ℕ → ℕ) (x : Producer) (y : ProducerView) where
-    sends_to : (t : ℕ) (w : Which) → t < f.targets p.stage → ProducerStands f on p made x y
-        → ProducerStands f on p made (record x { cursors = λ j c. if (j == t) && is_which c w then x.cursors t w + 1 else x.cursors j c }) (with_edge y t (sent (edge_at y t) (copy_of w)))
-    sends_to t w l s = record {
+    sends_to : (t w : ℕ) → t < f.targets p.stage → w < max_copies → ProducerStands f on p made x y
+        → ProducerStands f on p made (record x { cursors = λ j c. if (j == t) && (c == w) then x.cursors t w + 1 else x.cursors j c }) (with_edge y t (sent (edge_at y t) w))
+    sends_to t w l few s = record {
       stage = s.stage;
       from = s.from;
       copies = s.copies;
-      targets = length-set y.edges t (sent (edge_at y t) (copy_of w)) ∙ s.targets;
+      targets = length-set y.edges t (sent (edge_at y t) w) ∙ s.targets;
       term = s.term;
       leads = s.leads;
-      edges = λ j k. with_stands made x.lows (λ j c. if (j == t) && is_which c w then x.cursors t w + 1 else x.cursors j c) y t (sent (edge_at y t) (copy_of w)) (there made x y t l s)
-          (subst (λ b. EdgeStands (on (out_edge p t)) (made t) (x.lows t) (λ c. if b && is_which c w then x.cursors t w + 1 else x.cursors t c) (sent (edge_at y t) (copy_of w)))
-          (sym (nat_self t)) (sent_stands (on (out_edge p t)) (made t) (x.lows t) (x.cursors t) w (edge_at y t) (s.edges t l)))
+      edges = λ j k. with_stands f on p made x.lows (λ j c. if (j == t) && (c == w) then x.cursors t w + 1 else x.cursors j c) y t (sent (edge_at y t) w) (there f on p made x y t l s)
+          (subst (λ b. EdgeStands (on (out_edge p t)) (made t) (x.lows t) (λ c. if b && (c == w) then x.cursors t w + 1 else x.cursors t c) (sent (edge_at y t) w))
+          (sym (nat_self t)) (sent_stands (on (out_edge p t)) (made t) (x.lows t) (x.cursors t) w (edge_at y t) few (s.edges t l)))
           j
-          (λ e. subst (λ b. EdgeStands (on (out_edge p j)) (made j) (x.lows j) (λ c. if b && is_which c w then x.cursors t w + 1 else x.cursors j c) (edge_at y j)) (sym e) (s.edges j k));
+          (λ e. subst (λ b. EdgeStands (on (out_edge p j)) (made j) (x.lows j) (λ c. if b && (c == w) then x.cursors t w + 1 else x.cursors j c) (edge_at y j)) (sym e) (s.edges j k));
     }
 
   pub sends : law.Sends f on p
@@ -306,23 +295,21 @@ module _ (f : Flow) (on : EdgeId → List Item) (p : Partition) where
       let as_machine : due f p made x ≡ Some (due_in d) = sym (due_is made x y s) ∙ ap any_due_in found in
       let is : IsDue made x (f.targets p.stage) (Some (due_in d)) = subst (IsDue made x (f.targets p.stage)) as_machine (is_due f p made x) in
       let copy : d.copy < y.copies = copy_there y d y.leads refl found in
-      let few : y.copies ≤ 2 = subst (λ n. n ≤ 2) (sym s.copies) (few_copies (p.stage == f.stages)) in
-      let named : copy_of (which_at d.copy) ≡ d.copy = which_copy d.copy (omega arith) in
-      let all = sends_to made x y d.to (which_at d.copy) is.0 s in
+      let few : y.copies ≤ max_copies = subst (λ n. n ≤ max_copies) (sym s.copies) few_copies in
+      let all = sends_to made x y d.to d.copy is.0 (omega arith) s in
       record {
         due = as_machine;
         target = is.0;
         item = λ i e. held_is (on (out_edge p d.to)) (made d.to) (x.lows d.to) (x.cursors d.to) (edge_at y d.to) d.number i (s.edges d.to is.0) e;
         held = λ above most.
-            let number : d.number ≡ x.cursors d.to (which_at d.copy) = is.1 in
+            let number : d.number ≡ x.cursors d.to d.copy = is.1 in
             let made_there : d.number ≤ made d.to = is.2 in
             is_held (on (out_edge p d.to)) (made d.to) (x.lows d.to) (x.cursors d.to) (edge_at y d.to) d.number (s.edges d.to is.0) (omega arith) (omega arith) most;
-        sent = subst (λ n. ProducerStands f on p made (record x { cursors = λ j c. if (j == d.to) && is_which c (which_at d.copy) then n + 1 else x.cursors j c }) (sent_on y d.to d.copy)) (sym is.1)
-            (subst (λ c. ProducerStands f on p made (record x { cursors = λ j c. if (j == d.to) && is_which c (which_at d.copy) then x.cursors d.to (which_at d.copy) + 1 else x.cursors j c }) (sent_on y d.to c)) named all);
+        sent = subst (λ n. ProducerStands f on p made (record x { cursors = λ j c. if (j == d.to) && (c == d.copy) then n + 1 else x.cursors j c }) (sent_on y d.to d.copy)) (sym is.1) all;
       }
 
 pub producers_follow : law.ProducersFollow
-producers_follow f on p = record {
+producers_follow f on p few = record {
   opens = opens f on p;
   starts = starts f on p;
   contents = contents f on p;
@@ -331,6 +318,15 @@ producers_follow f on p = record {
   leads = leads f on p;
   emits = emits f on p;
   makes = makes f on p;
-  due = due_is f on p;
-  sends = sends f on p;
+  due = due_is f on p few;
+  sends = sends f on p few;
 }
+
+-- the replicas of a pair are no more than a producer knows
+pub few_in_pairs : (plan : PlanView) (rows : List Input) → (flow_of plan rows).replicas ≤ max_copies
+unfolding flow_of
+few_in_pairs plan rows = omega arith
+
+pub few_of_pair : (w : Which) → copy_of w < max_copies
+few_of_pair A = omega arith
+few_of_pair B = omega arith

@@ -1,32 +1,21 @@
 -- When a producer in code stands for a producer of the machine: each of its buffers holds the items of its edge that are numbered above
 -- low up to what was made, and its cursors, its term and whether it leads are the machine's.
-use Rattle.std.specs.Prelude.{◌≡◌, ◌<◌, ◌≤◌, ◌+◌, ℕ, zero, suc, List, [], ◌∷◌, ◌++◌, Option, None, Some, length, take}
+use Rattle.std.specs.Prelude.{◌≡◌, ◌<◌, ◌≤◌, ◌+◌, ℕ, List, [], ◌∷◌, ◌++◌, Option, None, Some, length, take}
 use Rattle.tuple_edge.specs.Limits.{number_limit}
 use Rattle.tuple_edge.specs.declared.item.Item.{Item}
 use Rattle.tuple_edge.specs.declared.node.EdgeId.{EdgeId}
-use Rattle.tuple_edge.specs.declared.node.Which.{Which}
-use Rattle.tuple_edge.specs.declared.node.Which.TheVariants.{A, B}
 use Rattle.flux_producer.specs.OutEdge.{OutEdgeView, with_item}
 use Rattle.flux_producer.specs.ProducerView.{ProducerView, buffer_at, edge_at, without_room}
 use Rattle.flux_producer.specs.declared.due.Due.{Due as Sending}
 use Rattle.pair_machine.specs.Contents.{between}
 use Rattle.pair_machine.specs.Flow.{Flow}
 use Rattle.pair_machine.specs.Numbers.{Partition, Producer, out_edge}
+pub use Rattle.pair_machine.specs.Numbers.{copy_of, which_at}
 use Rattle.pair_machine.specs.Producers.{Due, copies}
-
--- ---- the replicas at the other end of an edge, which code counts from 0
-
-abbrev pub copy_of : Which → ℕ
-copy_of A = 0
-copy_of B = 1
-
-abbrev pub which_at : ℕ → Which
-which_at zero = A
-which_at (suc c) = B
 
 -- what code says is due, as the machine has it
 abbrev pub due_in : Sending → Due
-due_in d = record { to = d.to; copy = which_at d.copy; number = d.number }
+due_in d = record { to = d.to; copy = d.copy; number = d.number }
 
 abbrev pub any_due_in : Option Sending → Option Due
 any_due_in None = None
@@ -35,17 +24,17 @@ any_due_in (Some d) = Some (due_in d)
 -- ---- standing for numbers
 
 -- an out-edge stands for a low and cursors, where so many items of the edge were made: it keeps those above low
-pub record EdgeStands (items : List Item) (made acked : ℕ) (next : Which → ℕ) (e : OutEdgeView) : Type 0 where
+pub record EdgeStands (items : List Item) (made acked : ℕ) (next : ℕ → ℕ) (e : OutEdgeView) : Type 0 where
   pub low : e.buffer.low ≡ acked
   pub produced : e.buffer.produced ≡ made
   pub kept : e.buffer.items ≡ between acked made items
-  pub cursors : e.cursors ≡ next A ∷ next B ∷ []
+  pub cursors : e.cursors ≡ next 0 ∷ next 1 ∷ next 2 ∷ []
 
 -- a producer stands for a partition's, where so many items of each out-edge were made
 pub record ProducerStands (f : Flow) (on : EdgeId → List Item) (p : Partition) (made : ℕ → ℕ) (x : Producer) (code : ProducerView) : Type 0 where
   pub stage : code.stage ≡ p.stage
   pub from : code.from ≡ p.part
-  pub copies : code.copies ≡ length (copies f p)
+  pub copies : code.copies ≡ copies f p
   pub targets : length code.edges ≡ f.targets p.stage
   pub term : code.term ≡ x.term
   pub leads : code.leads ≡ x.leads

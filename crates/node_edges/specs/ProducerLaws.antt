@@ -2,10 +2,10 @@
 use Rattle.std.specs.Prelude.{◌≤◌, ◌≡◌, ◌<◌, ◌+◌, ℕ, List, Option, Some, Bool, false, length, if◌then◌else◌, slice_index_or, take}
 use Rattle.tuple_edge.specs.declared.item.Item.{Item}
 use Rattle.tuple_edge.specs.declared.node.EdgeId.{EdgeId}
-use Rattle.tuple_edge.specs.declared.node.Which.{Which}
 use Rattle.ack_buffer.specs.Buffer.{BufferView, starting_at}
 use Rattle.ack_buffer.specs.Buffer as buffer
 use Rattle.flux_producer.specs.Due as code
+use Rattle.flux_producer.specs.Limits.{max_copies}
 use Rattle.flux_producer.specs.ProducerView.{ProducerView, acked, buffer_at, contents_of, emitted, leading, opening, over_buffers, sent_on, wanted_from}
 use Rattle.flux_producer.specs.StandsFor.{BuffersStandFor}
 use Rattle.flux_producer.specs.declared.due.Due.{Due as Sending}
@@ -16,7 +16,7 @@ use Rattle.pair_machine.specs.Machine.{new_producer}
 use Rattle.pair_machine.specs.Numbers.{Partition, Producer, out_edge}
 use Rattle.pair_machine.specs.Producers.{acked_to, copies, due, wanted}
 use Rattle.pair_machine.specs.Producers as machine
-use Rattle.node_edges.specs.OutEdges.{AreNext, HasMade, ProducerStands, any_due_in, copy_of, due_in, which_at}
+use Rattle.node_edges.specs.OutEdges.{AreNext, HasMade, ProducerStands, any_due_in, due_in}
 
 -- what is due to be sent, in code
 abbrev pub due_of : ProducerView → Option Sending
@@ -26,7 +26,7 @@ module _ (f : Flow) (edges : EdgeId → List Item) (p : Partition) where
   -- a producer before anything was made stands for the opening one
   abbrev pub Opens : Type 0
   Opens = (term : ℕ) (leads : Bool) → term ≡ (if leads then 1 else 0)
-      → ProducerStands f edges p (λ t. 0) (new_producer term leads) (opening p.stage p.part (f.targets p.stage) (length (copies f p)) leads)
+      → ProducerStands f edges p (λ t. 0) (new_producer term leads) (opening p.stage p.part (f.targets p.stage) (copies f p) leads)
 
   -- A producer that starts over buffers stands for their numbers, where each holds what is above its low of the items made. It doesn't
   -- lead, and each cursor is one above low.
@@ -35,7 +35,7 @@ module _ (f : Flow) (edges : EdgeId → List Item) (p : Partition) where
       → ((t : ℕ) → t < f.targets p.stage → (made t ≤ length (edges (out_edge p t))) × ((slice_index_or buffers t (starting_at 0 0)).low ≡ lows t))
       → BuffersStandFor buffers (λ t. take (made t) (edges (out_edge p t)))
       → ProducerStands f edges p made (record { lows = lows; cursors = λ t c. lows t + 1; term = 0; leads = false })
-      (over_buffers p.stage p.part (length (copies f p)) buffers)
+      (over_buffers p.stage p.part (copies f p) buffers)
 
   -- only what its buffers hold matters, and not their room
   abbrev pub LooksAtContents : Type 0
@@ -50,8 +50,8 @@ module _ (f : Flow) (edges : EdgeId → List Item) (p : Partition) where
 
     -- a replica's want
     abbrev pub Wants : Type 0
-    Wants = (t : ℕ) (w : Which) (from : ℕ) → t < f.targets p.stage → ProducerStands f edges p made x y
-        → ProducerStands f edges p made (wanted x t w from) (wanted_from y t (copy_of w) from)
+    Wants = (t copy from : ℕ) → t < f.targets p.stage → copy < max_copies → ProducerStands f edges p made x y
+        → ProducerStands f edges p made (wanted x t copy from) (wanted_from y t copy from)
 
     -- a new leader
     abbrev pub Leads : Type 0
@@ -78,14 +78,14 @@ module _ (f : Flow) (edges : EdgeId → List Item) (p : Partition) where
     pub target : d.to < f.targets p.stage
     pub item : (i : Item) → buffer.item_at (buffer_at y d.to) d.number ≡ Some i → item_at (edges (out_edge p d.to)) d.number ≡ Some i
     -- and its buffer holds it, where the cursor is above low and no more was made than there is
-    pub held : x.lows d.to < x.cursors d.to (which_at d.copy) → made d.to ≤ length (edges (out_edge p d.to))
+    pub held : x.lows d.to < x.cursors d.to d.copy → made d.to ≤ length (edges (out_edge p d.to))
         → (i : Item) × (buffer.item_at (buffer_at y d.to) d.number ≡ Some i)
     pub sent : ProducerStands f edges p made (machine.sent_on x (due_in d)) (sent_on y d.to d.copy)
 
   abbrev pub Sends : Type 0
   Sends = (made : ℕ → ℕ) (x : Producer) (y : ProducerView) (d : Sending) → due_of y ≡ Some d → ProducerStands f edges p made x y → SendsDue made x y d
 
--- all of these, of each partition, whatever the edges hold
+-- all of these, of each partition, whatever the edges hold, where a partition has no more replicas than a producer knows
 pub record ProducerFollows (f : Flow) (edges : EdgeId → List Item) (p : Partition) : Type 0 where
   pub opens : Opens f edges p
   pub starts : Starts f edges p
@@ -99,4 +99,4 @@ pub record ProducerFollows (f : Flow) (edges : EdgeId → List Item) (p : Partit
   pub sends : Sends f edges p
 
 abbrev pub ProducersFollow : Type 0
-ProducersFollow = (f : Flow) (edges : EdgeId → List Item) (p : Partition) → ProducerFollows f edges p
+ProducersFollow = (f : Flow) (edges : EdgeId → List Item) (p : Partition) → f.replicas ≤ max_copies → ProducerFollows f edges p

@@ -13,7 +13,7 @@ use Rattle.pair_machine.specs.Flow.{Flow}
 use Rattle.pair_machine.specs.Links.{AreOnTheirLinks, Carries, HasStage, IsAcross, IsThere, link}
 use Rattle.pair_machine.specs.Machine.{State, after, as_egress, as_ingress, as_replica, at_node, changed, controller_does, controller_in, does, egress_in, ingress_in, posted, replica_in, step}
 use Rattle.pair_machine.specs.Messages.{Ack, Act, AskBack, AskStop, AsksBack, AsksStop, Begin, Caught, Chunk, ChunkEnd, Dies, Down, Envelope, Lead, Makes, Message, Pulls, Refusal, Report, Serve, Stop, Takes, Tuple, Want, Works}
-use Rattle.pair_machine.specs.Numbers.{Consumer, Controller, ControllerNode, EgressNode, Gathering, Gone, Ingress, IngressNode, Move, MoveNumbers, Node, Partition, Producer, Replica, ReplicaNode, Running, RunningNumbers, Watched, control_at, in_edge, ingress_edge, is_node, other, replica_at}
+use Rattle.pair_machine.specs.Numbers.{Consumer, Controller, ControllerNode, EgressNode, Gathering, Gone, Ingress, IngressNode, Move, MoveNumbers, Node, Partition, Producer, Replica, ReplicaNode, Running, RunningNumbers, Watched, control_at, in_edge, ingress_edge, is_node, other, replica_at, copy_of}
 use Rattle.pair_machine.specs.Producers.{Due, acked_to, due, leading, rewound, sent_on, to_producers, wanted}
 use Rattle.pair_machine.specs.Replicas.{inc_of, made_by, moves_or_sends, replica_asks, replica_dies, replica_does, replica_pulls, replica_takes, replica_works, reports, sends_or_reports, size, which_of}
 use Rattle.tuple_edge.specs.declared.event.Event.{Event}
@@ -48,7 +48,7 @@ acked_lows : (j : ℕ → ℕ) (x : Producer) (t u : ℕ) → u ≤ j t → ((i 
 acked_lows j x t u h old i = if_elim (λ v. v ≤ j i) (i == t) (max (x.lows t) u) (x.lows i)
     (λ e. let same = eqb-true i t e in let at = ap j same in let low = old t in omega arith) (λ e. old i)
 
-wanted_lows : (j : ℕ → ℕ) (x : Producer) (t : ℕ) (c : Which) (n : ℕ) → ((i : ℕ) → x.lows i ≤ j i) → (i : ℕ) → (wanted x t c n).lows i ≤ j i
+wanted_lows : (j : ℕ → ℕ) (x : Producer) (t c n : ℕ) → ((i : ℕ) → x.lows i ≤ j i) → (i : ℕ) → (wanted x t c n).lows i ≤ j i
 wanted_lows j x t c n old = if_elim (λ (y : Producer). (i : ℕ) → y.lows i ≤ j i) x.leads (rewound x t c n) x (λ e. old) (λ e. old)
 
 leading_lows : (j : ℕ → ℕ) (x : Producer) (term : ℕ) → ((i : ℕ) → x.lows i ≤ j i) → (i : ℕ) → (leading x term).lows i ≤ j i
@@ -94,7 +94,7 @@ module _ (f : Flow) (k : EdgeId → ℕ) (p : Partition) (w : Which) where
   takes_lows from (ChunkEnd i n m) (Running x) h c = (c, tt)
   takes_lows from (ChunkEnd i n m) (Gathering g) h c = if_elim LowsDone ((i == g.inc) && (n == g.taken)) _ _ (λ e. ((h, tt), (tt, tt))) (λ e. (c, tt))
   takes_lows from (Want e n) (Gone i) h c = (tt, tt)
-  takes_lows from (Want e n) (Running x) h c = ((wanted_lows lows_at x.producer e.to (which_of from) n c.0, c.1), tt)
+  takes_lows from (Want e n) (Running x) h c = ((wanted_lows lows_at x.producer e.to (copy_of (which_of from)) n c.0, c.1), tt)
   takes_lows from (Want e n) (Gathering g) h c = (c, tt)
   takes_lows from message r h c = (c, tt)
 
@@ -307,7 +307,7 @@ module _ (f : Flow) (k : EdgeId → ℕ) where
   ingress_takes_lows from (Ack e u) x h c =
       each_producer SourceLows x e.from (acked_to (x.producers e.from) e.to u) (acked_lows (λ t. k (ingress_edge e.from t)) (x.producers e.from) e.to u h (c e.from)) c
   ingress_takes_lows from (Want e n) x h c =
-      each_producer SourceLows x e.from (wanted (x.producers e.from) e.to (which_of from) n) (wanted_lows (λ t. k (ingress_edge e.from t)) (x.producers e.from) e.to (which_of from) n (c e.from)) c
+      each_producer SourceLows x e.from (wanted (x.producers e.from) e.to (copy_of (which_of from)) n) (wanted_lows (λ t. k (ingress_edge e.from t)) (x.producers e.from) e.to (copy_of (which_of from)) n (c e.from)) c
   ingress_takes_lows from message x h c = c
 
   ingress_lows : (a : Act) (x : Ingress) → ActAcked a → IngressLows x → IngressIfOk (ingress_does f a x)

@@ -12,7 +12,7 @@ use Rattle.pair_machine.specs.Links.{AreOnTheirLinks, Carries, HasNode, IsAcross
 use Rattle.pair_machine.specs.Lists.{Each}
 use Rattle.pair_machine.specs.Machine.{Buffer, State, after, as_egress, as_ingress, as_replica, at_node, buffer_in, buffer_of, changed, controller_does, controller_in, does, egress_in, ingress_in, mark_in, posted, replica_in, step}
 use Rattle.pair_machine.specs.Messages.{Ack, Act, AsksBack, AsksStop, Begin, Chunk, ChunkEnd, Dies, Envelope, Lead, Makes, Message, Pulls, Refusal, Serve, Stop, Takes, Tuple, Want, Works}
-use Rattle.pair_machine.specs.Numbers.{Consumer, Controller, ControllerNode, EgressNode, Gathering, Gone, Ingress, IngressNode, Move, MoveNumbers, Node, Partition, Producer, Replica, ReplicaNode, Running, RunningNumbers, in_edge, is_which, other, out_edge, replica_at}
+use Rattle.pair_machine.specs.Numbers.{Consumer, Controller, ControllerNode, EgressNode, Gathering, Gone, Ingress, IngressNode, Move, MoveNumbers, Node, Partition, Producer, Replica, ReplicaNode, Running, RunningNumbers, in_edge, other, out_edge, replica_at, copy_of}
 use Rattle.pair_machine.specs.Producers.{Due, acked_to, due, leading, rewound, sends_due, sent_on, to_producers, wanted}
 use Rattle.pair_machine.specs.Replicas.{caught_up, contains, inc_of, insert_in, made_by, moves_or_sends, replica_does, replica_takes, replica_works, reports, run_up, sends_or_reports, size, which_of}
 use Rattle.tuple_edge.specs.declared.event.Event.{Event}
@@ -73,15 +73,15 @@ module _ (f : Flow) (ok : IsFlow f) where
   acked_bound : (x : Producer) (t u : ℕ) → ProducerBound x → ProducerBound (acked_to x t u)
   acked_bound x t u b = record { above = λ j c. go j c (j == t) (eqb-true j t) }
     where
-      go : (j : ℕ) (c : Which) (e : Bool) → (e ≡ true → j ≡ t) → (if e then max (x.lows t) u else x.lows j) < (if e then max (x.cursors t c) (max (x.lows t) u + 1) else x.cursors j c)
+      go : (j c : ℕ) (e : Bool) → (e ≡ true → j ≡ t) → (if e then max (x.lows t) u else x.lows j) < (if e then max (x.cursors t c) (max (x.lows t) u + 1) else x.cursors j c)
       go j c true z = omega arith
       go j c false z = b.above j c
 
-  wanted_bound : (x : Producer) (t : ℕ) (d : Which) (n : ℕ) → ProducerBound x → ProducerBound (wanted x t d n)
+  wanted_bound : (x : Producer) (t d n : ℕ) → ProducerBound x → ProducerBound (wanted x t d n)
   wanted_bound x t d n b = if_elim ProducerBound x.leads (rewound x t d n) x
       (λ e. record {
-        above = λ j c. let old = b.above j c in if_elim (λ v. x.lows j < v) ((j == t) && is_which c d) (min (x.cursors t d) (max n (x.lows t + 1))) (x.cursors j c)
-            (λ z. let is = eqb-true j t (both (j == t) (is_which c d) z).0 in let same = ap x.lows is in let b_after = b.above t d in omega arith) (λ z. old);
+        above = λ j c. let old = b.above j c in if_elim (λ v. x.lows j < v) ((j == t) && (c == d)) (min (x.cursors t d) (max n (x.lows t + 1))) (x.cursors j c)
+            (λ z. let is = eqb-true j t (both (j == t) (c == d) z).0 in let same = ap x.lows is in let b_after = b.above t d in omega arith) (λ z. old);
       })
       (λ e. b)
 
@@ -90,8 +90,8 @@ module _ (f : Flow) (ok : IsFlow f) where
 
   sent_bound : (x : Producer) (d : Due) → d.number ≡ x.cursors d.to d.copy → ProducerBound x → ProducerBound (sent_on x d)
   sent_bound x d e b = record {
-    above = λ j c. let old = b.above j c in if_elim (λ v. x.lows j < v) ((j == d.to) && is_which c d.copy) (d.number + 1) (x.cursors j c)
-        (λ z. let is = eqb-true j d.to (both (j == d.to) (is_which c d.copy) z).0 in let same = ap x.lows is in let b_after = b.above d.to d.copy in omega arith) (λ z. old);
+    above = λ j c. let old = b.above j c in if_elim (λ v. x.lows j < v) ((j == d.to) && (c == d.copy)) (d.number + 1) (x.cursors j c)
+        (λ z. let is = eqb-true j d.to (both (j == d.to) (c == d.copy) z).0 in let same = ap x.lows is in let b_after = b.above d.to d.copy in omega arith) (λ z. old);
   }
 
   -- held numbers
@@ -175,7 +175,7 @@ module _ (f : Flow) (ok : IsFlow f) where
     takes_bound from (ChunkEnd i n m) (Running x) h c = (c, tt)
     takes_bound from (ChunkEnd i n m) (Gathering g) h c = if_elim BoundDone ((i == g.inc) && (n == g.taken)) _ _ (λ e. (caught_bound p i m g.held h c.1, (tt, tt))) (λ e. (c, tt))
     takes_bound from (Want e n) (Gone i) h c = (tt, tt)
-    takes_bound from (Want e n) (Running x) h c = ((c.0, wanted_bound x.producer e.to (which_of from) n c.1, c.2), tt)
+    takes_bound from (Want e n) (Running x) h c = ((c.0, wanted_bound x.producer e.to (copy_of (which_of from)) n c.1, c.2), tt)
     takes_bound from (Want e n) (Gathering g) h c = (c, tt)
     takes_bound from message r h c = (c, tt)
 
@@ -244,7 +244,7 @@ module _ (f : Flow) (ok : IsFlow f) where
 
   ingress_takes_bound : (from : NodeId) (m : Message) (x : Ingress) → IngressBound x → IngressBound (ingress_takes from m x)
   ingress_takes_bound from (Ack e u) x c = of_source_bound x e.from (acked_to (x.producers e.from) e.to u) (acked_bound (x.producers e.from) e.to u (c.1 e.from)) c
-  ingress_takes_bound from (Want e n) x c = of_source_bound x e.from (wanted (x.producers e.from) e.to (which_of from) n) (wanted_bound (x.producers e.from) e.to (which_of from) n (c.1 e.from)) c
+  ingress_takes_bound from (Want e n) x c = of_source_bound x e.from (wanted (x.producers e.from) e.to (copy_of (which_of from)) n) (wanted_bound (x.producers e.from) e.to (copy_of (which_of from)) n (c.1 e.from)) c
   ingress_takes_bound from message x c = c
 
   source_sends_bound : (x : Ingress) (q : ℕ) (d : Due) → IsDue (source_made f x q) (x.producers q) (f.targets 0) (Some d) → IngressBound x

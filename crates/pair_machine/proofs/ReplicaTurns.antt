@@ -8,7 +8,7 @@ use Rattle.pair_machine.specs.Flow.{Flow}
 use Rattle.pair_machine.specs.Lists.{Among}
 use Rattle.pair_machine.specs.Machine.{messages_to}
 use Rattle.pair_machine.specs.Messages.{Ack, Act, AskBack, AskStop, AsksBack, AsksStop, Begin, Caught, Chunk, ChunkEnd, Dies, Down, Envelope, Lead, Makes, Message, Pulls, Refusal, Report, Serve, Stop, Takes, Tuple, Want, Works, envelope}
-use Rattle.pair_machine.specs.Numbers.{Consumer, Gathering, Gone, Move, MoveNumbers, Partition, Producer, Replica, Running, RunningNumbers, Watched, control_at, in_edge, other, out_edge, replica_at}
+use Rattle.pair_machine.specs.Numbers.{Consumer, Gathering, Gone, Move, MoveNumbers, Partition, Producer, Replica, Running, RunningNumbers, Watched, control_at, in_edge, other, out_edge, replica_at, copy_of}
 use Rattle.pair_machine.specs.Pairs.{Side}
 use Rattle.pair_machine.specs.Producers.{Due, acked_to, due, leading, sends_due, sent_on, to_producers, wanted}
 use Rattle.pair_machine.specs.Replicas.{begun, caught_up, chunk_wants, inc_of, made_by, moves_or_sends, replica_asks, replica_dies, replica_does, replica_pulls, replica_takes, replica_works, reports, sends_or_reports, size, takes_ack, takes_begin, takes_chunk, takes_end, takes_lead, takes_serve, takes_stop, takes_tuple, takes_want, which_of}
@@ -142,7 +142,7 @@ module _ (f : Flow) (p : Partition) (w : Which) (ka sa kb sb : Bool) (h : Watche
   ack_done t k (Running x) = ran x x.consumer (acked_to x.producer t k) [] refl refl (λ q. omega arith)
   ack_done t k (Gathering g) = still (Gathering g)
 
-  want_done : (t : ℕ) (c : Which) (n : ℕ) (r : Replica) → DoneBy f p w ka sa kb sb (side r h up down across) b (takes_want t c n r, [])
+  want_done : (t c n : ℕ) (r : Replica) → DoneBy f p w ka sa kb sb (side r h up down across) b (takes_want t c n r, [])
   want_done t c n (Gone i) = still (Gone i)
   want_done t c n (Running x) = ran x x.consumer (wanted x.producer t c n) [] refl refl (λ q. omega arith)
   want_done t c n (Gathering g) = still (Gathering g)
@@ -206,7 +206,7 @@ module _ (f : Flow) (p : Partition) (w : Which) (ka sa kb sb : Bool) (h : Watche
   takes_done s from (Stop i) r c = stop_done i r c
   takes_done s from (Chunk i k m) r c = chunk_done s i k m r c
   takes_done s from (ChunkEnd i k m) r c = end_done i k m r c
-  takes_done s from (Want e k) r c = want_done e.to (which_of from) k r
+  takes_done s from (Want e k) r c = want_done e.to (copy_of (which_of from)) k r
   takes_done s from message r c = still r
 
   reports_done : (x : RunningNumbers) (q : Option ℕ) → DoneIfOk f p w ka sa kb sb (side (Running x) h up down across) b (reports f p x q)

@@ -21,7 +21,7 @@ use Rattle.pair_machine.specs.Links.{IsThere, link}
 use Rattle.pair_machine.specs.Lists.{Each}
 use Rattle.pair_machine.specs.Machine.{State, after, as_egress, as_ingress, as_replica, at_node, changed, controller_does, controller_in, does, egress_in, first_term, follow, ingress_in, leads_first, new_consumer, new_producer, opening, posted, replica_in, step}
 use Rattle.pair_machine.specs.Messages.{Ack, Act, AskBack, AskStop, AsksBack, AsksStop, Begin, Caught, Chunk, ChunkEnd, Dies, Down, Envelope, Lead, Makes, Message, Pulls, Refusal, Report, Serve, Stop, Takes, Tuple, Want, Works}
-use Rattle.pair_machine.specs.Numbers.{Consumer, Controller, ControllerNode, EgressNode, Gathering, GatheringNumbers, Gone, Ingress, IngressNode, Move, MoveNumbers, Node, Partition, Producer, Replica, ReplicaNode, Running, RunningNumbers, Watched, control_at, in_edge, is_which, other, replica_at}
+use Rattle.pair_machine.specs.Numbers.{Consumer, Controller, ControllerNode, EgressNode, Gathering, GatheringNumbers, Gone, Ingress, IngressNode, Move, MoveNumbers, Node, Partition, Producer, Replica, ReplicaNode, Running, RunningNumbers, Watched, control_at, in_edge, other, replica_at, copy_of}
 use Rattle.pair_machine.specs.Producers.{Due, acked_to, due, leading, rewound, sent_on, to_producers, wanted}
 use Rattle.pair_machine.specs.Replicas.{contains, folded, inc_of, insert_in, made_by, moves_or_sends, replica_asks, replica_dies, replica_does, replica_pulls, replica_takes, replica_works, reports, run_up, sends_or_reports, size, which_of}
 use Rattle.pair_machine.specs.Small.{EachOfConsumer, EachOfController, EachOfGathering, EachOfIngress, EachOfMessage, EachOfMove, EachOfMoved, EachOfNode, EachOfNumbers, EachOfProducer, EachOfReplica, EachOfRunning, NumbersFit, NumbersStaySmall}
@@ -131,13 +131,13 @@ module _ (b : ℕ) where
         term = w.term;
       }
 
-  wanted_small : (x : Producer) (t : ℕ) (c : Which) (n : ℕ) → EachOfProducer Old x → EachOfProducer New (wanted x t c n)
+  wanted_small : (x : Producer) (t c n : ℕ) → EachOfProducer Old x → EachOfProducer New (wanted x t c n)
   wanted_small x t c n h =
       let w = producer_wider Old New up x h in
       if_elim (EachOfProducer New) x.leads (rewound x t c n) x
       (λ e. record {
         lows = w.lows;
-        cursors = λ j d. if_elim New ((j == t) && is_which d c) (min (x.cursors t c) (max n (x.lows t + 1))) (x.cursors j d) (λ z. let y = h.cursors t c in omega arith) (λ z. w.cursors j d);
+        cursors = λ j d. if_elim New ((j == t) && (d == c)) (min (x.cursors t c) (max n (x.lows t + 1))) (x.cursors j d) (λ z. let y = h.cursors t c in omega arith) (λ z. w.cursors j d);
         term = w.term;
       })
       (λ e. w)
@@ -154,7 +154,7 @@ module _ (b : ℕ) where
       let w = producer_wider Old New up x h in
       record {
         lows = w.lows;
-        cursors = λ j c. if_elim New ((j == d.to) && is_which c d.copy) (d.number + 1) (x.cursors j c) (λ z. omega arith) (λ z. w.cursors j c);
+        cursors = λ j c. if_elim New ((j == d.to) && (c == d.copy)) (d.number + 1) (x.cursors j c) (λ z. omega arith) (λ z. w.cursors j c);
         term = w.term;
       }
 
@@ -256,7 +256,7 @@ module _ (b : ℕ) where
         ))
         (λ e. same (Gathering g) c)
     takes_small from (Want e n) (Gone i) h c = same (Gone i) c
-    takes_small from (Want e n) (Running x) h c = (with_producer_small x (wanted x.producer e.to (which_of from) n) c (wanted_small x.producer e.to (which_of from) n c.producer), tt)
+    takes_small from (Want e n) (Running x) h c = (with_producer_small x (wanted x.producer e.to (copy_of (which_of from)) n) c (wanted_small x.producer e.to (copy_of (which_of from)) n c.producer), tt)
     takes_small from (Want e n) (Gathering g) h c = same (Gathering g) c
     takes_small from message r h c = same r c
 
@@ -333,7 +333,7 @@ module _ (b : ℕ) where
 
     ingress_takes_small : (from : NodeId) (m : Message) (x : Ingress) → EachOfMessage Old m → EachOfIngress Old x → EachOfIngress New (ingress_takes from m x)
     ingress_takes_small from (Ack e k) x h c = another_producer x e.from (acked_to (x.producers e.from) e.to k) c (acked_small (x.producers e.from) e.to k h (c.producers e.from))
-    ingress_takes_small from (Want e n) x h c = another_producer x e.from (wanted (x.producers e.from) e.to (which_of from) n) c (wanted_small (x.producers e.from) e.to (which_of from) n (c.producers e.from))
+    ingress_takes_small from (Want e n) x h c = another_producer x e.from (wanted (x.producers e.from) e.to (copy_of (which_of from)) n) c (wanted_small (x.producers e.from) e.to (copy_of (which_of from)) n (c.producers e.from))
     ingress_takes_small from m x h c = ingress_wider Old New up x c
 
     abbrev HeardSmall : Act → Type 0

@@ -3,7 +3,7 @@
 use Rattle.std.specs.Prelude.{ℕ, List, [], Option, None, Some, Result, Ok, Err, ◌+◌, ◌==◌, if◌then◌else◌, is_some, nat_lt}
 use Rattle.tuple_edge.specs.declared.node.EdgeId.{EdgeId}
 use Rattle.tuple_edge.specs.declared.node.NodeId.{NodeId}
-use Rattle.pair_machine.specs.Numbers.{Consumer, Ingress, Partition, Producer, in_edge}
+use Rattle.pair_machine.specs.Numbers.{Consumer, Ingress, Partition, Producer, copy_of, in_edge}
 use Rattle.pair_machine.specs.Messages.{Message, Tuple, Ack, Want, Envelope, Act, Takes, Works, Makes, Dies, AsksStop, AsksBack, Pulls, Refusal, NothingDue, NoMoreRows, NotRunning}
 use Rattle.pair_machine.specs.Flow.{Flow}
 use Rattle.pair_machine.specs.Consumers.{first_below, is_ready, merged_one, offered, pulled, telling, untold}
@@ -23,7 +23,7 @@ with_producer x q y = record x { producers = λ j. if j == q then y else x.produ
 -- an acknowledgement, or a want, is for the producer of the edge's source
 abbrev pub ingress_takes : NodeId → Message → Ingress → Ingress
 ingress_takes from (Ack e k) x = with_producer x e.from (acked_to (x.producers e.from) e.to k)
-ingress_takes from (Want e n) x = with_producer x e.from (wanted (x.producers e.from) e.to (which_of from) n)
+ingress_takes from (Want e n) x = with_producer x e.from (wanted (x.producers e.from) e.to (copy_of (which_of from)) n)
 ingress_takes from m x = x
 
 -- how many items of the edge from source q to target t are made

@@ -52,12 +52,13 @@ entries_by (Some stage) given = entries stage.op given
 abbrev pub entries_after : PlanView → List Input → Partition → ℕ → List Entry
 entries_after plan inputs p count = entries_by (slice_get plan.stages (p.stage - 1)) (merged_first plan inputs p count)
 
--- a plan and its inputs in numbers
+-- a plan and its inputs in numbers, where its partitions are pairs
 unfoldable pub flow_of : PlanView → List Input → Flow
 flow_of plan inputs = record {
   stages = length plan.stages;
   sources = sources_of plan;
   targets = λ s. parts_of plan (s + 1);
+  replicas = 2;
   makes = last_stamp inputs;
   made = made_on plan inputs;
   used = used_of plan inputs;

@@ -11,6 +11,8 @@ pub record Flow : Type 0 where
   pub sources : ℕ → ℕ
   -- the number of out-edges of each partition of a stage
   pub targets : ℕ → ℕ
+  -- how many replicas each partition has
+  pub replicas : ℕ
   -- how many makes there are: one for each input, and one for the end
   pub makes : ℕ
   -- how many items of an edge come from the first merged items, or makes, of its producer

@@ -4,7 +4,6 @@ use Rattle.std.specs.Prelude.{◌<◌, ◌≤◌, ℕ, Option, None, Some}
 use Rattle.tuple_edge.specs.declared.node.LinkId.{LinkId}
 use Rattle.tuple_edge.specs.declared.node.NodeId.{NodeId}
 use Rattle.tuple_edge.specs.declared.node.NodeId.TheVariants as node
-use Rattle.tuple_edge.specs.declared.node.Which.{Which}
 use Rattle.pair_machine.specs.Numbers.{Producer, Consumer, MoveNumbers, Move, Replica, Gone, Running, Gathering, Node, Partition, in_edge}
 use Rattle.pair_machine.specs.Messages.{Message, Tuple, Chunk, ChunkEnd}
 use Rattle.pair_machine.specs.Flow.{Flow}
@@ -27,7 +26,7 @@ pub record ConsumerBound (f : Flow) (p : Partition) (c : Consumer) : Type 0 wher
 
 -- each cursor is above what is acknowledged
 pub record ProducerBound (x : Producer) : Type 0 where
-  pub above : (t : ℕ) (c : Which) → x.lows t < x.cursors t c
+  pub above : (t c : ℕ) → x.lows t < x.cursors t c
 
 pub record MoveBound (f : Flow) (p : Partition) (m : MoveNumbers) : Type 0 where
   pub used : (q : ℕ) → q < f.sources p.stage → f.used p q m.count ≤ m.marks q

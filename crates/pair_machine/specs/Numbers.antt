@@ -1,7 +1,7 @@
 -- The numbers that each node of the pair machine has. The machine knows no item: it knows how many items of an edge a node has
 -- taken, merged, produced and may forget, and what those items are follows from the plan and the inputs. Each number of an edge is
 -- a function, of the source for edges into a partition and of the target for edges out of it, so that the laws need no range.
-use Rattle.std.specs.Prelude.{ℕ, Bool, true, false, List, Option, ◌-◌, ◌==◌, ◌&&◌}
+use Rattle.std.specs.Prelude.{ℕ, zero, suc, Bool, true, false, List, Option, ◌-◌, ◌==◌, ◌&&◌}
 use Rattle.tuple_edge.specs.declared.node.EdgeId.{EdgeId}
 use Rattle.tuple_edge.specs.declared.node.NodeId.{NodeId}
 use Rattle.tuple_edge.specs.declared.node.NodeId.TheVariants as node
@@ -12,11 +12,11 @@ pub use Rattle.tuple_edge.specs.Node.{other}
 
 -- ---- edges
 
--- what a producer has: for each out-edge up to which number it is acknowledged (low), and for each replica that it sends to the
--- number to send next (cursor); its term, and whether it leads
+-- what a producer has: for each out-edge up to which number it is acknowledged (low), and for each replica that it sends to, which it
+-- counts from 0, the number to send next (cursor); its term, and whether it leads
 pub record Producer : Type 0 where
   pub lows : ℕ → ℕ
-  pub cursors : ℕ → Which → ℕ
+  pub cursors : ℕ → ℕ → ℕ
   pub term : ℕ
   pub leads : Bool
 
@@ -108,6 +108,16 @@ is_which A A = true
 is_which A B = false
 is_which B A = false
 is_which B B = true
+
+-- a replica of a pair as producers count it
+
+abbrev pub copy_of : Which → ℕ
+copy_of A = 0
+copy_of B = 1
+
+abbrev pub which_at : ℕ → Which
+which_at zero = A
+which_at (suc c) = B
 
 abbrev pub replica_at : Partition → Which → NodeId
 replica_at p w = node.Replica p.stage p.part w

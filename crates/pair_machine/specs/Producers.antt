@@ -1,11 +1,10 @@
 -- What a producer does, in numbers: it is acknowledged, asked to go back, or named leader, and sends what is due. A replica that runs
--- and ingress are producers; an item goes to both replicas of each partition of the next stage, or to egress.
+-- and ingress are producers; an item goes to each replica of each partition of the next stage, or to egress.
 use Rattle.std.specs.Prelude.{ℕ, zero, suc, true, List, [], ◌∷◌, Option, None, Some, ◌+◌, ◌-◌, ◌==◌, ◌&&◌, if◌then◌else◌, nat_lt, nat_le, min, max}
 use Rattle.tuple_edge.specs.declared.node.NodeId.{NodeId}
 use Rattle.tuple_edge.specs.declared.node.NodeId.TheVariants as node
-use Rattle.tuple_edge.specs.declared.node.Which.{Which}
 use Rattle.tuple_edge.specs.declared.node.Which.TheVariants.{A, B}
-use Rattle.pair_machine.specs.Numbers.{Partition, Producer, is_which, out_edge}
+use Rattle.pair_machine.specs.Numbers.{Partition, Producer, out_edge, which_at}
 use Rattle.pair_machine.specs.Messages.{Envelope, Message, Tuple, envelope}
 use Rattle.pair_machine.specs.Flow.{Flow}
 use Rattle.pair_machine.specs.Consumers.{with_at}
@@ -19,11 +18,11 @@ acked_to x t k =
     record x { lows = with_at x.lows t low; cursors = λ j c. if j == t then max (x.cursors t c) (low + 1) else x.cursors j c }
 
 -- a cursor goes back to n, but not to what is acknowledged
-abbrev pub rewound : Producer → ℕ → Which → ℕ → Producer
-rewound x t c n = record x { cursors = λ j d. if (j == t) && is_which d c then min (x.cursors t c) (max n (x.lows t + 1)) else x.cursors j d }
+abbrev pub rewound : Producer → ℕ → ℕ → ℕ → Producer
+rewound x t c n = record x { cursors = λ j d. if (j == t) && (d == c) then min (x.cursors t c) (max n (x.lows t + 1)) else x.cursors j d }
 
 -- a replica wants the items of out-edge t from n on: a leader goes back for it
-abbrev pub wanted : Producer → ℕ → Which → ℕ → Producer
+abbrev pub wanted : Producer → ℕ → ℕ → ℕ → Producer
 wanted x t c n = if x.leads then rewound x t c n else x
 
 -- it is named leader: under a higher term it leads, and sends again all that is not acknowledged
@@ -35,12 +34,12 @@ leading x term = if nat_lt x.term term then record { lows = x.lows; cursors = λ
 -- an item to be sent: on which out-edge, to which replica there, and its number
 pub record Due : Type 0 where
   pub to : ℕ
-  pub copy : Which
+  pub copy : ℕ
   pub number : ℕ
 
--- the replicas at the other end of an edge; egress counts as the first
-abbrev pub copies : Flow → Partition → List Which
-copies f p = if p.stage == f.stages then A ∷ [] else A ∷ B ∷ []
+-- how many replicas are at the other end of an edge; egress counts as one
+abbrev pub copies : Flow → Partition → ℕ
+copies f p = if p.stage == f.stages then 1 else f.replicas
 
 -- the one of the lesser number, and of two with one number the former
 abbrev pub sooner : Option Due → Option Due → Option Due
@@ -49,18 +48,18 @@ sooner (Some d) None = Some d
 sooner (Some d) (Some e) = if nat_le d.number e.number then Some d else Some e
 
 -- what is due to a replica, where so many items were made for its edge
-abbrev pub due_copy : (made : ℕ) → Producer → ℕ → Which → Option Due
+abbrev pub due_copy : (made : ℕ) → Producer → ℕ → ℕ → Option Due
 due_copy made x t c = if nat_le (x.cursors t c) made then Some (record { to = t; copy = c; number = x.cursors t c }) else None
 
--- the soonest of what is due to some replicas of a target
-abbrev pub due_copies : (made : ℕ) → Producer → ℕ → List Which → Option Due
-due_copies made x t [] = None
-due_copies made x t (c ∷ cs) = sooner (due_copy made x t c) (due_copies made x t cs)
+-- the soonest of what is due to the first c replicas of a target
+abbrev pub due_copies : (made : ℕ) → Producer → ℕ → ℕ → Option Due
+due_copies made x t zero = None
+due_copies made x t (suc c) = sooner (due_copies made x t c) (due_copy made x t c)
 
--- the soonest of what is due to the targets below n
-abbrev pub due_below : (made : ℕ → ℕ) → Producer → List Which → ℕ → Option Due
-due_below made x cs zero = None
-due_below made x cs (suc n) = sooner (due_below made x cs n) (due_copies (made n) x n cs)
+-- the soonest of what is due to the targets below n, where each has so many replicas
+abbrev pub due_below : (made : ℕ → ℕ) → Producer → ℕ → ℕ → Option Due
+due_below made x copies zero = None
+due_below made x copies (suc n) = sooner (due_below made x copies n) (due_copies (made n) x n copies)
 
 -- what is due: of all cursors that are at a made item the one of the least number; nothing where it doesn't lead
 abbrev pub due : Flow → Partition → (made : ℕ → ℕ) → Producer → Option Due
@@ -68,11 +67,11 @@ due f p made x = if x.leads then due_below made x (copies f p) (f.targets p.stag
 
 -- what was due is sent
 abbrev pub sent_on : Producer → Due → Producer
-sent_on x d = record x { cursors = λ j c. if (j == d.to) && is_which c d.copy then d.number + 1 else x.cursors j c }
+sent_on x d = record x { cursors = λ j c. if (j == d.to) && (c == d.copy) then d.number + 1 else x.cursors j c }
 
 -- to whom it goes
 abbrev pub consumer_of : Flow → Partition → Due → NodeId
-consumer_of f p d = if p.stage == f.stages then node.Egress else node.Replica (p.stage + 1) d.to d.copy
+consumer_of f p d = if p.stage == f.stages then node.Egress else node.Replica (p.stage + 1) d.to (which_at d.copy)
 
 abbrev pub sends_due : Flow → Partition → Due → List Envelope
 sends_due f p d = envelope (consumer_of f p d) (Tuple (out_edge p d.to) d.number) ∷ []

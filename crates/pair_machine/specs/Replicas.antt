@@ -6,7 +6,7 @@ use Rattle.tuple_edge.specs.declared.node.NodeId.{NodeId}
 use Rattle.tuple_edge.specs.declared.node.NodeId.TheVariants as node
 use Rattle.tuple_edge.specs.declared.node.Which.{Which}
 use Rattle.tuple_edge.specs.declared.node.Which.TheVariants.{A}
-use Rattle.pair_machine.specs.Numbers.{MoveNumbers, Move, RunningNumbers, Replica, Gone, Running, Gathering, Partition, control_at, in_edge, other, out_edge, replica_at}
+use Rattle.pair_machine.specs.Numbers.{MoveNumbers, Move, RunningNumbers, Replica, Gone, Running, Gathering, Partition, control_at, copy_of, in_edge, other, out_edge, replica_at}
 use Rattle.pair_machine.specs.Messages.{Message, Tuple, Ack, Report, Lead, Serve, Begin, Chunk, ChunkEnd, Caught, Want, Down, Stop, AskStop, AskBack, Envelope, envelope, Act, Takes, Works, Makes, Dies, AsksStop, AsksBack, Pulls, Refusal, NothingDue, NotRunning}
 use Rattle.pair_machine.specs.Flow.{Flow}
 use Rattle.pair_machine.specs.Consumers.{is_ready, merged_one, offered, pulled, telling, untold}
@@ -126,7 +126,7 @@ which_of (node.Replica s q w) = w
 which_of (node.Control s q) = A
 which_of node.Egress = A
 
-abbrev pub takes_want : ℕ → Which → ℕ → Replica → Replica
+abbrev pub takes_want : ℕ → ℕ → ℕ → Replica → Replica
 takes_want t c n (Gone j) = Gone j
 takes_want t c n (Running x) = Running (record x { producer = wanted x.producer t c n })
 takes_want t c n (Gathering g) = Gathering g
@@ -141,7 +141,7 @@ replica_takes f p from (Begin i) r = (takes_begin i r, [])
 replica_takes f p from (Stop i) r = (takes_stop i r, [])
 replica_takes f p from (Chunk i n m) r = takes_chunk f p i n m r
 replica_takes f p from (ChunkEnd i count m) r = takes_end p i count m r
-replica_takes f p from (Want e n) r = (takes_want e.to (which_of from) n r, [])
+replica_takes f p from (Want e n) r = (takes_want e.to (copy_of (which_of from)) n r, [])
 replica_takes f p from m r = (r, [])
 
 -- ---- work: the first that is due of a merge, a part of a move, an item to send, and a mark to report

@@ -17,7 +17,7 @@ use Rattle.pair_machine.specs.Numbers.{Consumer, Controller, Gathering, Gatherin
 
 pub record EachOfProducer (P : ℕ → Type 0) (x : Producer) : Type 0 where
   pub lows : (t : ℕ) → P (x.lows t)
-  pub cursors : (t : ℕ) (c : Which) → P (x.cursors t c)
+  pub cursors : (t c : ℕ) → P (x.cursors t c)
   pub term : P x.term
 
 pub record EachOfConsumer (P : ℕ → Type 0) (x : Consumer) : Type 0 where

@@ -178,8 +178,8 @@ shown f stage (Running x) =
     (record {
       low = x.producer.lows 0;
       made = made_by f (record { stage = stage; part = 0 }) x.consumer.count 0;
-      cursor_a = x.producer.cursors 0 A;
-      cursor_b = x.producer.cursors 0 B;
+      cursor_a = x.producer.cursors 0 0;
+      cursor_b = x.producer.cursors 0 1;
     })
 shown f stage (Gathering g) = Gathers g.inc g.taken (g.held 0)
 
@@ -219,7 +219,7 @@ control_of s stage = controller_shown (controller_in (s.nodes (control stage)))
 abbrev pub source_shown : Flow → State → ℕ → OutShown
 source_shown f s q =
     let x = ingress_in (s.nodes node.Ingress) in
-    record { low = (x.producers q).lows 0; made = source_made f x q 0; cursor_a = (x.producers q).cursors 0 A; cursor_b = (x.producers q).cursors 0 B }
+    record { low = (x.producers q).lows 0; made = source_made f x q 0; cursor_a = (x.producers q).cursors 0 0; cursor_b = (x.producers q).cursors 0 1 }
 
 -- the marks of the first so many in-edges of replica A of stage 1
 abbrev pub marks_of : State → ℕ → List (Option ℕ)

@@ -24,7 +24,7 @@ use Rattle.replica_node.specs.declared.phase.Phase.{Phase}
 use Rattle.replica_node.specs.declared.phase.Phase.TheVariants as phase
 use Rattle.replica_node.specs.declared.phase.Running.{Running}
 
-edge_stays : (items : List Item) (made acked : ℕ) (next : Which → ℕ) (e z : OutEdgeView) → without_room z ≡ without_room e → EdgeStands items made acked next e → EdgeStands items made acked next z
+edge_stays : (items : List Item) (made acked : ℕ) (next : ℕ → ℕ) (e z : OutEdgeView) → without_room z ≡ without_room e → EdgeStands items made acked next e → EdgeStands items made acked next z
 edge_stays items made acked next e z same s = record {
   low = ap (λ (x : OutEdgeView). x.buffer.low) same ∙ s.low;
   produced = ap (λ (x : OutEdgeView). x.buffer.produced) same ∙ s.produced;

@@ -20,7 +20,7 @@ catch_ups_stand plan rows p inc n numbers newcomer spec c merge producer items m
       (consumer_stands plan rows p merging inc n numbers merge newcomer.held pieces.consumer holds caught.rising);
   producer =
       contents (flow_of plan rows) (items_on plan rows) p (λ t. made_on plan rows (out_edge p t) n.count) (caught_up inc n numbers).producer
-      (over_buffers p.stage p.part (length (copies (flow_of plan rows) p)) (map (λ e. e.buffer) producer.edges)) c.producer (sym caught.producer_is)
+      (over_buffers p.stage p.part (copies (flow_of plan rows) p) (map (λ e. e.buffer) producer.edges)) c.producer (sym caught.producer_is)
       (producer_stands (flow_of plan rows) (items_on plan rows) p (λ t. made_on plan rows (out_edge p t) n.count) inc n numbers pieces.sender producer pieces.sends pieces.lows);
   entries = ap (λ (s : StateView). s.entries) caught.state ∙ pieces.entries;
   unwatched = ap (λ (s : StateView). s.old) caught.state;

@@ -46,6 +46,7 @@ use Rattle.node_edges.specs.OutEdges.{any_due_in, due_in, which_at}
 use Rattle.node_edges.specs.ProducerLaws.{SendsDue}
 use Rattle.node_edges.proofs.Consumers as consumers
 use Rattle.node_edges.proofs.Producers as producers
+use Rattle.node_edges.proofs.Producers.{few_in_pairs}
 use Rattle.replica_node.specs.CaughtUp.{ArePieces}
 use Rattle.replica_node.specs.IsReplica.{IsMoving}
 use Rattle.replica_node.specs.Moves.{HoldNumbers}
@@ -276,7 +277,7 @@ module _ (plan : PlanView) (rows : List Input) (role : Role) (is_of : IsOfPlan p
       → due (flow_of plan rows) (partition_of role) (made_by (flow_of plan rows) (partition_of role) x.consumer.count) x.producer ≡ any_due_in d
   unfolding flow_of
   due_is r x d s found =
-      sym (producers.due_is (flow_of plan rows) (items_on plan rows) (partition_of role) (λ t. made_on plan rows (out_edge (partition_of role) t) x.consumer.count) x.producer r.producer s.producer)
+      sym (producers.due_is (flow_of plan rows) (items_on plan rows) (partition_of role) (few_in_pairs plan rows) (λ t. made_on plan rows (out_edge (partition_of role) t) x.consumer.count) x.producer r.producer s.producer)
       ∙ ap any_due_in found
 
   -- the item that is due is held
@@ -284,7 +285,7 @@ module _ (plan : PlanView) (rows : List Input) (role : Role) (is_of : IsOfPlan p
       → SendsDue (flow_of plan rows) (items_on plan rows) (partition_of role) (λ t. made_on plan rows (out_edge (partition_of role) t) x.consumer.count) x.producer r.producer d
       → (i : Item) × (buffer.item_at (buffer_at r.producer d.to) d.number ≡ Some i)
   item_held r x d bound sends =
-      sends.held (bound.above d.to (which_at d.copy))
+      sends.held (bound.above d.to d.copy)
       (made_most plan rows role.stage role.part d.to x.consumer.count is_of.first is_of.last (let same : role.stage ≡ role.stage + 1 - 1 = omega arith in subst (λ n. role.part < parts_of plan n) same is_of.part))
 
   pub sends_come : (r : Running) (x : RunningNumbers) (d : Sending) → RunningStands plan rows (partition_of role) r x → ProducerBound x.producer → due_of r.producer ≡ Some d
@@ -292,7 +293,7 @@ module _ (plan : PlanView) (rows : List Input) (role : Role) (is_of : IsOfPlan p
       (numbers.Running (record x { producer = machine.sent_on x.producer (due_in d) }), sends_due (flow_of plan rows) (partition_of role) (due_in d))
   sends_come r x d s bound found =
       let sends : SendsDue (flow_of plan rows) (items_on plan rows) (partition_of role) (λ t. made_on plan rows (out_edge (partition_of role) t) x.consumer.count) x.producer r.producer d =
-      producers.sends (flow_of plan rows) (items_on plan rows) (partition_of role) (λ t. made_on plan rows (out_edge (partition_of role) t) x.consumer.count) x.producer r.producer d found s.producer in
+      producers.sends (flow_of plan rows) (items_on plan rows) (partition_of role) (few_in_pairs plan rows) (λ t. made_on plan rows (out_edge (partition_of role) t) x.consumer.count) x.producer r.producer d found s.producer in
       let held = item_held r x d bound sends in
       record {
         stands = record { inc = s.inc; consumer = s.consumer; producer = sends.sent; entries = s.entries; served = s.served; move = s.move };

@@ -67,7 +67,7 @@ module _ (plan : PlanView) (rows : List Input) (is : IsPlan plan) (role : Role) 
       let opened = producers.opens f (items_on plan rows) p (first_term role.which) leads (first_is role.which) in
       subst (λ made. ProducerStands f (items_on plan rows) p made x (opening role).producer) (λ i t. sym (none_made t) i)
       (subst (λ n. ProducerStands f (items_on plan rows) p (λ t. 0) x (producer.opening role.stage role.part (targets_of role.next) n leads)) (many_copies plan rows role here)
-      (subst (λ n. ProducerStands f (items_on plan rows) p (λ t. 0) x (producer.opening role.stage role.part n (length (copies f p)) leads)) (many_targets plan rows role here) opened))
+      (subst (λ n. ProducerStands f (items_on plan rows) p (λ t. 0) x (producer.opening role.stage role.part n (copies f p) leads)) (many_targets plan rows role here) opened))
 
   consumer_opens : ConsumerStands plan rows (partition_of role) new_consumer (opening role).consumer
   consumer_opens =

@@ -147,6 +147,10 @@ module _ (plan : PlanView) (rows : List Input) (role : Role) (here : IsOfPlan pl
   unfolding flow_of
   merges = record { first = here.first; last = let l = here.last in omega arith }
 
+  pairs_are : (flow_of plan rows).replicas ≡ 2
+  unfolding flow_of
+  pairs_are = refl
+
   pub of_stage : IsOfStage (flow_of plan rows) (partition_of role)
   unfolding flow_of
   of_stage = record { first = here.first; last = here.last; part = subst (λ n. role.part < parts_of plan n) (let z : role.stage ≡ role.stage + 1 - 1 = omega arith in z) here.part }
@@ -155,15 +159,15 @@ module _ (plan : PlanView) (rows : List Input) (role : Role) (here : IsOfPlan pl
   many_targets = targets_at plan rows role.stage ∙ targets_are plan role here
 
   -- after the last stage there is one copy of egress, and of each other partition there are two
-  pub many_copies : length (copies (flow_of plan rows) (partition_of role)) ≡ copies_of role.next
+  pub many_copies : copies (flow_of plan rows) (partition_of role) ≡ copies_of role.next
   many_copies = by role.next refl
     where
-      by : (next : Option Stage) → role.next ≡ next → length (copies (flow_of plan rows) (partition_of role)) ≡ copies_of next
+      by : (next : Option Stage) → role.next ≡ next → copies (flow_of plan rows) (partition_of role) ≡ copies_of next
       by None e =
           let most = here.last in
           let last : role.stage ≡ (flow_of plan rows).stages = let all = stages_are plan rows in let least = none_past plan.stages role.stage (here.next ∙ e) in omega arith in
-          ap (λ b. length (if b then A ∷ [] else A ∷ B ∷ [])) (eq-eqb role.stage (flow_of plan rows).stages last)
+          ap (λ b. if b then 1 else (flow_of plan rows).replicas) (eq-eqb role.stage (flow_of plan rows).stages last)
       by (Some next) e =
           let all = stages_are plan rows in
           let before = slice_get_within plan.stages role.stage next (here.next ∙ e) in
-          ap (λ b. length (if b then A ∷ [] else A ∷ B ∷ [])) (nat_not role.stage (flow_of plan rows).stages (λ at. let z : ⊥ = omega arith in z))
+          ap (λ b. if b then 1 else (flow_of plan rows).replicas) (nat_not role.stage (flow_of plan rows).stages (λ at. let z : ⊥ = omega arith in z)) ∙ pairs_are

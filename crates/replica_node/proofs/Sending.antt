@@ -20,7 +20,7 @@ over_at (e ∷ es) (suc t) = over_at es t
 
 pub producer_stands : (f : Flow) (on : EdgeId → List Item) (p : Partition) (made : ℕ → ℕ) (inc : ℕ) (n : MoveNumbers) (numbers : ℕ → List ℕ) (x : Producer) (y : ProducerView)
     → ProducerStands f on p made x y → ((t : ℕ) → x.lows t ≡ n.lows t)
-    → ProducerStands f on p made (caught_up inc n numbers).producer (over_buffers p.stage p.part (length (copies f p)) (map (λ e. e.buffer) y.edges))
+    → ProducerStands f on p made (caught_up inc n numbers).producer (over_buffers p.stage p.part (copies f p) (map (λ e. e.buffer) y.edges))
 producer_stands f on p made inc n numbers x y stands lows = record {
   stage = refl;
   from = refl;
@@ -36,6 +36,6 @@ producer_stands f on p made inc n numbers x y stands lows = record {
         low = ap (λ (e : OutEdgeView). e.buffer.low) at ∙ low;
         produced = ap (λ (e : OutEdgeView). e.buffer.produced) at ∙ was.produced;
         kept = ap (λ (e : OutEdgeView). e.buffer.items) at ∙ was.kept ∙ ap (λ k. between k (made t) (on (out_edge p t))) (lows t);
-        cursors = ap (λ (e : OutEdgeView). e.cursors) at ∙ ap (λ k. (k + 1) ∷ (k + 1) ∷ []) low;
+        cursors = ap (λ (e : OutEdgeView). e.cursors) at ∙ ap (λ k. (k + 1) ∷ (k + 1) ∷ (k + 1) ∷ []) low;
       };
 }

@@ -24,6 +24,7 @@ use Rattle.pair_machine.specs.Replicas.{insert_in, replica_takes, takes_ack, tak
 use Rattle.node_edges.specs.OutEdges.{ProducerStands, copy_of}
 use Rattle.node_edges.proofs.Consumers as consumers
 use Rattle.node_edges.proofs.Producers as producers
+use Rattle.node_edges.proofs.Producers.{few_of_pair}
 use Rattle.catch_up.specs.NewcomerView.{NewcomerView, after_hold}
 use Rattle.replica_node.specs.Admitted.{IsFromHere, IsIntoHere}
 use Rattle.replica_node.specs.Phases.{ack_taken, lead_taken, tuple_taken, want_taken}
@@ -78,12 +79,12 @@ module _ (plan : PlanView) (rows : List Input) (role : Role) (is_of : IsOfPlan p
   -- ---- wants
 
   wanted_comes : (p : Phase) (x : Replica) (from : NodeId) (e : EdgeId) (number : ℕ) → IsFromHere role e → PhaseStands plan rows (partition_of role) p x
-      → ComesTo plan rows role (want_taken e.to (copy_of (which_of from)) number p) [] (takes_want e.to (which_of from) number x, [])
+      → ComesTo plan rows role (want_taken e.to (copy_of (which_of from)) number p) [] (takes_want e.to (copy_of (which_of from)) number x, [])
   wanted_comes (phase.Running r) (numbers.Running x) from e number here s = record {
     stands = record {
       inc = s.inc;
       consumer = s.consumer;
-      producer = producers.wants (flow_of plan rows) (items_on plan rows) (partition_of role) (λ t. made_on plan rows (out_edge (partition_of role) t) x.consumer.count) x.producer r.producer e.to (which_of from) number (target_there e here) s.producer;
+      producer = producers.wants (flow_of plan rows) (items_on plan rows) (partition_of role) (λ t. made_on plan rows (out_edge (partition_of role) t) x.consumer.count) x.producer r.producer e.to (copy_of (which_of from)) number (target_there e here) (few_of_pair (which_of from)) s.producer;
       entries = s.entries;
       served = s.served;
       move = s.move;
@@ -98,7 +99,7 @@ module _ (plan : PlanView) (rows : List Input) (role : Role) (is_of : IsOfPlan p
       → BodyStands plan rows (link from (node_of role)) (body.Want e number) m → PhaseStands plan rows (partition_of role) p x
       → ComesTo plan rows role (want_taken e.to (copy_of (which_of from)) number p) [] (replica_takes (flow_of plan rows) (partition_of role) from m x)
   take_want_comes p x from e number (Want edge k) here st s =
-      subst (λ (z : EdgeId × ℕ). ComesTo plan rows role (want_taken e.to (copy_of (which_of from)) number p) [] (takes_want z.0.to (which_of from) z.1 x, [])) (λ i. (st.0 i, st.1 i)) (wanted_comes p x from e number here s)
+      subst (λ (z : EdgeId × ℕ). ComesTo plan rows role (want_taken e.to (copy_of (which_of from)) number p) [] (takes_want z.0.to (copy_of (which_of from)) z.1 x, [])) (λ i. (st.0 i, st.1 i)) (wanted_comes p x from e number here s)
   take_want_comes p x from e number m here st s = absurd st
 
   -- ---- leading

@@ -114,7 +114,7 @@ module _ (plan : PlanView) (rows : List Input) (p : Partition) (m : MoveNumbers)
   buffer_of t = record { low = m.lows t; produced = made_on plan rows (out_edge p t) m.count; items = kept plan rows p m.count t (m.lows t); spare = 0 }
 
   abbrev producer_of : ProducerView
-  producer_of = over_buffers p.stage p.part (length (copies (flow_of plan rows) p)) (listed (parts_of plan (p.stage + 1)) buffer_of)
+  producer_of = over_buffers p.stage p.part (copies (flow_of plan rows) p) (listed (parts_of plan (p.stage + 1)) buffer_of)
 
   abbrev sender_of : Producer
   sender_of = record { lows = m.lows; cursors = λ t c. m.lows t + 1; term = 0; leads = false }

@@ -64,5 +64,5 @@ abbrev pub NewcomersCatchUp : Type 0
 NewcomersCatchUp = (plan : PlanView) (rows : List Input) (p : Partition) (inc : ℕ) (n : MoveNumbers) (numbers : ℕ → List ℕ)
     (newcomer : NewcomerView) (spec : OpSpec) (c : CaughtUp) (merge : MergeView) (producer : ProducerView) (items : List Item)
     → IsMerging (flow_of plan rows) p → ArePieces plan rows p n spec merge producer items → HoldsNumbers plan rows p newcomer.held numbers
-    → IsCaughtUp newcomer spec p.stage p.part (length (copies (flow_of plan rows) p)) c merge producer items
+    → IsCaughtUp newcomer spec p.stage p.part (copies (flow_of plan rows) p) c merge producer items
     → StandsCaughtUp plan rows p inc n numbers c

@@ -16,8 +16,8 @@ use Rattle.pair_machine.specs.Numbers.{Consumer, Partition, Producer}
 use Rattle.pair_machine.specs.Producers.{copies}
 use Rattle.node_edges.specs.InEdges.{ConsumerStands}
 use Rattle.node_edges.specs.OutEdges.{ProducerStands, copy_of}
-use Rattle.state_text.specs.Shown.{consumer_numbers, ends_of, in_edges_shown, made_in, out_edges_shown, producer_numbers}
-use Rattle.state_text.specs.StateText.{cursors_text, in_edge_line, lines_below, out_edge_line, out_edges_text}
+use Rattle.state_text.specs.Shown.{consumer_numbers, in_edges_shown, made_in, out_edges_shown, producer_numbers}
+use Rattle.state_text.specs.StateText.{cursors_text, ends_of, in_edge_line, lines_below, out_edge_line, out_edges_text}
 use Rattle.state_text.proofs.Below.{lines_of}
 
 -- ---- in-edges
@@ -34,14 +34,10 @@ in_edges_same plan rows p x code name h =
 
 -- ---- out-edges
 
-ends_if : (b : Bool) → ends_of (length (if b then A ∷ [] else A ∷ B ∷ [])) ≡ (if b then A ∷ [] else A ∷ B ∷ [])
-ends_if true = refl
-ends_if false = refl
-
 low_line : Word → ℕ → ℕ → ℕ → (Which → ℕ) → List Which → List ℕ
 low_line name t low made next ends = name ++ codes " > " ++ decimal t ++ codes " low=" ++ decimal low ++ codes " made=" ++ decimal made ++ cursors_text next ends ++ codes "\n"
 
-cursors_same : (code : ProducerView) (t : ℕ) (next : Which → ℕ) → (edge_at code t).cursors ≡ next A ∷ next B ∷ [] → (w : Which) → cursor_at code t (copy_of w) ≡ next w
+cursors_same : (code : ProducerView) (t : ℕ) (next : ℕ → ℕ) → (edge_at code t).cursors ≡ next 0 ∷ next 1 ∷ next 2 ∷ [] → (w : Which) → cursor_at code t (copy_of w) ≡ next (copy_of w)
 cursors_same code t next e A = ap (λ cs. slice_index cs 0) e
 cursors_same code t next e B = ap (λ cs. slice_index cs 1) e
 
@@ -49,9 +45,9 @@ pub out_edges_same : (f : Flow) (on : EdgeId → List Item) (p : Partition) (mad
     → out_edges_shown name code ≡ out_edges_text f name p made x
 unfolding low_line
 out_edges_same f on p made x code name h =
-    let ends : ends_of code.copies ≡ copies f p = ap ends_of h.copies ∙ ends_if (p.stage == f.stages) in
-    lines_of _ _ (out_edge_line name (ends_of code.copies) (made_in code) (producer_numbers code)) (out_edge_line name (copies f p) made x) h.targets
+    let ends : ends_of code.copies ≡ ends_of (copies f p) = ap ends_of h.copies in
+    lines_of _ _ (out_edge_line name (ends_of code.copies) (made_in code) (producer_numbers code)) (out_edge_line name (ends_of (copies f p)) made x) h.targets
     (λ t l.
     let e = h.edges t (subst (λ n. t < n) h.targets l) in
-    let next : (w : Which) → cursor_at code t (copy_of w) ≡ x.cursors t w = cursors_same code t (x.cursors t) e.cursors in
+    let next : (w : Which) → cursor_at code t (copy_of w) ≡ x.cursors t (copy_of w) = cursors_same code t (x.cursors t) e.cursors in
     (λ j. low_line name t (e.low j) (e.produced j) (λ w. next w j) (ends j)))

@@ -7,7 +7,6 @@ use Rattle.flux_producer.specs.ProducerView.{ProducerView, buffer_at, cursor_at}
 use Rattle.merge_order.specs.MergeView.{mark_of}
 use Rattle.text_words.specs.Lines.{Word}
 use Rattle.pair_machine.specs.Numbers.{Consumer, Producer}
-use Rattle.node_edges.specs.OutEdges.{copy_of}
 use Rattle.state_mover.specs.MoverView.{MoverView, total_of}
 use Rattle.catch_up.specs.NewcomerView.{NewcomerView, held_of}
 use Rattle.ingress_egress.specs.EgressView.{EgressView}
@@ -16,7 +15,7 @@ use Rattle.replica_node.specs.ReplicaView.{ReplicaView}
 use Rattle.replica_node.specs.declared.phase.Phase.{Phase}
 use Rattle.replica_node.specs.declared.phase.Phase.TheVariants as phase
 use Rattle.replica_node.specs.declared.phase.Running.{Running}
-use Rattle.state_text.specs.StateText.{gathering_line, gone_line, held_line, in_edge_line, lines_below, makes_line, move_line, out_edge_line, out_line, running_line, source_name}
+use Rattle.state_text.specs.StateText.{ends_of, gathering_line, gone_line, held_line, in_edge_line, lines_below, makes_line, move_line, out_edge_line, out_line, running_line, source_name}
 
 -- ---- edges
 
@@ -24,14 +23,10 @@ abbrev pub consumer_numbers : ConsumerView → Consumer
 consumer_numbers c = record { marks = mark_of c.merge; told = told_of c; count = c.merge.count }
 
 abbrev pub producer_numbers : ProducerView → Producer
-producer_numbers p = record { lows = λ t. (buffer_at p t).low; cursors = λ t w. cursor_at p t (copy_of w); term = p.term; leads = p.leads }
+producer_numbers p = record { lows = λ t. (buffer_at p t).low; cursors = cursor_at p; term = p.term; leads = p.leads }
 
 abbrev pub made_in : ProducerView → ℕ → ℕ
 made_in p t = (buffer_at p t).produced
-
--- the replicas at the other end of an edge, by their number
-abbrev pub ends_of : ℕ → List Which
-ends_of copies = if copies == 1 then A ∷ [] else A ∷ B ∷ []
 
 abbrev pub in_edges_shown : Word → ConsumerView → List ℕ
 in_edges_shown name c = lines_below (length c.merge.marks) (in_edge_line name (consumer_numbers c))

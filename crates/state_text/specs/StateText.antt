@@ -17,7 +17,7 @@ use Rattle.pair_machine.specs.Drain.{pairs_up_to}
 use Rattle.pair_machine.specs.Flow.{Flow}
 use Rattle.pair_machine.specs.Links.{link}
 use Rattle.pair_machine.specs.Machine.{State, controller_in, egress_in, ingress_in, replica_in}
-use Rattle.pair_machine.specs.Numbers.{Consumer, Controller, Gathering, Gone, Ingress, Move, MoveNumbers, Partition, Producer, Replica, Running, Watched, control_at, replica_at}
+use Rattle.pair_machine.specs.Numbers.{Consumer, Controller, Gathering, Gone, Ingress, Move, MoveNumbers, Partition, Producer, Replica, Running, Watched, control_at, copy_of, replica_at}
 use Rattle.pair_machine.specs.Producers.{copies}
 use Rattle.pair_machine.specs.Replicas.{made_by, size}
 use Rattle.run_journal.specs.Text.{letter_of, link_name, node_name}
@@ -38,6 +38,10 @@ flag_word false = codes "0"
 abbrev pub in_edge_line : Word → Consumer → ℕ → List ℕ
 in_edge_line name x q = name ++ codes " < " ++ decimal q ++ codes " mark=" ++ decimal (x.marks q) ++ codes " told=" ++ decimal (x.told q) ++ codes "\n"
 
+-- the replicas at the other end of an edge, by how many there are
+abbrev pub ends_of : ℕ → List Which
+ends_of copies = if copies == 1 then A ∷ [] else A ∷ B ∷ []
+
 -- the number to send next to each replica at the other end
 abbrev pub cursors_text : (Which → ℕ) → List Which → List ℕ
 cursors_text next [] = []
@@ -46,11 +50,11 @@ cursors_text next (w ∷ ws) = codes " " ++ letter_of w ++ codes "=" ++ decimal 
 -- an out-edge: up to which number it is acknowledged, how many items were made, and the cursors of the replicas at its other end
 abbrev pub out_edge_line : Word → List Which → (made : ℕ → ℕ) → Producer → ℕ → List ℕ
 out_edge_line name ends made x t =
-    name ++ codes " > " ++ decimal t ++ codes " low=" ++ decimal (x.lows t) ++ codes " made=" ++ decimal (made t) ++ cursors_text (x.cursors t) ends ++ codes "\n"
+    name ++ codes " > " ++ decimal t ++ codes " low=" ++ decimal (x.lows t) ++ codes " made=" ++ decimal (made t) ++ cursors_text (λ w. x.cursors t (copy_of w)) ends ++ codes "\n"
 
 -- all edges out of a partition
 abbrev pub out_edges_text : Flow → Word → Partition → (made : ℕ → ℕ) → Producer → List ℕ
-out_edges_text f name p made x = lines_below (f.targets p.stage) (out_edge_line name (copies f p) made x)
+out_edges_text f name p made x = lines_below (f.targets p.stage) (out_edge_line name (ends_of (copies f p)) made x)
 
 -- ---- ingress and egress
 

@@ -1,8 +1,8 @@
 // The lines of edges.
 ghost use Rattle.flux_producer.specs.ProducerView.{cursor_at};
 ghost use Rattle.node_edges.specs.OutEdges.{copy_of};
-ghost use Rattle.state_text.specs.Shown.{consumer_numbers, ends_of, in_edges_shown, made_in, out_edges_shown, producer_numbers};
-ghost use Rattle.state_text.specs.StateText.{cursors_text, in_edge_line, out_edge_line};
+ghost use Rattle.state_text.specs.Shown.{consumer_numbers, in_edges_shown, made_in, out_edges_shown, producer_numbers};
+ghost use Rattle.state_text.specs.StateText.{cursors_text, ends_of, in_edge_line, out_edge_line};
 ghost use Rattle.std.specs.Prelude.{◌≡◌, ◌<◌, ◌++◌, OnOk, length, string_bytes};
 
 use flux_consumer::Consumer;

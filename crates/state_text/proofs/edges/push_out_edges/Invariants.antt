@@ -1,7 +1,7 @@
 use Rattle.std.proofs.Common.{◌≡◌, ◌++◌}
 use Rattle.std.specs.Prelude.{string_bytes}
-use Rattle.state_text.specs.Shown.{ends_of, made_in, producer_numbers}
-use Rattle.state_text.specs.StateText.{lines_below, out_edge_line}
+use Rattle.state_text.specs.Shown.{made_in, producer_numbers}
+use Rattle.state_text.specs.StateText.{ends_of, lines_below, out_edge_line}
 use Rattle.state_text.proofs.edges.push_out_edges.Given as goal
 
 abbrev pub invariant-loop-to : goal.invariant-loop-to
