@@ -1,11 +1,13 @@
 -- What contracts see of the two ends of a ring.
 use Rattle.flux_link.specs.Identity.{Identity}
+use Rattle.flux_link.specs.declared.arrival.Arrival.{Arrival}
 use Rattle.rtrb.specs.Ring.{sent, received, known_free, known_items}
 use Rattle.rtrb.specs.declared.consumer.Consumer.{Consumer}
 use Rattle.rtrb.specs.declared.producer.Producer.{Producer}
-use Rattle.std.specs.Prelude.{ℕ, List}
+use Rattle.std.specs.Prelude.{◌≡◌, ℕ, ◌+◌, List, [], ◌∷◌, ◌++◌, length}
 use Rattle.std.specs.declared.alloc.Global.{Global}
 use Rattle.tuple_edge.specs.declared.packet.Packet.{Packet}
+use mathlib.Core.List.{IsPrefix}
 
 -- the end that sends: the packets sent, how many free slots it knows of, and which link it is
 pub record RingOutView : Type 0 where
@@ -18,6 +20,13 @@ pub record RingInView : Type 0 where
   pub given : List Packet
   pub known_waiting : List Packet
   pub identity : Identity
+
+-- the end gave the packet behind those that it had given, with its place: the first of those that it knew to be waiting, if any, and it still knows the others
+pub record GivesFirst (before : RingInView) (arrival : Arrival) (after : RingInView) : Type 0 where
+  pub link : after.identity ≡ before.identity
+  pub place : arrival.index ≡ length before.given + 1
+  pub given : after.given ≡ before.given ++ arrival.packet ∷ []
+  pub known : IsPrefix before.known_waiting (arrival.packet ∷ after.known_waiting)
 
 module _ {P : Type 0} where
   -- the ring that an end belongs to

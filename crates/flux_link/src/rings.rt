@@ -72,7 +72,9 @@ impl Model for RingIn {
 
 impl Inlet for RingIn {
     ghost use Rattle.flux_link.specs.Arrivals.{length-numbered_after};
+    ghost use Rattle.flux_link.specs.RingViews.{GivesFirst};
     ghost use Rattle.std.proofs.Common.{arith};
+    ghost use Rattle.std.specs.Prelude.{MatchOption};
 
     ghost given = { λ inlet. numbered inlet.given };
 
@@ -82,15 +84,15 @@ impl Inlet for RingIn {
 
     ghost taken = { λ inlet. length inlet.given };
 
-    ghost receives = { λ before result after. IfNone result ((after ≡ before) × (after.known_waiting ≡ [])) };
+    ghost receives = { λ before result after. MatchOption result ((after ≡ before) × (after.known_waiting ≡ []))
+        (λ arrival. GivesFirst before arrival after) };
 
     #[tactic(auto, using(crate::proofs::Numbered::numbered_push))]
     fn recv(&mut self) -> Option<Arrival>
         requires fits { length self.old.given < max_taken }
         ensures link { self.new.identity ≡ self.old.identity }
-        ensures gives { IfSome result (λ arrival. self.new.given ≡ self.old.given ++ arrival.packet ∷ []) }
+        ensures gives { IfSome result (λ arrival. GivesFirst self.old arrival self.new) }
         ensures place { IfSome result (λ arrival. numbered self.new.given ≡ numbered self.old.given ++ arrival ∷ []) }
-        ensures known { IfSome result (λ arrival. IsPrefix self.old.known_waiting (arrival.packet ∷ self.new.known_waiting)) }
         ensures unchanged { IfNone result (self.new ≡ self.old) }
         // It is None only where this end knows of no waiting packet.
         ensures empty { IfNone result (self.new.known_waiting ≡ []) }

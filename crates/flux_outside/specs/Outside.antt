@@ -1,5 +1,5 @@
 -- What calls to files and sinks do, and what of it is told.
-use Rattle.std.specs.Prelude.{Bool, true, false, Result, Ok, Err, ◌∷◌, if◌then◌else◌, ℕ, ◌≡◌, ◌≢◌, ◌+◌, ◌-◌, ◌^◌, ◌<◌, ◌≤◌, min, List, [], ◌++◌, take, drop, length, Option, Some, None, ◌⊎◌}
+use Rattle.std.specs.Prelude.{Bool, true, false, Result, Ok, Err, ◌∷◌, if◌then◌else◌, ℕ, ◌≡◌, ◌≢◌, ◌+◌, ◌-◌, ◌^◌, ◌<◌, ◌≤◌, min, List, [], ◌++◌, take, length, Option, Some, None, ◌⊎◌}
 use Rattle.flux_outside.specs.declared.outside.FileStop.{FileStop}
 use Rattle.flux_outside.specs.declared.outside.FileStop.TheVariants as stop
 use Rattle.flux_outside.specs.declared.outside.Got.{Got}
@@ -120,10 +120,19 @@ abbrev pub IsOffered : Option (List (List ℕ)) → Option (List (List ℕ)) →
 IsOffered None new piece = Unit {0}
 IsOffered (Some old) new piece = new ≡ Some (old ++ piece ∷ [])
 
--- each of these pieces of a text is all that was left of it: the first is the text, and each other one is the piece before it without some bytes in front
+-- what is left of a piece where at least one byte of its front was taken
+abbrev pub IsLeftBy : List ℕ → List ℕ → Type 0
+IsLeftBy piece rest = (front : List ℕ) × (0 < length front) × (piece ≡ front ++ rest)
+
+-- each piece is what is left of the one before it
+abbrev pub FollowOn : List ℕ → List (List ℕ) → Type 0
+FollowOn piece [] = Unit {0}
+FollowOn piece (next ∷ pieces) = IsLeftBy piece next × FollowOn next pieces
+
+-- each of these pieces of a text is all that was left of it: the first is the text, and each other one is what is left of the piece before it
 abbrev pub AreRests : List ℕ → List (List ℕ) → Type 0
 AreRests text [] = Unit {0}
-AreRests text (piece ∷ pieces) = (piece ≡ text) × ((n : ℕ) × AreRests (drop n text) pieces)
+AreRests text (piece ∷ pieces) = (piece ≡ text) × FollowOn piece pieces
 
 -- the pieces that were offered since then are rests of a text
 pub record AddsRests (old new : List (List ℕ)) (text : List ℕ) : Type 0 where

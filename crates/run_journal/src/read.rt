@@ -1,8 +1,8 @@
 // How events are read.
-ghost use Rattle.std.specs.Prelude.{All, ◌≤◌, IfOk, length};
+ghost use Rattle.std.specs.Prelude.{All, ◌≡◌, ◌<◌, ◌≤◌, Err, IfErr, IfOk, length};
 ghost use Rattle.text_words.specs.Reading.{Reads, Takes};
 ghost use Rattle.run_journal.specs.Events.{body_of, events_of, events_of_lines, header_at, with_line, with_lines};
-ghost use Rattle.run_journal.specs.Limits.{max_events};
+ghost use Rattle.run_journal.specs.Limits.{max_events, max_events_bytes};
 ghost use Rattle.run_journal.specs.Reading.{Gives};
 ghost use Rattle.run_journal.specs.Text.{IsNamed};
 
@@ -44,6 +44,8 @@ fn take_line(events: &mut Vec<Lined>, line: Line<'_>, plan: &Plan) -> Result<(),
     requires few { length events.old.items ≤ max_events }
     requires named { All (λ x. IsNamed plan.now x.event) events.old.items }
     ensures value { Gives (λ x. events.new.items) result (with_line plan.now events.old.items (record { number = line.entry.number; words = line.entry.words })) }
+    // A line that is refused wants no memory.
+    ensures refused { IfErr (with_line plan.now events.old.items (record { number = line.entry.number; words = line.entry.words })) (λ e. result ≡ Err e) }
     ensures few { length events.new.items ≤ max_events }
     ensures named { All (λ x. IsNamed plan.now x.event) events.new.items }
 {
@@ -104,6 +106,8 @@ fn events_of_lines(
 #[tactic(auto, unfolding(crate::specs::Events::events_of))]
 pub fn read_events(alloc: Global, bytes: &[u8], plan: &Plan) -> Result<Vec<Lined>, EventsError>
     ensures reads { Gives (λ events. events.items) result (events_of plan.now bytes.now) }
+    // A text that is too long wants no memory.
+    ensures long { max_events_bytes < length bytes.now → result ≡ Err (EventsError.TooLong (length bytes.now)) }
     // They are not too many, and each names what the plan has.
     ensures few { IfOk result (λ events. length events.items ≤ max_events) }
     ensures named { IfOk result (λ events. All (λ x. IsNamed plan.now x.event) events.items) }

@@ -1,5 +1,5 @@
 //! Tests of the texts that are read and written, by public calls: what no command of `flux` shows. That is the
-//! canonical text of what was read, the limits of a text handed in at once, the nodes and links of a plan, lines, words
+//! canonical text of what was read, the limits of a text handed in at once, what each error says of itself, the nodes and links of a plan, lines, words
 //! and numbers, the symbols of trades, what a failure script says is due, histories that are merged, and buckets that
 //! are fed and moved. What is read and refused otherwise is in the cases of flux_cases.
 //!
@@ -13,6 +13,8 @@ mod buckets;
 mod canonical;
 #[cfg(test)]
 mod cash;
+#[cfg(test)]
+mod errors;
 #[cfg(test)]
 mod events;
 #[cfg(test)]

@@ -1,5 +1,5 @@
-use Rattle.std.proofs.Common.{◌≡◌, ◌++◌, ◌∙◌, take, sym, ap, append_assoc, arith}
-use Rattle.std.proofs.lemmas.List.{take-append-drop}
+use Rattle.std.proofs.Common.{◌≡◌, ◌<◌, ◌++◌, ◌∙◌, length, take, sym, ap, append_assoc, arith}
+use Rattle.std.proofs.lemmas.List.{length-take-le, take-append-drop}
 use Rattle.std.proofs.lemmas.Result.{err_from_is_err_and}
 use Rattle.flux_outside.proofs.Sinks.{offers_more, takes_more, takes_part_more}
 use Rattle.flux_outside.proofs.write.write_all.Goals as goal
@@ -14,12 +14,14 @@ pub loop-rest-preserved : goal.loop-rest-preserved
 loop-rest-preserved g c =
     let w = c.loop-rest.invariant.written in
     let taken = take c.in_ok-count.count c.loop-rest.rest.now in
+    let splits : c.loop-rest.rest.now ≡ taken ++ c.split_at.result.1.now =
+    sym (take-append-drop c.in_ok-count.count c.loop-rest.rest.now) ∙ ap (λ rest. taken ++ rest) (sym c.split_at.ensures.back) in
     let whole : c.args.bytes.now ≡ (w.0 ++ taken) ++ c.split_at.result.1.now =
-    w.1 ∙ ap (λ rest. w.0 ++ rest) (sym (take-append-drop c.in_ok-count.count c.loop-rest.rest.now) ∙ ap (λ rest. taken ++ rest) (sym c.split_at.ensures.back)) ∙ sym (append_assoc w.0 taken c.split_at.result.1.now) in
+    w.1 ∙ ap (λ rest. w.0 ++ rest) splits ∙ sym (append_assoc w.0 taken c.split_at.result.1.now) in
+    let some : 0 < length taken = rw (length-take-le c.in_ok-count.count c.loop-rest.rest.now c.in_ok-count.ensures.within) (omega arith) in
     record {
       written = (w.0 ++ taken, whole, takes_more (g.S.Sink.taken c.args.sink.now) (g.S.Sink.taken c.loop-rest.sink) (g.S.Sink.taken c.put.new.self) w.0 taken w.2 c.in_ok-count.ensures.ok);
-      offers = rw c.split_at.ensures.back
-          (offers_more (g.S.Sink.offered c.args.sink.now) (g.S.Sink.offered c.loop-rest.sink) (g.S.Sink.offered c.put.new.self) c.args.bytes.now c.loop-rest.rest.now c.in_ok-count.count
-          c.loop-rest.invariant.offers c.in_ok-count.ensures.given);
+      offers = offers_more (g.S.Sink.offered c.args.sink.now) (g.S.Sink.offered c.loop-rest.sink) (g.S.Sink.offered c.put.new.self) c.args.bytes.now c.loop-rest.rest.now c.split_at.result.1.now
+          c.loop-rest.invariant.offers c.in_ok-count.ensures.given (taken, some, splits);
       later = omega arith;
     }
