@@ -1,5 +1,5 @@
 -- The rules of a replica: what each packet, each piece of work and each failure makes of it, and what it sends.
-use Rattle.std.specs.Prelude.{◌≡◌, ◌+◌, ℕ, List, [], ◌∷◌, ◌++◌, Option, None, Some, length}
+use Rattle.std.specs.Prelude.{◌≡◌, ◌<◌, ◌+◌, ℕ, List, [], ◌∷◌, ◌++◌, Option, None, Some, false, length}
 use Rattle.tuple_edge.specs.declared.event.Worked.{Worked}
 use Rattle.tuple_edge.specs.declared.event.Worked.TheVariants as worked
 use Rattle.tuple_edge.specs.declared.item.Item.{Item}
@@ -11,7 +11,7 @@ use Rattle.tuple_edge.specs.declared.packet.Entry.{Entry}
 use Rattle.tuple_edge.specs.declared.row.Row.{Row}
 use Rattle.tuple_edge.specs.Item.{stamp_of}
 use Rattle.ack_buffer.specs.Buffer.{item_at}
-use Rattle.merge_order.specs.MergeView.{after_next, item_of, least}
+use Rattle.merge_order.specs.MergeView.{after_next, item_of, least, mark_of}
 use Rattle.flux_consumer.specs.ConsumerView.{over, report_of, telling, with_merge}
 use Rattle.flux_producer.specs.Due.{due_of}
 use Rattle.flux_producer.specs.ProducerView.{buffer_at, contents_of, over_buffers, sent_on}
@@ -27,7 +27,7 @@ use Rattle.state_mover.specs.MoverView.{MoverView, after_next as after_chunk, mo
 use Rattle.state_mover.specs.declared.mover.Moved.{Moved}
 use Rattle.state_mover.specs.declared.mover.Moved.TheVariants as moved
 use Rattle.catch_up.specs.Caught.{CatchesUp}
-use Rattle.catch_up.specs.NewcomerView.{NewcomerView}
+use Rattle.catch_up.specs.NewcomerView.{NewcomerView, is_held}
 use Rattle.catch_up.specs.Rebuild.{buffers_in, folded, merge_in}
 use Rattle.replica_node.specs.Phases.{ack_taken, begin_taken, chunk_taken, inc_in, lead_taken, serve_taken, stop_taken, tuple_taken, want_taken, wants_in}
 use Rattle.replica_node.specs.ReplicaView.{ReplicaView, copies_of, partition_of, partner_of, with_phase}
@@ -79,6 +79,27 @@ IsTakenAs role from (body.Caught inc) p after sent = (after ≡ p) × (sent ≡ 
 IsTakenAs role from (body.Down inc) p after sent = (after ≡ p) × (sent ≡ [])
 IsTakenAs role from (body.AskStop inc) p after sent = (after ≡ p) × (sent ≡ [])
 IsTakenAs role from body.AskBack p after sent = (after ≡ p) × (sent ≡ [])
+
+-- the item is the next one that its merge is to have, or one that it holds not yet
+abbrev pub IsNewItem : ℕ → ℕ → Phase → Type 0
+IsNewItem q number (phase.Running r) = number ≡ mark_of r.consumer.merge q + 1
+IsNewItem q number (phase.Gathering g) = is_held g q number ≡ false
+IsNewItem q number (phase.Gone inc) = ⊥
+
+-- a move begins: it runs in this incarnation, and has served no such target
+abbrev pub IsNewTarget : ℕ → ℕ → Phase → Type 0
+IsNewTarget inc target (phase.Running r) = (inc ≡ r.inc) × (r.served < target)
+IsNewTarget inc target (phase.Gathering g) = ⊥
+IsNewTarget inc target (phase.Gone own) = ⊥
+
+-- what packets take memory for: a new item, a move or a newcomer that begins, and the parts of a move
+abbrev pub TakesMemory : Body → Phase → Type 0
+TakesMemory (body.Tuple edge number i) p = IsNewItem edge.from number p
+TakesMemory (body.Serve inc target) p = IsNewTarget inc target p
+TakesMemory (body.Begin inc) p = inc_in p < inc
+TakesMemory (body.Chunk inc number e) p = Unit {0}
+TakesMemory (body.ChunkEnd inc count) p = Unit {0}
+TakesMemory b p = ⊥
 
 -- the same of a whole replica
 pub record IsTakenBy (from : NodeId) (b : Body) (old new : ReplicaView) (sent : List (NodeId × Body)) : Type 0 where

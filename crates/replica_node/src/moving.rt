@@ -2,9 +2,9 @@
 ghost use Rattle.catch_up.specs.NewcomerView.{NewcomerView};
 ghost use Rattle.pair_machine.specs.Receivers.{appended};
 ghost use Rattle.replica_node.specs.Admitted.{IsEntryHere};
-ghost use Rattle.replica_node.specs.Phases.{begin_taken, chunk_taken, serve_taken, serving, wants_by, wants_in, wants_of};
+ghost use Rattle.replica_node.specs.Phases.{begin_taken, chunk_taken, inc_in, serve_taken, serving, wants_by, wants_in, wants_of};
 ghost use Rattle.replica_node.specs.ReplicaView.{partition_of};
-ghost use Rattle.replica_node.specs.Rules.{HasCaughtUp, IsEnded};
+ghost use Rattle.replica_node.specs.Rules.{HasCaughtUp, IsEnded, IsNewTarget};
 ghost use Rattle.replica_node.specs.Takers.{HasSources};
 ghost use Rattle.replica_node.specs.declared.phase.Phase.TheVariants as phase;
 ghost use Rattle.catch_up.specs.declared.newcomer.Took.{Took};
@@ -72,6 +72,7 @@ impl Phase {
     ) -> Result<(), OutOfMemory>
         ensures taken { OnOk result (self.new ≡ serve_taken inc target self.old) }
         ensures unchanged { OnErr result (self.new ≡ self.old) }
+        ensures wants { OnErr result (IsNewTarget inc target self.old) }
     {
         match self {
             Phase::Running(running) => {
@@ -93,6 +94,7 @@ impl Phase {
     ) -> Result<(), OutOfMemory>
         ensures taken { OnOk result (self.new ≡ begin_taken sources inc self.old) }
         ensures unchanged { OnErr result (self.new ≡ self.old) }
+        ensures wants { OnErr result (inc_in self.old < inc) }
     {
         if inc > self.inc() {
             *self = Phase::Gathering(Newcomer::begin(alloc, inc, sources)?);

@@ -13,7 +13,7 @@ ghost use Rattle.replica_node.specs.Course.{AreTimely, IsDone, IsTaken, IsWorked
 ghost use Rattle.replica_node.specs.IsReplica.{IsMoving, IsReplica, IsRole};
 ghost use Rattle.replica_node.specs.Phases.{count_in, inc_in, item_pulled, mode_in, newcomer_in, opening, running_in, served_in};
 ghost use Rattle.replica_node.specs.ReplicaView.{node_of, partition_of, partner_of, with_phase};
-ghost use Rattle.replica_node.specs.Rules.{IsTakenBy, IsWorkOf, back_asked, contents_in, down_sent, dying, stop_asked};
+ghost use Rattle.replica_node.specs.Rules.{IsTakenBy, IsWorkOf, TakesMemory, back_asked, contents_in, down_sent, dying, stop_asked};
 ghost use Rattle.replica_node.specs.StandsFor.{IsOfPlan, StandsFor};
 ghost use Rattle.replica_node.specs.declared.phase.Mode.TheVariants as mode;
 ghost use Rattle.replica_node.specs.declared.phase.Running.{Running as RunningPart};
@@ -99,6 +99,8 @@ impl Replica {
         ensures taken { OnOk result (IsTakenBy from body.now self.old self.new (appended out.old.packets out.new.packets)) }
         ensures packets { out.new.packets ≡ out.old.packets ++ appended out.old.packets out.new.packets }
         ensures unchanged { OnErr result ((self.new ≡ self.old) × (out.new.packets ≡ out.old.packets)) }
+        // A Lead, an Ack, a Want and a Stop never want memory, and others only for what they take.
+        ensures wants { OnErr result (TakesMemory body.now self.old.phase) }
         // It sends over links of its plan alone, and stays the same replica.
         ensures few { length out.new.packets ≤ length out.old.packets + 2 }
         ensures linked { (plan : PlanView) → IsOfPlan plan self.old.role
@@ -220,6 +222,7 @@ impl Replica {
         ensures taken { OnOk result (IsTakenBy from body.now self.old self.new (appended out.old.packets out.new.packets)) }
         ensures packets { out.new.packets ≡ out.old.packets ++ appended out.old.packets out.new.packets }
         ensures unchanged { OnErr result ((self.new ≡ self.old) × (out.new.packets ≡ out.old.packets)) }
+        ensures wants { OnErr result (TakesMemory body.now self.old.phase) }
         ensures role { self.new.role ≡ self.old.role }
         ensures sound { IsReplica self.old }
     {

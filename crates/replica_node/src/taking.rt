@@ -2,6 +2,7 @@
 // a producer.
 ghost use Rattle.replica_node.specs.Phases.{ack_taken, item_pulled, lead_taken, tuple_taken, want_taken};
 ghost use Rattle.replica_node.specs.Admitted.{MayPullIn};
+ghost use Rattle.replica_node.specs.Rules.{IsNewItem};
 ghost use Rattle.replica_node.specs.Takers.{HasCopy, HasInEdge, HasOutEdge};
 ghost use Rattle.std.specs.Prelude.{◌≡◌, ◌<◌, OnErr, OnOk};
 ghost use Rattle.tuple_edge.specs.Limits.{number_limit};
@@ -20,6 +21,7 @@ impl Phase {
         requires { HasInEdge edge self.old }
         ensures taken { OnOk result (self.new ≡ tuple_taken edge number item self.old) }
         ensures unchanged { OnErr result (self.new ≡ self.old) }
+        ensures wants { OnErr result (IsNewItem edge number self.old) }
     {
         match self {
             Phase::Running(running) => {

@@ -11,11 +11,11 @@ ghost use Rattle.plan_reader.specs.Nodes.{has_link};
 ghost use Rattle.plan_reader.specs.PlanView.{IsPlan};
 ghost use Rattle.run_node.specs.Timely.{AreTimely};
 ghost use Rattle.run_node.specs.Ends.{leads_to, links_of};
-ghost use Rattle.run_node.specs.Fits.{Came, Fit};
+ghost use Rattle.run_node.specs.Fits.{Came, Fit, IsAtHand};
 ghost use Rattle.run_node.specs.NodeView.{name_of};
 ghost use Rattle.run_node.specs.SoundNode.{IsTrueView, TapFits};
 ghost use Rattle.run_node.specs.Tasks.{CameFor, event_of, most_packets};
-ghost use Rattle.std.specs.Prelude.{◌≡◌, ◌≤◌, ◌+◌, [], true, IfSome, IsTrue, None, OnOk, Some, vec_capacity, vec_len};
+ghost use Rattle.std.specs.Prelude.{◌≡◌, ◌≢◌, ◌≤◌, ◌+◌, [], true, IfSome, IsTrue, None, Ok, OnOk, Some, vec_capacity, vec_len};
 ghost use Rattle.tuple_edge.specs.declared.node.NodeId.{NodeId};
 
 use crate::acts::{Acts, Task};
@@ -188,7 +188,8 @@ impl<N: RunNames, A: Acts, M: Links, T: Tap> Node<N, A, M, T> {
     // The arrival that is kept, or the next one, which is kept then.
     fn fetch(&mut self) -> Option<Kept>
         ensures name { name_of A.id self.new ≡ name_of A.id self.old }
-        ensures kept { IfSome result (λ k. self.new.kept ≡ Some k) }
+        ensures kept { self.new.kept ≡ result }
+        ensures hand { IsAtHand self.old.kept self.old.ins self.new.ins result }
         ensures came { IfSome result (λ k. (arrived : Arrivals) → Fit arrived self.new.ins → Came arrived k.from k.arrival) }
     {
         if let Some(kept) = self.kept {
@@ -198,9 +199,10 @@ impl<N: RunNames, A: Acts, M: Links, T: Tap> Node<N, A, M, T> {
         self.kept
     }
 
-    // Takes the arrival that is kept, or the next one, if it may be taken.
+    // Takes the arrival that is kept, or the next one, if it may be taken. What isn't taken stays.
     pub(crate) fn take(&mut self, plan: &Plan) -> Result<bool, OutOfMemory>
-        ensures { name_of A.id self.new ≡ name_of A.id self.old }
+        ensures name { name_of A.id self.new ≡ name_of A.id self.old }
+        ensures stays { result ≢ Ok true → IsAtHand self.old.kept self.old.ins self.new.ins self.new.kept }
     {
         let Some(Kept { from, arrival }) = self.fetch() else {
             return Ok(false);

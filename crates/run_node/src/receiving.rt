@@ -1,6 +1,6 @@
 // What a node does with all its in-links.
 ghost use Rattle.pair_machine.specs.Courses.{Arrivals};
-ghost use Rattle.run_node.specs.Fits.{Came, Fit};
+ghost use Rattle.run_node.specs.Fits.{Came, Fit, IsReceived};
 ghost use Rattle.run_node.specs.NodeView.{in_names};
 ghost use Rattle.std.specs.Prelude.{◌≡◌, IfSome};
 
@@ -11,6 +11,7 @@ use flux_link::Inlet;
 
 /// The next arrival of the first link of the round that has one. The round then goes on from that link, and else it is over.
 pub(crate) fn receive<I: Inlet + Drop>(ins: &mut [InEnd<I>], round: &mut Round) -> Option<Kept>
+    ensures next { IsReceived ins.old ins.new result }
     ensures names { in_names ins.new ≡ in_names ins.old }
     ensures fits { (arrived : Arrivals) → Fit arrived ins.new → Fit arrived ins.old }
     ensures came { IfSome result (λ k. (arrived : Arrivals) → Fit arrived ins.new → Came arrived k.from k.arrival) }

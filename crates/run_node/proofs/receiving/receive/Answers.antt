@@ -1,11 +1,26 @@
-use Rattle.std.proofs.Common.{◌∙◌, ◌<◌, ◌+◌, ◌%◌, ◌∷◌, [], length, slice_index_or, ap, subst, arith}
+use Rattle.std.proofs.Common.{◌∙◌, ◌<◌, ◌+◌, ◌%◌, ◌∷◌, [], List, length, set, slice_index_or, ap, subst, arith}
 use Rattle.std.proofs.lemmas.Nat.{mod_below}
 use Rattle.pair_machine.specs.Lists.{Each}
 use Rattle.run_node.specs.Ends.{InLink}
-use Rattle.run_node.specs.Fits.{Came, Fit}
+use Rattle.run_node.specs.Fits.{Came, Fit, HasCome}
 use Rattle.run_node.specs.NodeView.{in_names}
-use Rattle.run_node.proofs.Places.{each_front, each_last, each_set_at, each_unset, map_set_same}
+use Rattle.run_node.proofs.Places.{each_front, each_last, each_set_at, each_unset, get_there, map_set_same}
 use Rattle.run_node.proofs.receiving.receive.Goals as goal
+
+pub returns-in-Some-clause-next : goal.returns-in-Some-clause-next
+returns-in-Some-clause-next g c =
+    let place = ((c.args.round.now.next + c.loop-step.step) % 18446744073709551616) % length c.args.ins.now in
+    let some : 0 < length c.args.ins.now = omega (arith, c.loop-step-test.true) in
+    let below = mod_below ((c.args.round.now.next + c.loop-step.step) % 18446744073709551616) (length c.args.ins.now) some in
+    let lt : place < length c.loop-step.ins = omega (arith, below, c.loop-step.auto.ins) in
+    let here : HasCome (record { from = c.from.result; arrival = c.in-Some.arrival }) c.loop-step.ins (set c.loop-step.ins place c.next.new.self) = record {
+      place = place;
+      link = slice_index_or c.loop-step.ins place c.index-ins-place.result;
+      there = get_there c.loop-step.ins place c.index-ins-place.result lt;
+      from = c.from.ensures ∙ ap (λ (l : InLink). l.from) c.in-Some.ensures;
+      gave = ap (λ (l : InLink). set c.loop-step.ins place l) c.in-Some.ensures;
+    } in
+    subst (λ (l : List InLink). HasCome (record { from = c.from.result; arrival = c.in-Some.arrival }) l (set c.loop-step.ins place c.next.new.self)) c.loop-step.invariant here
 
 pub returns-in-Some-clause-names : goal.returns-in-Some-clause-names
 returns-in-Some-clause-names g c =
