@@ -34,7 +34,7 @@ adds_on (Some old) (Some mid) new xs ys first next =
 
 leads_on : (told : Option Names) (course mid there : Course) (xs ys : List Call) → Leads told course xs mid → Leads told mid ys there → Leads told course (xs ++ ys) there
 leads_on told course mid there [] ys first next = subst (λ x. Leads told x ys there) (sym first) next
-leads_on told (Reads name after) mid there (call ∷ xs) ys first next = (first.0, (first.1.0, first.1.1, leads_on told (after first.1.0) mid there xs ys first.1.2 next))
+leads_on told (Reads name most after) mid there (call ∷ xs) ys first next = (first.0, (first.1.0, first.1.1, leads_on told (after first.1.0) mid there xs ys first.1.2 next))
 leads_on told (Writes text) mid there (call ∷ xs) ys first next = absurd first
 leads_on told (Runs run) mid there (call ∷ xs) ys first next = absurd first
 leads_on told (Refuses line) mid there (call ∷ xs) ys first next = absurd first
@@ -49,10 +49,12 @@ came_on told old mid new course between there first next = record {
 came_to_read_on : (told : Option Names) (old mid new : Option (List Call)) (course between : Course) (name : List ℕ) → Came told old mid course between → CameToRead told mid new between name
     → CameToRead told old new course name
 came_to_read_on told old mid new course between name first next = record {
+  most = next.most;
   next = next.next;
   calls = first.calls ++ next.calls;
-  leads = leads_on told course between (Reads name next.next) first.calls next.calls first.leads next.leads;
-  added = subst (Adds old new) (sym (append_assoc first.calls next.calls (Read name ∷ []))) (adds_on old mid new first.calls (next.calls ++ Read name ∷ []) first.added next.added);
+  leads = leads_on told course between (Reads name next.most next.next) first.calls next.calls first.leads next.leads;
+  added = subst (Adds old new) (sym (append_assoc first.calls next.calls (Read name next.most ∷ [])))
+      (adds_on old mid new first.calls (next.calls ++ Read name next.most ∷ []) first.added next.added);
 }
 
 short_on : (told : Option Names) (old mid new : Option (List Call)) (course between : Course) → Came told old mid course between → StoppedShort told mid new between → StoppedShort told old new course
@@ -91,47 +93,47 @@ refused_here told calls line stop.OutOfMemory P by = Between (Refuses line) (cam
 
 -- ---- one reading
 
-read_is : {A : Type 0} (told : Option Names) (old new : Option (List Call)) (reading : List ℕ → List ℕ → Reading A) (name bytes : List ℕ) (next : A → Course)
-    → IsHeld told name bytes → Joins old new (Read name) true → Came told old new (reads reading name next) (reading name bytes >>= next)
-read_is told old new reading name bytes next held joined = record { calls = Read name ∷ []; leads = (refl, (bytes, held, refl)); added = adds_one old new (Read name) joined }
+read_is : {A : Type 0} (told : Option Names) (old new : Option (List Call)) (most : ℕ) (reading : List ℕ → List ℕ → Reading A) (name bytes : List ℕ) (next : A → Course)
+    → IsHeld told name bytes → Joins old new (Read name most) true → Came told old new (reads most reading name next) (reading name bytes >>= next)
+read_is told old new most reading name bytes next held joined = record { calls = Read name most ∷ []; leads = (refl, (bytes, held, refl)); added = adds_one old new (Read name most) joined }
 
 -- what a whole file says
-pub gives_whole : {A : Type 0} (told : Option Names) (old new : Option (List Call)) (reading : List ℕ → List ℕ → Reading A) (name bytes : List ℕ) (max : ℕ) (value : A)
-    → IsRead told name max got.Whole [] bytes → Joins old new (Read name) true → reading name bytes ≡ Ok value → Gives told old new reading name value
-gives_whole told old new reading name bytes max value read joined is next =
-    subst (Came told old new (reads reading name next)) (ap (λ r. r >>= next) is)
-    (read_is told old new reading name bytes next (subst (IsHeld told name) (sym read.read.1) read.held) joined)
+pub gives_whole : {A : Type 0} (told : Option Names) (old new : Option (List Call)) (most : ℕ) (reading : List ℕ → List ℕ → Reading A) (name bytes : List ℕ) (value : A)
+    → IsRead told name most got.Whole [] bytes → Joins old new (Read name most) true → reading name bytes ≡ Ok value → Gives told old new most reading name value
+gives_whole told old new most reading name bytes value read joined is next =
+    subst (Came told old new (reads most reading name next)) (ap (λ r. r >>= next) is)
+    (read_is told old new most reading name bytes next (subst (IsHeld told name) (sym read.read.1) read.held) joined)
 
-stops_read : {A : Type 0} (told : Option Names) (old new : Option (List Call)) (reading : List ℕ → List ℕ → Reading A) (name bytes : List ℕ) (why : Stop)
-    → IsHeld told name bytes → Joins old new (Read name) true → StopsOn (reading name bytes) why → StopsAt told old new reading name why
-stops_read told old new reading name bytes stop.Usage held joined on next = on
-stops_read told old new reading name bytes (stop.Refused line) held joined on next =
-    subst (Came told old new (reads reading name next)) (ap (λ r. r >>= next) on) (read_is told old new reading name bytes next held joined)
-stops_read told old new reading name bytes (stop.CannotRead line) held joined on next = absurd on
-stops_read told old new reading name bytes stop.CannotWrite held joined on next = on
-stops_read told old new reading name bytes (stop.PairLost stage part said) held joined on next = on
-stops_read told old new reading name bytes stop.OutOfMemory held joined on next = Between (reading name bytes >>= next) (read_is told old new reading name bytes next held joined)
+stops_read : {A : Type 0} (told : Option Names) (old new : Option (List Call)) (most : ℕ) (reading : List ℕ → List ℕ → Reading A) (name bytes : List ℕ) (why : Stop)
+    → IsHeld told name bytes → Joins old new (Read name most) true → StopsOn (reading name bytes) why → StopsAt told old new most reading name why
+stops_read told old new most reading name bytes stop.Usage held joined on next = on
+stops_read told old new most reading name bytes (stop.Refused line) held joined on next =
+    subst (Came told old new (reads most reading name next)) (ap (λ r. r >>= next) on) (read_is told old new most reading name bytes next held joined)
+stops_read told old new most reading name bytes (stop.CannotRead line) held joined on next = absurd on
+stops_read told old new most reading name bytes stop.CannotWrite held joined on next = on
+stops_read told old new most reading name bytes (stop.PairLost stage part said) held joined on next = on
+stops_read told old new most reading name bytes stop.OutOfMemory held joined on next = Between (reading name bytes >>= next) (read_is told old new most reading name bytes next held joined)
 
 -- a whole file that is refused
-pub stops_whole : {A : Type 0} (told : Option Names) (old new : Option (List Call)) (reading : List ℕ → List ℕ → Reading A) (name bytes : List ℕ) (max : ℕ) (why : Stop)
-    → IsRead told name max got.Whole [] bytes → Joins old new (Read name) true → StopsOn (reading name bytes) why → StopsAt told old new reading name why
-stops_whole told old new reading name bytes max why read joined on = stops_read told old new reading name bytes why (subst (IsHeld told name) (sym read.read.1) read.held) joined on
+pub stops_whole : {A : Type 0} (told : Option Names) (old new : Option (List Call)) (most : ℕ) (reading : List ℕ → List ℕ → Reading A) (name bytes : List ℕ) (why : Stop)
+    → IsRead told name most got.Whole [] bytes → Joins old new (Read name most) true → StopsOn (reading name bytes) why → StopsAt told old new most reading name why
+stops_whole told old new most reading name bytes why read joined on = stops_read told old new most reading name bytes why (subst (IsHeld told name) (sym read.read.1) read.held) joined on
 
 -- a file that is too long
-pub stops_long : {A : Type 0} (told : Option Names) (old new : Option (List Call)) (reading : List ℕ → List ℕ → Reading A) (name appended : List ℕ) (max seen : ℕ) (why : Stop)
-    → IsRead told name max (got.TooLong seen) [] appended → Joins old new (Read name) true → ((bytes : List ℕ) → max < length bytes → StopsOn (reading name bytes) why)
-    → StopsAt told old new reading name why
-stops_long told old new reading name appended max seen why read joined long = stops_read told old new reading name read.bytes why read.held joined (long read.bytes read.read.0)
+pub stops_long : {A : Type 0} (told : Option Names) (old new : Option (List Call)) (most : ℕ) (reading : List ℕ → List ℕ → Reading A) (name appended : List ℕ) (seen : ℕ) (why : Stop)
+    → IsRead told name most (got.TooLong seen) [] appended → Joins old new (Read name most) true → ((bytes : List ℕ) → most < length bytes → StopsOn (reading name bytes) why)
+    → StopsAt told old new most reading name why
+stops_long told old new most reading name appended seen why read joined long = stops_read told old new most reading name read.bytes why read.held joined (long read.bytes read.read.0)
 
 -- a file that can't be read
-pub stops_unread : {A : Type 0} (told : Option Names) (old new : Option (List Call)) (reading : List ℕ → List ℕ → Reading A) (name : List ℕ) (why : Stop)
-    → Joins old new (Read name) true → IsUnreadBy why (cannot_read_line name) → StopsAt told old new reading name why
-stops_unread told old new reading name why joined unread next = go why unread
+pub stops_unread : {A : Type 0} (told : Option Names) (old new : Option (List Call)) (most : ℕ) (reading : List ℕ → List ℕ → Reading A) (name : List ℕ) (why : Stop)
+    → Joins old new (Read name most) true → IsUnreadBy why (cannot_read_line name) → StopsAt told old new most reading name why
+stops_unread told old new most reading name why joined unread next = go why unread
   where
-    came : CameToRead told old new (reads reading name next) name
-    came = record { next = λ bytes. reading name bytes >>= next; calls = []; leads = refl; added = adds_one old new (Read name) joined }
+    came : CameToRead told old new (reads most reading name next) name
+    came = record { most = most; next = λ bytes. reading name bytes >>= next; calls = []; leads = refl; added = adds_one old new (Read name most) joined }
 
-    go : (why : Stop) → IsUnreadBy why (cannot_read_line name) → StopsOf told old new (reads reading name next) why
+    go : (why : Stop) → IsUnreadBy why (cannot_read_line name) → StopsOf told old new (reads most reading name next) why
     go stop.Usage unread = unread
     go (stop.Refused line) unread = absurd unread
     go (stop.CannotRead line) unread = record { name = name; came = came; line_is = unread }
@@ -140,10 +142,10 @@ stops_unread told old new reading name why joined unread next = go why unread
     go stop.OutOfMemory unread = AtReading name came
 
 -- a read that found no memory
-pub stops_want : {A : Type 0} (told : Option Names) (old new : Option (List Call)) (reading : List ℕ → List ℕ → Reading A) (name : List ℕ)
-    → Joins old new (Read name) false → StopsAt told old new reading name stop.OutOfMemory
-stops_want told old new reading name joined next =
-    Between (reads reading name next) (record { calls = []; leads = refl; added = adds_none old new (Read name) joined })
+pub stops_want : {A : Type 0} (told : Option Names) (old new : Option (List Call)) (most : ℕ) (reading : List ℕ → List ℕ → Reading A) (name : List ℕ)
+    → Joins old new (Read name most) false → StopsAt told old new most reading name stop.OutOfMemory
+stops_want told old new most reading name joined next =
+    Between (reads most reading name next) (record { calls = []; leads = refl; added = adds_none old new (Read name most) joined })
 
 -- ---- what a call answered
 

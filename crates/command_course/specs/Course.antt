@@ -16,9 +16,9 @@ pub record Run : Type 0 where
   pub journal : Option (List ℕ)
   pub summary : Bool
 
--- the next input is read, and its bytes decide how it goes on; or the command ends, with its text, with a run, or with a refusal
+-- the next input is read, of which at most so many bytes are allowed, and its bytes decide how it goes on; or the command ends, with its text, with a run, or with a refusal
 pub data Course : Type 0 where
-  Reads : (name : List ℕ) → (next : List ℕ → Course) → Course
+  Reads : (name : List ℕ) → (most : ℕ) → (next : List ℕ → Course) → Course
   Writes : (text : List ℕ) → Course
   Runs : (run : Run) → Course
   Refuses : (line : List ℕ) → Course
@@ -29,9 +29,9 @@ abbrev pub ◌>>=◌ : {A : Type 0} → Reading A → (A → Course) → Course
 (Ok x) >>= next = next x
 (Err line) >>= next = Refuses line
 
--- a file is read, and what it says decides how it goes on
-abbrev pub reads : {A : Type 0} → (List ℕ → List ℕ → Reading A) → List ℕ → (A → Course) → Course
-reads reading name next = Reads name (λ bytes. reading name bytes >>= next)
+-- a file of at most so many bytes is read, and what it says decides how it goes on
+abbrev pub reads : {A : Type 0} → ℕ → (List ℕ → List ℕ → Reading A) → List ℕ → (A → Course) → Course
+reads most reading name next = Reads name most (λ bytes. reading name bytes >>= next)
 
 -- how a command goes on with a value that it reads
 abbrev pub Way : Type 0 → Type 0
@@ -39,10 +39,10 @@ Way A = (A → Course) → Course
 
 -- ---- how far a course came
 
--- These calls lead a course to there: each reads the next input, of bytes that its file holds, as far as it is told.
+-- These calls lead a course to there: each reads the next input, with its bound, of bytes that its file holds, as far as it is told.
 abbrev pub Leads : Option Names → Course → List Call → Course → Type 0
 Leads told course [] there = course ≡ there
-Leads told (Reads name next) (call ∷ calls) there = (call ≡ Read name) × ((bytes : List ℕ) × IsHeld told name bytes × Leads told (next bytes) calls there)
+Leads told (Reads name most next) (call ∷ calls) there = (call ≡ Read name most) × ((bytes : List ℕ) × IsHeld told name bytes × Leads told (next bytes) calls there)
 Leads told (Writes text) (call ∷ calls) there = ⊥
 Leads told (Runs run) (call ∷ calls) there = ⊥
 Leads told (Refuses line) (call ∷ calls) there = ⊥
@@ -55,10 +55,11 @@ pub record Came (told : Option Names) (old new : Option (List Call)) (course the
 
 -- A course came to the reading of this file, which was tried: that call is the last one that was added.
 pub record CameToRead (told : Option Names) (old new : Option (List Call)) (course : Course) (name : List ℕ) : Type 0 where
+  pub most : ℕ
   pub next : List ℕ → Course
   pub calls : List Call
-  pub leads : Leads told course calls (Reads name next)
-  pub added : Adds old new (calls ++ Read name ∷ [])
+  pub leads : Leads told course calls (Reads name most next)
+  pub added : Adds old new (calls ++ Read name most ∷ [])
 
 -- a course came somewhere, and the next reading was tried or not
 pub data StoppedShort (told : Option Names) (old new : Option (List Call)) (course : Course) : Type 0 where

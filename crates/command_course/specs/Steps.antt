@@ -67,12 +67,12 @@ GivesBy told old new way value = (next : _ → Course) → Came told old new (wa
 abbrev pub StopsBy : {A : Type 0} → Option Names → Option (List Call) → Option (List Call) → Way A → Stop → Type 0
 StopsBy told old new way why = (next : _ → Course) → StopsOf told old new (way next) why
 
--- the same of what a file says
-abbrev pub Gives : {A : Type 0} → Option Names → Option (List Call) → Option (List Call) → (List ℕ → List ℕ → Reading A) → List ℕ → A → Type 0
-Gives told old new reading name value = GivesBy told old new (reads reading name) value
+-- the same of what a file of at most so many bytes says
+abbrev pub Gives : {A : Type 0} → Option Names → Option (List Call) → Option (List Call) → ℕ → (List ℕ → List ℕ → Reading A) → List ℕ → A → Type 0
+Gives told old new most reading name value = GivesBy told old new (reads most reading name) value
 
-abbrev pub StopsAt : {A : Type 0} → Option Names → Option (List Call) → Option (List Call) → (List ℕ → List ℕ → Reading A) → List ℕ → Stop → Type 0
-StopsAt told old new reading name why = StopsBy told old new (reads reading name) why
+abbrev pub StopsAt : {A : Type 0} → Option Names → Option (List Call) → Option (List Call) → ℕ → (List ℕ → List ℕ → Reading A) → List ℕ → Stop → Type 0
+StopsAt told old new most reading name why = StopsBy told old new (reads most reading name) why
 
 -- a read fails only where the count of read faults rose; at any other stop, but want of memory, it stays
 abbrev pub HasReadCause : ℕ → ℕ → Stop → Type 0

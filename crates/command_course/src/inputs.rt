@@ -48,9 +48,9 @@ pub fn input_at<F: Files, I: Input>(
     name: &str,
     input: &I,
 ) -> Result<I::Value, Stop>
-    ensures gives { IfOk result (λ value. Gives (F.contents files.old) (F.calls files.old) (F.calls files.new) (I.reading input.now) name.now value) }
+    ensures gives { IfOk result (λ value. Gives (F.contents files.old) (F.calls files.old) (F.calls files.new) (I.most input.now) (I.reading input.now) name.now value) }
     ensures keeps { IfOk result (I.keeps input.now) }
-    ensures stops { IfErr result (λ stop. StopsAt (F.contents files.old) (F.calls files.old) (F.calls files.new) (I.reading input.now) name.now stop) }
+    ensures stops { IfErr result (λ stop. StopsAt (F.contents files.old) (F.calls files.old) (F.calls files.new) (I.most input.now) (I.reading input.now) name.now stop) }
     ensures cause { IfErr result (λ stop. HasReadCause (F.read_faults files.old) (F.read_faults files.new) stop) }
     ensures still { OnOk result (F.read_faults files.new ≡ F.read_faults files.old) }
     ensures wants { StopsAtWant (F.wants files.old) (F.wants files.new) (IsWant result) }

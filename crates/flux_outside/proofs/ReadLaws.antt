@@ -39,6 +39,11 @@ has_read_more had mid has old between new piece max left read taken more fits = 
 pub front_kept : (had has : Option (List ℕ)) (old new : List ℕ) (max left : ℕ) → HasRead had has old new max left → KeepsFront old new
 front_kept had has old new max left read = ap (take (length old)) read.whole ∙ take-append_seam old read.bytes
 
+pub few_read : (had has : Option (List ℕ)) (old new : List ℕ) (max left : ℕ) → HasRead had has old new max left → length new ≤ length old + max
+few_read had has old new max left read =
+    let whole = ap length read.whole ∙ length-append old read.bytes in
+    omega (arith, whole, read.within)
+
 -- at its end a reader has given all
 pub read_whole : (had mid has : Option (List ℕ)) (old new : List ℕ) (max left : ℕ) → HasRead had mid old new max left → Consumes mid has [] → IsAtEnd has → ReadsRest had max got.Whole old new
 read_whole None mid has old new max left read taken ended = record { bytes = read.bytes; left_is = tt; read = (omega (arith, read.within), read.whole) }

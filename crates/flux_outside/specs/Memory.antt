@@ -35,7 +35,7 @@ abbrev pub file_of : String Global × Vec ℕ Global → List ℕ × List ℕ
 file_of e = (string_bytes e.0, e.1.items)
 
 abbrev pub call_of : MemCall → Call
-call_of (call.Read name) = Read (string_bytes name)
+call_of (call.Read name max) = Read (string_bytes name) max
 call_of (call.Save name) = Save (string_bytes name)
 
 abbrev pub wants_of : MemWants → Wants

@@ -1,5 +1,6 @@
 -- What calls to files and sinks do, and what of it is told.
 use Rattle.std.specs.Prelude.{Bool, true, false, Result, Ok, Err, ◌∷◌, if◌then◌else◌, ℕ, ◌≡◌, ◌≢◌, ◌+◌, ◌-◌, ◌^◌, ◌<◌, ◌≤◌, min, List, [], ◌++◌, take, length, Option, Some, None, ◌⊎◌}
+use Rattle.std.specs.Io.KnownBytes.{Appends}
 use Rattle.flux_outside.specs.declared.outside.FileStop.{FileStop}
 use Rattle.flux_outside.specs.declared.outside.FileStop.TheVariants as stop
 use Rattle.flux_outside.specs.declared.outside.Got.{Got}
@@ -57,6 +58,12 @@ pub record ReadsRest (left : Option (List ℕ)) (max : ℕ) (ending : Got) (old 
   pub left_is : IsLeft left bytes
   pub read : IsReadOf bytes max ending old new
 
+-- these bytes were written to a file that was created, as far as its writer tells
+abbrev pub IsWritten : {W E : Type 0} → (W → Option (List ℕ)) → Result W E → Result W E → List ℕ → Type 0
+IsWritten contents (Ok old) (Ok new) bytes = Appends (contents old) (contents new) bytes
+IsWritten contents (Ok old) (Err error) bytes = ⊥
+IsWritten contents (Err error) new bytes = ⊥
+
 -- every other name holds what it held
 abbrev pub OthersStay : Names → Names → List ℕ → Type 0
 OthersStay old new name = (other : List ℕ) → other ≢ name → new other ≡ old other
@@ -67,9 +74,9 @@ LeavesOthers None new name = Unit {0}
 LeavesOthers (Some old) None name = ⊥
 LeavesOthers (Some old) (Some new) name = OthersStay old new name
 
--- a call of files, with its name
+-- a call of files, with its name, and of a read the most bytes that it allowed
 pub data Call : Type 0 where
-  Read : (name : List ℕ) → Call
+  Read : (name : List ℕ) → (max : ℕ) → Call
   Save : (name : List ℕ) → Call
 
 -- whether a call found memory

@@ -9,11 +9,11 @@ use std::collections::BTreeMap;
 use std::marker::Model;
 use tuple_edge::OutOfMemory;
 
-// A call that was made, with its name.
+// A call that was made, with its name, and of a read the most bytes that it allowed.
 #[derive(Drop)]
 enum MemCall {
-    Read(String),
-    Save(String),
+    Read { name: String, max: u64 },
+    Save { name: String },
 }
 
 // How often a call has found no memory, and whether the last call did.
@@ -120,6 +120,7 @@ impl MemFiles {
     fn look_up(&self, name: &str, max: u64, into: &mut Vec<u8>) -> Result<Got, FileStop>
         ensures got { IfOk result (λ got. IsRead (Some (names self.now.files)) name.now max got into.old.items into.new.items) }
         ensures front { KeepsFront into.old.items into.new.items }
+        ensures few { vec_len into.new ≤ vec_len into.old + max }
         ensures fails { result ≡ Err FileStop.Failed → (next_fails self.now ≡ true) ⊎ (names self.now.files name.now ≡ None) }
         ensures failing { IfOk result (λ got. next_fails self.now ≡ false) }
     {
@@ -148,6 +149,7 @@ fn kept_name(alloc: Global, calls: &mut Vec<MemCall>, name: &str) -> Result<Stri
 fn append_file(bytes: &[u8], max: u64, into: &mut Vec<u8>) -> Result<Got, FileStop>
     ensures got { IfOk result (λ got. IsReadOf bytes.now max got into.old.items into.new.items) }
     ensures front { KeepsFront into.old.items into.new.items }
+    ensures few { vec_len into.new ≤ vec_len into.old + max }
     ensures memory { IfErr result (λ stop. stop ≡ FileStop.OutOfMemory) }
 {
     if bytes.len() as u64 > max {
@@ -188,8 +190,9 @@ impl Files for MemFiles {
     fn read(&mut self, name: &str, max: u64, into: &mut Vec<u8>) -> Result<Got, FileStop>
         ensures got { IfOk result (λ got. IsRead (Some (names self.old.files)) name.now max got into.old.items into.new.items) }
         ensures front { KeepsFront into.old.items into.new.items }
+        ensures few { vec_len into.new ≤ vec_len into.old + max }
         ensures contents { Some (names self.new.files) ≡ Some (names self.old.files) }
-        ensures called { Joins (Some self.old.calls) (Some self.new.calls) (Read name.now) (is_counted result) }
+        ensures called { Joins (Some self.old.calls) (Some self.new.calls) (Read name.now max) (is_counted result) }
         ensures found { Finds (Some self.old.wants) (Some self.new.wants) (is_counted result) }
         ensures cause { IfErr result (λ stop. Explains self.old.read_faults self.new.read_faults stop) }
         ensures still { result ≢ Err FileStop.Failed → self.new.read_faults ≡ self.old.read_faults }
@@ -207,12 +210,12 @@ impl Files for MemFiles {
         };
         match self.look_up(name, max, into) {
             Ok(got) => {
-                self.calls.push_reserved(MemCall::Read(kept));
+                self.calls.push_reserved(MemCall::Read { name: kept, max });
                 self.wants = self.wants.after(true);
                 Ok(got)
             }
             Err(FileStop::Failed) => {
-                self.calls.push_reserved(MemCall::Read(kept));
+                self.calls.push_reserved(MemCall::Read { name: kept, max });
                 self.wants = self.wants.after(true);
                 self.read_faults = self.read_faults.saturating_add(1);
                 Err(FileStop::Failed)
@@ -245,7 +248,7 @@ impl Files for MemFiles {
             return Err(FileStop::OutOfMemory);
         };
         if self.next_fails() {
-            self.calls.push_reserved(MemCall::Save(kept));
+            self.calls.push_reserved(MemCall::Save { name: kept });
             self.wants = self.wants.after(true);
             self.save_faults = self.save_faults.saturating_add(1);
             return Err(FileStop::Failed);
@@ -254,7 +257,7 @@ impl Files for MemFiles {
             self.wants = self.wants.after(false);
             return Err(FileStop::OutOfMemory);
         };
-        self.calls.push_reserved(MemCall::Save(kept));
+        self.calls.push_reserved(MemCall::Save { name: kept });
         self.wants = self.wants.after(true);
         Ok(())
     }

@@ -2,7 +2,7 @@
 //
 // What an object holds or has taken is told where it can be known, as in memory. Its count of faults is
 // always there: it never falls, and a call may answer a fault only where the count rose.
-ghost use Rattle.std.specs.Prelude.{◌≡◌, ◌≢◌, ◌≤◌, ◌<◌, ℕ, Err, List, Option, length, take, IfErr, IfOk, OnErr, OnOk};
+ghost use Rattle.std.specs.Prelude.{◌≡◌, ◌≢◌, ◌≤◌, ◌<◌, ◌+◌, ℕ, Err, List, Option, length, take, IfErr, IfOk, OnErr, OnOk, vec_len};
 ghost use Rattle.flux_outside.specs.declared.outside.FileStop.TheVariants.{OutOfMemory};
 ghost use Rattle.flux_outside.specs.Outside.{Call, Explains, Finds, IsHeld, IsOffered, IsRead, Joins, KeepsFront, LeavesOthers, Read, Rose, Save, Takes, TakesPart, Wants, is_counted};
 
@@ -56,12 +56,13 @@ pub trait Files {
     ghost save_faults: { Self → ℕ };
 
     /// Appends a file of at most `max` bytes. After a refusal or `TooLong` the appended bytes are of no
-    /// meaning; what was in `into` before is unchanged, whatever the answer.
+    /// meaning. Whatever the answer, what was in `into` before is unchanged, and at most `max` bytes are appended.
     fn read(&mut self, name: &str, max: u64, into: &mut Vec<u8>) -> Result<Got, FileStop>
         ensures got { IfOk result (λ got. IsRead (contents self.old) name.now max got into.old.items into.new.items) }
         ensures front { KeepsFront into.old.items into.new.items }
+        ensures few { vec_len into.new ≤ vec_len into.old + max }
         ensures contents { contents self.new ≡ contents self.old }
-        ensures called { Joins (calls self.old) (calls self.new) (Read name.now) (is_counted result) }
+        ensures called { Joins (calls self.old) (calls self.new) (Read name.now max) (is_counted result) }
         ensures found { Finds (wants self.old) (wants self.new) (is_counted result) }
         ensures cause { IfErr result (λ stop. Explains (read_faults self.old) (read_faults self.new) stop) }
         ensures still { result ≢ Err FileStop.Failed → read_faults self.new ≡ read_faults self.old }

@@ -1,11 +1,12 @@
-// Files of the system: part of the trusted edge. They tell no content, and count their faults.
-ghost use Rattle.std.specs.Prelude.{◌≡◌, None, IfOk};
-ghost use Rattle.flux_outside.specs.Outside.{KeepsFront, ReadsRest};
+// Files of the system: part of the trusted edge. They open or create the file of a name, hand it on, and answer what comes
+// of it, which is proved over any reader and writer. They tell no content, and count their faults.
+ghost use Rattle.std.specs.Prelude.{◌≡◌, ◌≢◌, ◌≤◌, ◌+◌, Err, None, IfErr, IfOk, IsOkAnd, OnOk, vec_len};
+ghost use Rattle.flux_outside.specs.Outside.{Explains, IsWritten, KeepsFront, ReadsRest};
 
 use crate::{FileStop, Files, Got};
 use std::alloc::Global;
 use std::fs;
-use std::io::Read;
+use std::io::{self, Read, Write};
 use std::rt::Files as RuntimeFiles;
 
 /// Files of the system, by their paths.
@@ -33,10 +34,11 @@ impl<'a, R: RuntimeFiles> StdFiles<'a, R> {
 
 // Appends all that a reader has left, up to `max` bytes. A reader that tells what it has left is read to
 // its end, however small the pieces are that it gives.
-#[tactic(auto, using(crate::proofs::ReadLaws::has_read_none, crate::proofs::ReadLaws::has_read_more, crate::proofs::ReadLaws::front_kept, crate::proofs::ReadLaws::read_whole, crate::proofs::ReadLaws::read_long))]
+#[tactic(auto, using(crate::proofs::ReadLaws::has_read_none, crate::proofs::ReadLaws::has_read_more, crate::proofs::ReadLaws::front_kept, crate::proofs::ReadLaws::few_read, crate::proofs::ReadLaws::read_whole, crate::proofs::ReadLaws::read_long))]
 fn append<T: Read>(file: &mut T, max: u64, into: &mut Vec<u8>) -> Result<Got, FileStop>
-    ensures front { KeepsFront into.old.items into.new.items }
     ensures got { IfOk result (λ got. ReadsRest (T.remaining file.old) max got into.old.items into.new.items) }
+    ensures front { KeepsFront into.old.items into.new.items }
+    ensures few { vec_len into.new ≤ vec_len into.old + max }
 {
     let mut buffer = [0u8; 8_192];
     let mut left = max;
@@ -58,6 +60,58 @@ fn append<T: Read>(file: &mut T, max: u64, into: &mut Vec<u8>) -> Result<Got, Fi
     Err(FileStop::Failed)
 }
 
+// An answer as it is, where a fault is counted.
+fn counted<A>(answer: Result<A, FileStop>, faults: &mut u64) -> Result<A, FileStop>
+    ensures answer { result ≡ answer }
+    ensures cause { IfErr result (λ stop. Explains faults.old faults.new stop) }
+    ensures still { result ≢ Err FileStop.Failed → faults.new ≡ faults.old }
+    ensures later { faults.old ≤ faults.new }
+{
+    if let Err(FileStop::Failed) = answer {
+        *faults = faults.saturating_add(1);
+    }
+    answer
+}
+
+// What a read answers of a file that was to be opened, and its count of faults then.
+fn read_opened<T: Read + Drop>(
+    opened: io::Result<T>,
+    max: u64,
+    into: &mut Vec<u8>,
+    faults: &mut u64,
+) -> Result<Got, FileStop>
+    ensures got { IfOk result (λ got. IsOkAnd opened (λ file. ReadsRest (T.remaining file) max got into.old.items into.new.items)) }
+    ensures front { KeepsFront into.old.items into.new.items }
+    ensures few { vec_len into.new ≤ vec_len into.old + max }
+    ensures cause { IfErr result (λ stop. Explains faults.old faults.new stop) }
+    ensures still { result ≢ Err FileStop.Failed → faults.new ≡ faults.old }
+    ensures later { faults.old ≤ faults.new }
+{
+    let answer = match opened {
+        Ok(mut file) => append(&mut file, max, into),
+        Err(_) => Err(FileStop::Failed),
+    };
+    counted(answer, faults)
+}
+
+// What a save answers to a file that was to be created, and its count of faults then.
+fn save_created<W: Write>(
+    created: &mut io::Result<W>,
+    bytes: &[u8],
+    faults: &mut u64,
+) -> Result<(), FileStop>
+    ensures saved { OnOk result (IsWritten W.contents created.old created.new bytes.now) }
+    ensures cause { IfErr result (λ stop. Explains faults.old faults.new stop) }
+    ensures still { result ≢ Err FileStop.Failed → faults.new ≡ faults.old }
+    ensures later { faults.old ≤ faults.new }
+{
+    let answer = match created {
+        Ok(file) => file.write_all(bytes).map_err(|_error| FileStop::Failed),
+        Err(_) => Err(FileStop::Failed),
+    };
+    counted(answer, faults)
+}
+
 impl<R: RuntimeFiles> Files for StdFiles<'_, R> {
     ghost contents = { λ _. None };
 
@@ -70,27 +124,10 @@ impl<R: RuntimeFiles> Files for StdFiles<'_, R> {
     ghost save_faults = { λ s. s.save_faults };
 
     fn read(&mut self, name: &str, max: u64, into: &mut Vec<u8>) -> Result<Got, FileStop> {
-        let Ok(mut file) = fs::open(self.rt, name) else {
-            self.read_faults = self.read_faults.saturating_add(1);
-            return Err(FileStop::Failed);
-        };
-        match append(&mut file, max, into) {
-            Ok(got) => Ok(got),
-            Err(FileStop::OutOfMemory) => Err(FileStop::OutOfMemory),
-            Err(FileStop::Failed) => {
-                self.read_faults = self.read_faults.saturating_add(1);
-                Err(FileStop::Failed)
-            }
-        }
+        read_opened(fs::open(self.rt, name), max, into, &mut self.read_faults)
     }
 
     fn save(&mut self, name: &str, bytes: &[u8]) -> Result<(), FileStop> {
-        match fs::write(self.rt, name, bytes) {
-            Ok(()) => Ok(()),
-            Err(_) => {
-                self.save_faults = self.save_faults.saturating_add(1);
-                Err(FileStop::Failed)
-            }
-        }
+        save_created(&mut fs::create(self.rt, name), bytes, &mut self.save_faults)
     }
 }

@@ -1,4 +1,4 @@
-// A writer of std as a sink: part of the trusted edge. It tells no content, and counts its faults.
+// A writer of std as a sink. It tells what its writer tells, and counts its faults.
 ghost use Rattle.std.specs.Prelude.{◌≡◌, None};
 
 use crate::{Failed, Sink};
@@ -14,6 +14,7 @@ pub struct StdSink<W: Write + Drop> {
 impl<W: Write + Drop> StdSink<W> {
     /// A sink over a writer, with no fault counted.
     pub fn new(inner: W) -> StdSink<W>
+        ensures writer { result.inner ≡ inner }
         ensures faults { result.faults ≡ 0 }
     {
         StdSink { inner, faults: 0 }
@@ -21,12 +22,13 @@ impl<W: Write + Drop> StdSink<W> {
 }
 
 impl<W: Write + Drop> Sink for StdSink<W> {
-    ghost taken = { λ _. None };
+    ghost taken = { λ s. W.contents s.inner };
 
     ghost offered = { λ _. None };
 
     ghost faults = { λ s. s.faults };
 
+    #[tactic(auto, using(crate::proofs::Sinks::appends_takes, crate::proofs::Sinks::keeps_part))]
     fn put(&mut self, bytes: &[u8]) -> Result<usize, Failed> {
         match self.inner.write(bytes) {
             Ok(0) => {

@@ -10,7 +10,7 @@ use Rattle.flux_top.specs.Outcome.{asked}
 
 -- a course that reads no further input
 abbrev IsOver : Course → Type 0
-IsOver (Reads name next) = ⊥
+IsOver (Reads name most next) = ⊥
 IsOver (Writes text) = Unit {0}
 IsOver (Runs run) = Unit {0}
 IsOver (Refuses line) = Unit {0}
@@ -21,9 +21,9 @@ same_value e = cc
 -- a course has one end
 one_end : (named : Names) (course : Course) (xs ys : List Call) (x y : Course) → IsOver x → IsOver y → Leads (Some named) course xs x → Leads (Some named) course ys y → x ≡ y
 one_end named course [] [] x y end_x end_y to_x to_y = sym to_x ∙ to_y
-one_end named (Reads name next) [] (call ∷ ys) x y end_x end_y to_x to_y = absurd (subst IsOver (sym to_x) end_x)
-one_end named (Reads name next) (call ∷ xs) [] x y end_x end_y to_x to_y = absurd (subst IsOver (sym to_y) end_y)
-one_end named (Reads name next) (call ∷ xs) (other ∷ ys) x y end_x end_y to_x to_y =
+one_end named (Reads name most next) [] (call ∷ ys) x y end_x end_y to_x to_y = absurd (subst IsOver (sym to_x) end_x)
+one_end named (Reads name most next) (call ∷ xs) [] x y end_x end_y to_x to_y = absurd (subst IsOver (sym to_y) end_y)
+one_end named (Reads name most next) (call ∷ xs) (other ∷ ys) x y end_x end_y to_x to_y =
     one_end named (next to_x.1.0) xs ys x y end_x end_y to_x.1.2 (subst (λ bytes. Leads (Some named) (next bytes) ys y) (same_value (sym to_y.1.1 ∙ to_x.1.1)) to_y.1.2)
 one_end named (Writes text) [] (call ∷ ys) x y end_x end_y to_x to_y = absurd to_y
 one_end named (Writes text) (call ∷ xs) ys x y end_x end_y to_x to_y = absurd to_x
@@ -40,26 +40,26 @@ one_end_to named words x y end_x end_y to_x to_y =
     (subst (λ course. Leads (Some named) course to_x.fact.0 x) same to_x.fact.1) to_y.fact.1
 
 end_over : (there : Course) → IsAtEnd there → IsOver there
-end_over (Reads name next) at = at
+end_over (Reads name most next) at = at
 end_over (Writes text) at = tt
 end_over (Runs run) at = tt
 end_over (Refuses line) at = tt
 
 pub sure_at_end : (there : Course) → LosesNone there → IsAtEnd there
-sure_at_end (Reads name next) sure = sure
+sure_at_end (Reads name most next) sure = sure
 sure_at_end (Writes text) sure = tt
 sure_at_end (Runs run) sure = tt
 sure_at_end (Refuses line) sure = sure
 
 -- an end with no loss, or with one, is no refusal
 pub ends_at_end : (there : Course) (ending : Ending) → Ends there ending → IsAtEnd there
-ends_at_end (Reads name next) ending ends = ends
+ends_at_end (Reads name most next) ending ends = ends
 ends_at_end (Writes text) ending ends = tt
 ends_at_end (Runs run) ending ends = tt
 ends_at_end (Refuses line) ending ends = ends
 
 pub loses_at_end : (pair : Partition) (there : Course) (ending : Ending) → Loses pair there ending → IsAtEnd there
-loses_at_end pair (Reads name next) ending loses = loses
+loses_at_end pair (Reads name most next) ending loses = loses
 loses_at_end pair (Writes text) ending loses = absurd loses
 loses_at_end pair (Runs run) ending loses = tt
 loses_at_end pair (Refuses line) ending loses = loses
@@ -88,7 +88,7 @@ accepted_unrefused kind (Some named) old new words line ends accepted refused =
 
 -- what is accepted with no loss isn't lost
 no_loss : (pair : Partition) (there : Course) (ending : Ending) → LosesNone there → Loses pair there ending → ⊥
-no_loss pair (Reads name next) ending sure loses = sure
+no_loss pair (Reads name most next) ending sure loses = sure
 no_loss pair (Writes text) ending sure loses = loses
 no_loss pair (Runs run) ending sure loses = loses.lost.unsafe sure
 no_loss pair (Refuses line) ending sure loses = sure

@@ -11,14 +11,14 @@ use Rattle.run_command.specs.Endings.{EndsLost, EndsWhole, Ending}
 
 -- with its text, or with a run that was whole
 abbrev pub Ends : Course → Ending → Type 0
-Ends (Reads name next) ending = ⊥
+Ends (Reads name most next) ending = ⊥
 Ends (Writes text) ending = (ending.text ≡ text) × (ending.saved ≡ None)
 Ends (Runs run) ending = EndsWhole run ending
 Ends (Refuses line) ending = ⊥
 
 -- with a run in which this pair was lost
 abbrev pub Loses : Partition → Course → Ending → Type 0
-Loses pair (Reads name next) ending = ⊥
+Loses pair (Reads name most next) ending = ⊥
 Loses pair (Writes text) ending = ⊥
 Loses pair (Runs run) ending = EndsLost run pair ending
 Loses pair (Refuses line) ending = ⊥
@@ -34,14 +34,14 @@ EndsBy (drained.Lost stage part) there ending = Loses (partition stage part) the
 
 -- a course that is at its end, with no refusal
 abbrev pub IsAtEnd : Course → Type 0
-IsAtEnd (Reads name next) = ⊥
+IsAtEnd (Reads name most next) = ⊥
 IsAtEnd (Writes text) = Unit {0}
 IsAtEnd (Runs run) = Unit {0}
 IsAtEnd (Refuses line) = ⊥
 
 -- and with no run in which a pair may be lost
 abbrev pub LosesNone : Course → Type 0
-LosesNone (Reads name next) = ⊥
+LosesNone (Reads name most next) = ⊥
 LosesNone (Writes text) = Unit {0}
 LosesNone (Runs run) = IsSafe run.script
 LosesNone (Refuses line) = ⊥

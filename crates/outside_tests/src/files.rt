@@ -1,10 +1,10 @@
 // The files and sinks themselves: in memory, and the system's.
-use flux_outside::{FileStop, Files, Got, MemFiles, Sink, StdFiles, StdSink};
+use flux_outside::{Failed, FileStop, Files, Got, MemFiles, Sink, StdFiles, StdSink};
 use std::alloc::{AllocError, Global};
 use std::io::{self, PipeWriter, Read, Write};
 use std::os::fd::AsRawFd;
 use std::test::Fail;
-use std::thread;
+use std::{fs, thread};
 
 // Saves a file, and reads it whole, cut short and under another name.
 fn saves_and_reads<F: Files>(alloc: Global, files: &mut F) -> Result<[bool; 5], Fail> {
@@ -98,5 +98,23 @@ fn a_writer_is_a_sink(rt: HostRuntime) -> Result<(), Fail> {
     let mut bytes = [0u8; 16];
     let count = reader.read(&mut bytes)?;
     assert_eq!(rt; bytes.get(..count), Some(b"taken\n".as_slice()));
+    Ok(())
+}
+
+// What the system refuses is a fault: a folder that isn't there, a device that is full, and a folder that opens and can't
+// be read.
+#[test]
+fn faults_of_the_system_are_told(rt: HostRuntime) -> Result<(), Fail> {
+    let alloc = rt.alloc();
+    let mut files = StdFiles::new(&rt, alloc);
+    assert_eq!(rt;
+        files.save("none/kept.txt", b"five\n"),
+        Err(FileStop::Failed)
+    );
+    assert_eq!(rt; files.save("/dev/full", b"five\n"), Err(FileStop::Failed));
+    let mut bytes = Vec::new(alloc);
+    assert_eq!(rt; files.read(".", 5, &mut bytes), Err(FileStop::Failed));
+    let mut sink = StdSink::new(fs::create(&rt, "/dev/full")?);
+    assert_eq!(rt; sink.put(b"taken\n"), Err(Failed));
     Ok(())
 }

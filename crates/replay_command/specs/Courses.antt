@@ -7,6 +7,7 @@ use Rattle.pair_machine.specs.Counts.{flow_of}
 use Rattle.pair_machine.specs.Flow.{Flow}
 use Rattle.pair_machine.specs.Machine.{State, egress_in, opening}
 use Rattle.run_journal.specs.Events.{events_of}
+use Rattle.run_journal.specs.Limits.{max_events_bytes}
 use Rattle.run_journal.specs.Messages.{events_fault}
 use Rattle.run_journal.specs.declared.lined.Lined.{Lined}
 use Rattle.command_course.specs.Course.{Course, Reading, Refuses, Writes, reads}
@@ -38,7 +39,7 @@ replays events feed lines = writes_state events feed (replayed (flow_for feed) l
 
 -- the events of a file
 abbrev pub replays_file : List ℕ → FeedView → Course
-replays_file events feed = reads (events_from feed.plan) events (replays events feed)
+replays_file events feed = reads max_events_bytes (events_from feed.plan) events (replays events feed)
 
 abbrev pub replay_course : (plan trades events : List ℕ) → Option (List ℕ) → Course
 replay_course plan trades events cash = with_feed plan trades cash (replays_file events)

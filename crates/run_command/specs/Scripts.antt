@@ -2,6 +2,7 @@
 use Rattle.std.specs.Prelude.{ℕ, List, [], Option, None, Some}
 use Rattle.plan_reader.specs.PlanView.{PlanView}
 use Rattle.pair_machine.specs.declared.order.Order.{Order}
+use Rattle.failure_script.specs.Limits.{max_script_bytes}
 use Rattle.failure_script.specs.Messages.{script_fault}
 use Rattle.failure_script.specs.Script.{script_of}
 use Rattle.command_course.specs.Course.{Reading, Way, reads}
@@ -14,4 +15,4 @@ script_from plan name bytes = or_line script_fault name (script_of plan bytes)
 -- without a file there are no orders
 abbrev pub with_script : Option (List ℕ) → PlanView → Way (List Order)
 with_script None plan next = next []
-with_script (Some name) plan next = reads (script_from plan) name next
+with_script (Some name) plan next = reads max_script_bytes (script_from plan) name next

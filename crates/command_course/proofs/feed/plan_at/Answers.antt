@@ -1,4 +1,5 @@
 use Rattle.std.proofs.Common.{option_map}
+use Rattle.plan_reader.specs.Limits.{max_plan_bytes}
 use Rattle.command_course.specs.Course.{reads}
 use Rattle.command_course.specs.Feeds.{for_plan}
 use Rattle.command_course.specs.Inputs.{plan_from}
@@ -11,7 +12,7 @@ returns-in-Ok-clause-gives g c =
     let here = ok_at (λ told calls it. GivesBy told calls calls (for_plan (option_map (λ name. name.now) c.args.cash) c.in-Ok.plan) it)
     (g.F.Files.contents c.input_at.new.files) (g.F.Files.calls c.input_at.new.files) c.with_source.result c.with_source.ensures.gives in
     ok_gives (λ it. it) (g.F.Files.contents c.args.files.now) (g.F.Files.contents c.input_at.new.files) (g.F.Files.calls c.args.files.now) (g.F.Files.calls c.input_at.new.files)
-    (g.F.Files.calls c.input_at.new.files) (reads plan_from c.args.plan.now) (for_plan (option_map (λ name. name.now) c.args.cash)) c.in-Ok.plan c.with_source.result
+    (g.F.Files.calls c.input_at.new.files) (reads max_plan_bytes plan_from c.args.plan.now) (for_plan (option_map (λ name. name.now) c.args.cash)) c.in-Ok.plan c.with_source.result
     c.input_at.ensures.contents c.in-Ok.ensures.gives here
 
 pub returns-in-Ok-clause-stops : goal.returns-in-Ok-clause-stops
@@ -19,7 +20,7 @@ returns-in-Ok-clause-stops g c =
     let here = err_at (λ told calls why. StopsBy told calls calls (for_plan (option_map (λ name. name.now) c.args.cash) c.in-Ok.plan) why)
     (g.F.Files.contents c.input_at.new.files) (g.F.Files.calls c.input_at.new.files) c.with_source.result c.with_source.ensures.stops in
     err_stops (g.F.Files.contents c.args.files.now) (g.F.Files.contents c.input_at.new.files) (g.F.Files.calls c.args.files.now) (g.F.Files.calls c.input_at.new.files)
-    (g.F.Files.calls c.input_at.new.files) (reads plan_from c.args.plan.now) (for_plan (option_map (λ name. name.now) c.args.cash)) c.in-Ok.plan c.with_source.result
+    (g.F.Files.calls c.input_at.new.files) (reads max_plan_bytes plan_from c.args.plan.now) (for_plan (option_map (λ name. name.now) c.args.cash)) c.in-Ok.plan c.with_source.result
     c.input_at.ensures.contents c.in-Ok.ensures.gives here
 
 pub returns-in-Err-clause-stops : goal.returns-in-Err-clause-stops
