@@ -3,10 +3,16 @@
 # was built from other sources, it is proved and built first, crates side by side, and standard error tells how far that is;
 # a build that fails ends with status 70. Words that need no program are answered here.
 set -u
-top=$(dirname "$(readlink -f "${BASH_SOURCE[0]}")")
+top=${BASH_SOURCE[0]}
+[ ! -L "$top" ] || top=$(readlink -f "$top")
+[[ $top == */* ]] || top=./$top
+top=$(CDPATH='' cd -P -- "${top%/*}/" && pwd)
 main=$top/crates/flux_main
 program=$main/out/flux_main
+# The sums of all that the program is made from, and of the program.
 stamp=$main/out/launcher.sum
+# The files and folders that the sum goes over; its time is that from which on a change would not be in the sum.
+looked=$main/out/launcher.looked
 log=$main/out/launcher.log
 # What a build from nothing takes, in GiB, with some to spare; it was measured on four processors.
 DISK=4
@@ -26,18 +32,19 @@ flux: a parallel stream dataflow over trades that survives failures, and whose e
   flux make START COUNT               writes trades that are made from a number
   flux trial PLAN START COUNT         runs a plan over made trades, and writes a summary
   flux move PLAN TRADES MOVES         writes the rows of a stage whose buckets move between partitions
-  flux COMMAND --help                 says more of a command
-  flux --help                         writes this
-  flux --version                      writes the commit
+  flux COMMAND --help                 says more of a command; so do flux help COMMAND and flux COMMAND -h
+  flux --help                         writes this; so do flux help and flux -h
+  flux --version                      writes the commit; so does flux -V
 
 Try it, in this repository:
 
   ./flux run examples/failures/large.txt examples/failures/blotter.csv --script examples/failures/script.txt
 
-The exit status is 0 where the whole text was written, 2 for words that have no form, 3 for an input that
-is refused, 4 for a file that can't be read, 5 for an output that took not all or a journal that was not
-saved, 6 where a pair was lost, 8 for want of memory, and 70 where the program could not be built. The
-formats are in docs/FORMATS.md.
+The exit status is 0 where the whole text was written, 2 for words that have no form or a journal that is
+one of the inputs, 3 for an input that is refused, 4 for a file that can't be read, 5 for an output that
+took not all or a journal that was not saved, 6 where a pair was lost, 8 for want of memory, and 70 where
+the program could not be built. docs/TUTORIAL.md leads from a plan to a failure that is survived, and
+docs/FORMATS.md has the formats.
 TEXT
 }
 
@@ -56,7 +63,7 @@ as CSV: the same text as eval, whatever fails under a safe script.
   --turns T     how many turns each thread does at most, 0 to 10000000; 200000 without the option. What is
                 left then is done on the caller's thread
   --journal J   the file to which the journal is saved: all events, in one order in which they are legal.
-                flux replay reads it
+                flux replay reads it. A file that is one of the inputs is refused, before anything is read
 
 An option stands anywhere behind run, once, as --threads 2 or as --threads=2. A name isn't empty and doesn't
 begin with "-".
@@ -180,8 +187,42 @@ version() {
 
 answer() { "$1" 2>/dev/null || { echo "flux: cannot write" >&2; exit 5; }; exit 0; }
 stop() { echo "flux: $1" >&2; exit 70; }
+is_command() { case ${1-} in run | eval | replay | make | trial | move) ;; *) return 1 ;; esac; }
 
-# Fills `crates` with this crate, after those of the repository that it stands on.
+# Ends with 2, and says which help to ask for: that of the command where the first word is one.
+end_with_2() {
+  local command=''
+  ! is_command "${1-}" || command="$1 "
+  echo "flux: see ./flux $command--help" >&2
+  exit 2
+}
+
+# Ends with 2 where the words of `run` or `trial` name a journal that is one of the input files, which it would replace.
+check_journal() {
+  local journal='' option value plain=() inputs=() most=2 it
+  [ "$1" = run ] || most=1
+  shift
+  while [ $# -gt 0 ]; do
+    case $1 in
+      --*=*) option=${1%%=*} value=${1#*=} ;;
+      --*) option=$1 value=${2-}; [ $# -eq 1 ] || shift ;;
+      *) option='' value=$1 ;;
+    esac
+    case $option in
+      '') plain+=("$value") ;;
+      --journal) journal=$value ;;
+      --cash | --script) inputs+=("$value") ;;
+    esac
+    shift
+  done
+  [ -n "$journal" ] || return 0
+  # The words behind the plan are no files of `trial`.
+  for it in "${plain[@]:0:most}" "${inputs[@]}"; do
+    [ ! "$journal" -ef "$it" ] || { echo "flux: $journal: the journal is one of the inputs" >&2; return 2; }
+  done
+}
+
+# Fills `crates` with flux_main, after those crates of the repository that it stands on.
 declare -A below
 crates=()
 add() {
@@ -190,16 +231,54 @@ add() {
   for it in ${below[$1]}; do add "$it"; done
   crates+=("$1")
 }
-while IFS=: read -r name list; do [ -z "$name" ] || below[$name]=$list; done <"$top/crates.txt"
-add flux_main
+list_crates() {
+  local name list
+  [ ${#crates[@]} -eq 0 ] || return 0
+  while IFS=: read -r name list; do [[ $name != [a-z]* ]] || below[$name]=$list; done <"$top/crates.txt"
+  add flux_main
+}
 
+# Lists the files and folders of the sources, which are about to be summed up. What changes behind the list has a later time than it,
+# also by a clock that ticks slowly.
+look() {
+  list_crates
+  { : >"$looked.$$.time"; } 2>/dev/null || return 0
+  sleep 0.02
+  (cd "$top" && printf '%s\0' "${program#"$top/"}" && find crates.txt "${crates[@]/#/crates/}" -name out -prune -o -type d -print0 \
+    -o -name '*.rt' -print0 -o -name '*.antt' -print0 -o -name crates.txt -print0) >"$looked.$$"
+  touch -r "$looked.$$.time" "$looked.$$"
+  rm -f "$looked.$$.time"
+}
 # The names and contents of all that the program is made from, so that a file that is gone is a change too.
 sources() {
+  list_crates
   (cd "$top" && find crates.txt "${crates[@]/#/crates/}" -name out -prune -o -type f -name '*.rt' -print0 \
     -o -type f -name '*.antt' -print0 -o -name crates.txt -print0 | LC_ALL=C sort -z | xargs -0 sha256sum | sha256sum)
 }
-keep() { { echo "$1"; sha256sum <"$program"; } >"$stamp"; }
-is_fresh() { [ -x "$program" ] && [ -e "$stamp" ] && [ "$(sources; sha256sum <"$program")" = "$(cat "$stamp")" ]; }
+# Keeps this sum, of the sources that were looked at last, as that of the program.
+keep() { { echo "$1"; sha256sum <"$program"; } >"$stamp" && have_looked; }
+have_looked() { mv "$looked.$$" "$looked" 2>/dev/null; }
+# Whether no file and no folder has changed since they were summed up last: a new file changes its folder.
+is_as_looked() {
+  local newer
+  [ -e "$looked" ] || return 1
+  newer=$(cd "$top" && exec find -files0-from "$looked" -maxdepth 0 -cnewer "$looked" -print -quit 2>&1)
+  # An older find takes no list from a file.
+  [[ $newer != *-files0-from* ]] ||
+    newer=$(cd "$top" && xargs -0 -a "$looked" sh -c 'exec find "$@" -maxdepth 0 -cnewer "$0" -print -quit' "$looked" 2>&1)
+  [ -z "$newer" ]
+}
+is_fresh() {
+  [ -x "$program" ] && [ -e "$stamp" ] || return 1
+  ! is_as_looked || return 0
+  look
+  if [ "$(sources; sha256sum <"$program")" = "$(cat "$stamp")" ]; then
+    have_looked
+    return 0
+  fi
+  rm -f "$looked.$$"
+  return 1
+}
 
 # Copies what the crates are made from, without their must-fail edits, into a folder of its own, as `rt ci` proves a whole
 # repository: there it has no crate that the program doesn't stand on.
@@ -276,11 +355,12 @@ build() {
   command -v rt >/dev/null 2>&1 || stop "not built: the toolchain's command rt is not on the PATH"
   { mkdir -p "$main/out" && : >"$log"; } 2>/dev/null || stop "not built: $main/out can't be written"
   check_space "${TMPDIR:-/tmp}"
-  trap '[ -z "$said" ] || { kill "$said"; wait "$said"; } 2>/dev/null; [ -z "$room" ] || rm -rf "$room"' EXIT
+  trap '[ -z "$said" ] || { kill "$said"; wait "$said"; } 2>/dev/null; [ -z "$room" ] || rm -rf "$room"; rm -f "$looked.$$"*' EXIT
   trap 'exit 70' INT TERM HUP
   make_room || stop "not built: there can be no folder for it in ${TMPDIR:-/tmp}"
   echo "flux: proving and building the program; $HOW_LONG" >&2
   echo "flux: the log is $log" >&2
+  look
   from=$(sources)
   copy_sources "$room" || stop "not built: its sources can't be copied to $room"
   exec 8< <(cd "$room" && exec rt ci 2>&1 </dev/null 9<&-)
@@ -304,11 +384,18 @@ build() {
 [ "${BASH_SOURCE[0]}" = "$0" ] || return 0
 
 case $#,${1-} in
-  0,) echo "$usage" >&2; exit 2 ;;
+  0,) echo "$usage" >&2; end_with_2 ;;
   1,--help | 1,-h | 1,help) answer help ;;
-  1,--version) answer version ;;
-  2,run | 2,eval | 2,replay | 2,make | 2,trial | 2,move) [ "$2" != --help ] || answer "help_$1" ;;
+  1,--version | 1,-V) answer version ;;
+  2,--help | 2,-h | 2,help) ! is_command "$2" || answer "help_$2" ;;
 esac
+if is_command "$1"; then
+  # No file can have such a name.
+  for it in "${@:2}"; do
+    [[ $it != --help && $it != -h ]] || answer "help_$1"
+  done
+fi
+case $1 in run | trial) check_journal "$@" || end_with_2 "$1" ;; esac
 if ! is_fresh; then
   # Of several first calls one builds, and the others wait for it.
   exec 9<"$top"
@@ -316,4 +403,18 @@ if ! is_fresh; then
   is_fresh || build
   exec 9<&-
 fi
-exec "$program" "$@"
+
+# Runs the program, of which the status is to be seen. A signal that ends this call ends the program too, and then this call as usual.
+end_by() {
+  trap - "$1"
+  kill -s TERM "$child"
+  wait "$child"
+  kill -s "$1" "$$"
+}
+"$program" "$@" <&0 &
+child=$!
+for signal in INT QUIT TERM HUP; do trap "end_by $signal 2>/dev/null" "$signal"; done
+wait "$child" 2>/dev/null
+status=$?
+[ "$status" -ne 2 ] || end_with_2 "$1"
+exit "$status"
