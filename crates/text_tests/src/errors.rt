@@ -30,7 +30,10 @@ fn plans(rt: HostRuntime) -> Result<(), Fail> {
             "crowded, edges 9, mark 1",
         ),
         (PlanError::OutOfMemory, "out of memory"),
-        (PlanError::JoinNotLast { line: 7 }, "line 7: stage after join"),
+        (
+            PlanError::JoinNotLast { line: 7 },
+            "line 7: stage after join",
+        ),
     ] {
         assert!(rt; says(rt.alloc(), error, text)?, "{text}");
     }
@@ -97,9 +100,23 @@ fn trades(rt: HostRuntime) -> Result<(), Fail> {
         (Field::Price, "price"),
     ] {
         let form = format!(in rt.alloc(); "record 7: field {name}")?;
-        assert!(rt; says(rt.alloc(), TradeError::Field { rec: 7, field }, form.as_str())?, "{form}");
+        assert!(rt;
+            says(
+                rt.alloc(),
+                TradeError::Field { rec: 7, field },
+                form.as_str()
+            )?,
+            "{form}"
+        );
         let range = format!(in rt.alloc(); "record 7: range {name}")?;
-        assert!(rt; says(rt.alloc(), TradeError::Range { rec: 7, field }, range.as_str())?, "{range}");
+        assert!(rt;
+            says(
+                rt.alloc(),
+                TradeError::Range { rec: 7, field },
+                range.as_str()
+            )?,
+            "{range}"
+        );
     }
     for (error, text) in [
         (TradeError::Header, "header"),
@@ -121,9 +138,23 @@ fn movements(rt: HostRuntime) -> Result<(), Fail> {
         (CashField::Amount, "amount"),
     ] {
         let form = format!(in rt.alloc(); "record 7: field {name}")?;
-        assert!(rt; says(rt.alloc(), CashError::Field { rec: 7, field }, form.as_str())?, "{form}");
+        assert!(rt;
+            says(
+                rt.alloc(),
+                CashError::Field { rec: 7, field },
+                form.as_str()
+            )?,
+            "{form}"
+        );
         let range = format!(in rt.alloc(); "record 7: range {name}")?;
-        assert!(rt; says(rt.alloc(), CashError::Range { rec: 7, field }, range.as_str())?, "{range}");
+        assert!(rt;
+            says(
+                rt.alloc(),
+                CashError::Range { rec: 7, field },
+                range.as_str()
+            )?,
+            "{range}"
+        );
     }
     for (error, text) in [
         (CashError::Header, "header"),

@@ -68,7 +68,12 @@ fn refuses_the_first_byte_too_many(rt: HostRuntime) -> Result<(), Fail> {
 fn refuses_events_that_are_too_long(rt: HostRuntime) -> Result<(), Fail> {
     let text = vec![in rt.alloc(); b'#'; 536_870_913]?;
     let found = read_events(rt.alloc(), &text, &two(rt.alloc())?);
-    assert_eq!(rt; found.err(), Some(EventsError::TooLong { bytes: MAX_EVENTS_BYTES + 1 }));
+    assert_eq!(rt;
+        found.err(),
+        Some(EventsError::TooLong {
+            bytes: MAX_EVENTS_BYTES + 1
+        })
+    );
     Ok(())
 }
 
