@@ -10,3 +10,4 @@ pub mod Feeding
 pub mod Moving
 pub mod KeyCounts
 pub mod KeysBelow
+pub mod KeysKept

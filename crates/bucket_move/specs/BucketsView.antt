@@ -1,5 +1,5 @@
 -- What contracts see of buckets, and what they are after calls.
-use Rattle.std.specs.Prelude.{ℕ, ◌≡◌, ◌<◌, ◌^◌, ◌%◌, ◌==◌, Bool, true, false, List, [], ◌∷◌, ◌++◌, length, map, slice_index, slice_index_or, slice_set}
+use Rattle.std.specs.Prelude.{ℕ, ◌≡◌, ◌<◌, ◌-◌, ◌^◌, ◌%◌, ◌==◌, Bool, true, false, List, [], ◌∷◌, ◌++◌, if◌then◌else◌, length, map, min, slice_index, slice_index_or, slice_set, sum}
 use Rattle.std.specs.List.{All, filter, range_with_len}
 use Rattle.tuple_edge.specs.declared.row.Row.{Row}
 use Rattle.op_spec.specs.declared.spec.OpSpec.{OpSpec}
@@ -67,10 +67,13 @@ state_in spec states bucket = slice_index_or states bucket (unseen spec)
 abbrev pub state_at : OpSpec → List (List StateView) → ℕ → ℕ → StateView
 state_at spec kept part bucket = state_in spec (slice_index_or kept part []) bucket
 
+-- of each bucket the partition where a table has it keeps what these rows of it make of an operator
+abbrev pub AllKeep : OpSpec → List ℕ → List (List StateView) → (ℕ → List Row) → Type 0
+AllKeep spec table kept rows = (bucket : ℕ) → bucket < buckets → state_at spec kept (part_of table bucket) bucket ≡ state_after spec (rows bucket)
+
 -- of each bucket the partition where a table has it keeps what the bucket's rows make of an operator
 abbrev pub AllStand : Stage → List ℕ → List (List StateView) → List Row → Type 0
-AllStand stage table kept rows =
-    (bucket : ℕ) → bucket < buckets → state_at stage.op kept (part_of table bucket) bucket ≡ state_after stage.op (rows_in stage.by bucket rows)
+AllStand stage table kept rows = AllKeep stage.op table kept (λ bucket. rows_in stage.by bucket rows)
 
 -- What the buckets of a plan's stage are after calls, whatever was moved when: the rows were answered one after another as one operator answers them, each bucket
 -- stands where the table has it, and its partition keeps what the rows of the bucket make of an operator.
@@ -91,6 +94,18 @@ rows_at stage table part rows = filter (λ r. part_of table (bucket_of stage.by 
 -- how many keys the rows of a partition's buckets have; a `keep` has none
 abbrev pub keys_at : Stage → List ℕ → ℕ → List Row → ℕ
 keys_at stage table part rows = length (keys_after stage.op (items_of (rows_at stage table part rows)))
+
+-- how many keys these rows of a bucket have, where a table has the bucket at a partition
+abbrev pub keys_there : OpSpec → List ℕ → ℕ → (ℕ → List Row) → ℕ → ℕ
+keys_there spec table part rows bucket = if part_of table bucket == part then length (keys_after spec (items_of (rows bucket))) else 0
+
+-- how many keys the first buckets have at a partition
+abbrev pub keys_of_first : OpSpec → List ℕ → ℕ → (ℕ → List Row) → ℕ → ℕ
+keys_of_first spec table part rows count = sum (map (keys_there spec table part rows) (range_with_len 0 count))
+
+-- how many keys all buckets have at a partition; the count stands still at the last value of its counter
+abbrev pub keys_kept : OpSpec → List ℕ → ℕ → (ℕ → List Row) → ℕ
+keys_kept spec table part rows = min (keys_of_first spec table part rows buckets) (2 ^ 64 - 1)
 
 -- ---- what is always true
 

@@ -1,5 +1,5 @@
 // The buckets of a stage: where each stands, what is kept of it, and the answers so far.
-ghost use Rattle.std.specs.Prelude.{◌≡◌, ◌<◌, ◌≤◌, ◌++◌, ◌∷◌, [], List, All, IfOk, IsOk, IsTrue, OnErr, OnOk, false, is_err, replicate, slice_set};
+ghost use Rattle.std.specs.Prelude.{ℕ, ◌≡◌, ◌<◌, ◌≤◌, ◌++◌, ◌∷◌, [], List, All, IfOk, IsOk, IsTrue, OnErr, OnOk, false, is_err, replicate, slice_set};
 ghost use Rattle.tuple_edge.specs.declared.row.Row.{Row};
 ghost use Rattle.op_spec.specs.Spec.{IsSpec};
 ghost use Rattle.op_spec.specs.Times.{IsTime};
@@ -7,7 +7,7 @@ ghost use Rattle.stream_ops.specs.Answers.{answers};
 ghost use Rattle.stream_ops.specs.State.{unseen};
 ghost use Rattle.plan_reader.specs.PlanView.{IsPlan};
 ghost use Rattle.plan_reader.specs.declared.stage.Stage.{Stage};
-ghost use Rattle.bucket_move.specs.BucketsView.{Call, Feeds, IsAfter, Moves, fed, keys_at, opening_table, part_of, table_after};
+ghost use Rattle.bucket_move.specs.BucketsView.{AllKeep, Call, Feeds, IsAfter, Moves, fed, keys_at, keys_kept, opening_table, part_of, table_after};
 ghost use Rattle.bucket_move.specs.ByKey.{is_by_key};
 ghost use Rattle.bucket_move.specs.Limits.{buckets};
 ghost use Rattle.bucket_move.specs.Rows.{items_of};
@@ -194,10 +194,14 @@ impl Buckets {
         &self.emitted
     }
 
-    /// How many keys the rows fed have whose bucket stands at a partition. A `keep` has no keys.
+    /// How many keys the rows fed have whose bucket stands at a partition. A `keep` has no keys. Where
+    /// memory ran out in a feed, the rows are those that make what is kept there.
     pub fn keys(&self, part: u32) -> u64
-        ensures { (stage : Stage) (calls : List Call) → IsAfter stage calls self.now
+        ensures after { (stage : Stage) (calls : List Call) → IsAfter stage calls self.now
             → result ≡ keys_at stage (table_after (opening_table stage.parts) calls) part (fed calls) }
+        // Also where memory ran out: by any rows of each bucket that make what is kept of it.
+        ensures kept { (rows : ℕ → List Row) → AllKeep self.now.stage.op self.now.table self.now.kept rows
+            → result ≡ keys_kept self.now.stage.op self.now.table part rows }
     {
         work::keys_at(&self.table, &self.parts, part)
     }

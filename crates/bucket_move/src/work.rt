@@ -5,7 +5,8 @@ ghost use Rattle.std.specs.Option.{option_to_list};
 ghost use Rattle.tuple_edge.specs.declared.row.Row.{Row};
 ghost use Rattle.op_spec.specs.Times.{IsTime};
 ghost use Rattle.plan_reader.specs.declared.stage.Stage.{Stage};
-ghost use Rattle.bucket_move.specs.BucketsView.{AllStand, keys_at};
+ghost use Rattle.op_spec.specs.declared.spec.OpSpec.{OpSpec};
+ghost use Rattle.bucket_move.specs.BucketsView.{AllKeep, AllStand, keys_at, keys_kept};
 ghost use Rattle.bucket_move.specs.ByKey.{is_keyed};
 ghost use Rattle.bucket_move.specs.Limits.{buckets};
 ghost use Rattle.bucket_move.specs.declared.partition.Partition.{Partition};
@@ -139,8 +140,9 @@ pub(crate) fn keys_at(table: &[u32], parts: &[Partition], part: u32) -> u64
     requires table { length table.now ≡ buckets }
     requires within { All (λ p. p < length parts.now) table.now }
     requires slots { All (λ states. length states ≡ buckets) (kept_in parts.now) }
-    ensures { (stage : Stage) (rows : List Row) → is_keyed stage.by stage.op ≡ true → length rows < 2 ^ 64 → AllStand stage table.now (kept_in parts.now) rows
+    ensures stands { (stage : Stage) (rows : List Row) → is_keyed stage.by stage.op ≡ true → length rows < 2 ^ 64 → AllStand stage table.now (kept_in parts.now) rows
         → result ≡ keys_at stage table.now part rows }
+    ensures kept { (spec : OpSpec) (rows : ℕ → List Row) → AllKeep spec table.now (kept_in parts.now) rows → result ≡ keys_kept spec table.now part rows }
 {
     let mut keys: u64 = 0;
     for bucket in 0..BUCKETS {

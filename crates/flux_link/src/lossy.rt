@@ -110,7 +110,7 @@ impl<I: Inlet> LossyIn<I> {
 
 impl<I: Inlet> Inlet for LossyIn<I> {
     ghost use Rattle.flux_link.specs.Choices.{treated};
-    ghost use Rattle.flux_link.specs.LossyInlets.{inner_of, choices_of, inner_arrivals, given_by, taken_by, AskedToItsEnd, InnerKeepsAll};
+    ghost use Rattle.flux_link.specs.LossyInlets.{inner_of, choices_of, inner_arrivals, given_by, taken_by, AskedOn, AskedToItsEnd, InnerKeepsAll};
     ghost use Rattle.std.proofs.Common.{arith};
     ghost use Rattle.std.specs.Prelude.{◌≡◌, ◌<◌, ◌≤◌, ◌+◌, ◌++◌, ◌∷◌, [], None, IfNone, IfSome, MatchOption};
     ghost use mathlib.Core.List.{IsPrefix};
@@ -123,7 +123,7 @@ impl<I: Inlet> Inlet for LossyIn<I> {
 
     ghost taken = { λ lossy. taken_by lossy };
 
-    ghost receives = { λ before result after. IfNone result (AskedToItsEnd before after) };
+    ghost receives = { λ before result after. MatchOption result (AskedToItsEnd before after) (λ _. AskedOn before after) };
 
     fn recv(&mut self) -> Option<Arrival>
         requires fits { taken_by self.old < max_taken }
@@ -139,6 +139,8 @@ impl<I: Inlet> Inlet for LossyIn<I> {
         // It gives what the choices make of the arrivals of the inner inlet, and all of it before it gives none.
         ensures front { IsPrefix (given_by self.new) (treated (choices_of self.new) (inner_arrivals self.new)) }
         ensures whole { IfNone result (given_by self.new ≡ treated (choices_of self.new) (inner_arrivals self.new)) }
+        // Where it gives a packet, it took packets of the inner inlet alone.
+        ensures some { IfSome result (λ _. AskedOn self.old self.new) }
         // It gives none only where the inner inlet did in this call, last of all. Where that tells what is still to come,
         // it has nothing more.
         ensures none { IfNone result (AskedToItsEnd self.old self.new) }

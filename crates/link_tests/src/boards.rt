@@ -217,3 +217,11 @@ fn two_threads_give_all_back(rt: HostRuntime) -> Result<(), Fail> {
     assert!(rt; turns > 0);
     Ok(())
 }
+
+#[test]
+fn want_of_memory_says_so(rt: HostRuntime) -> Result<(), Fail> {
+    let error = claim_board::OutOfMemory;
+    let printed = format!(in rt.alloc(); "{error}")?;
+    assert_eq!(rt; printed.as_str(), "out of memory");
+    Ok(())
+}

@@ -3,8 +3,13 @@ use Rattle.std.specs.Prelude.{◌≡◌, ℕ, List, [], ◌∷◌, ◌++◌, Opt
 use Rattle.flux_link.specs.declared.arrival.Arrival.{Arrival}
 use Rattle.pair_machine.specs.Courses.{Arrivals}
 use Rattle.pair_machine.specs.Lists.{Each}
+use Rattle.tuple_edge.specs.declared.event.Event.{Event}
+use Rattle.tuple_edge.specs.declared.event.Event.TheVariants as event
+use Rattle.tuple_edge.specs.declared.event.Stamped.{Stamped}
 use Rattle.tuple_edge.specs.declared.node.NodeId.{NodeId}
+use Rattle.pair_machine.specs.Links.{link}
 use Rattle.run_node.specs.Ends.{InLink}
+use Rattle.run_node.specs.NodeView.{NodeView}
 use Rattle.run_node.specs.declared.kept.Kept.{Kept}
 
 -- of a node's packets, this one is what came from a node under its index
@@ -32,3 +37,14 @@ IsReceived before after (Some k) = HasCome k before after
 abbrev pub IsAtHand : Option Kept → List InLink → List InLink → Option Kept → Type 0
 IsAtHand (Some kept) before after hand = (hand ≡ Some kept) × (after ≡ before)
 IsAtHand None before after hand = IsReceived before after hand
+
+-- a history has one event more, this one
+pub record HasHappened (e : Event) (before after : List Stamped) : Type 0 where
+  pub clock : ℕ
+  pub added : after ≡ before ++ record { clock = clock; event = e } ∷ []
+
+-- a node has taken the arrival at hand
+pub record HasTaken {A T : Type 0} (id : A → NodeId) (before after : NodeView A T) : Type 0 where
+  pub taken : Kept
+  pub hand : IsAtHand before.kept before.ins after.ins (Some taken)
+  pub event : HasHappened (event.Take (link taken.from (id before.state)) taken.arrival.index) before.history after.history

@@ -11,7 +11,7 @@ ghost use Rattle.plan_reader.specs.Nodes.{has_link};
 ghost use Rattle.plan_reader.specs.PlanView.{IsPlan};
 ghost use Rattle.run_node.specs.Timely.{AreTimely};
 ghost use Rattle.run_node.specs.Ends.{leads_to, links_of};
-ghost use Rattle.run_node.specs.Fits.{Came, Fit, IsAtHand};
+ghost use Rattle.run_node.specs.Fits.{Came, Fit, HasHappened, HasTaken, IsAtHand};
 ghost use Rattle.run_node.specs.NodeView.{name_of};
 ghost use Rattle.run_node.specs.SoundNode.{IsTrueView, TapFits};
 ghost use Rattle.run_node.specs.Tasks.{CameFor, event_of, most_packets};
@@ -159,6 +159,7 @@ impl<N: RunNames, A: Acts, M: Links, T: Tap> Node<N, A, M, T> {
     pub(crate) fn event(&mut self, plan: &Plan, task: Task) -> Result<bool, OutOfMemory>
         requires came { (arrived : Arrivals) → Fit arrived self.old.ins → CameFor arrived task }
         requires allowed { (x : NodeNumbers) → A.stands N.plan N.inputs self.old.state x → IsAllowedAt N.script (event_of (A.id self.old.state) task) x }
+        ensures happens { result ≡ Ok true → HasHappened (event_of (A.id self.old.state) task) self.old.history self.new.history }
         ensures name { name_of A.id self.new ≡ name_of A.id self.old }
         ensures ins { self.new.ins ≡ self.old.ins }
         ensures kept { self.new.kept ≡ self.old.kept }
@@ -190,6 +191,7 @@ impl<N: RunNames, A: Acts, M: Links, T: Tap> Node<N, A, M, T> {
         ensures name { name_of A.id self.new ≡ name_of A.id self.old }
         ensures kept { self.new.kept ≡ result }
         ensures hand { IsAtHand self.old.kept self.old.ins self.new.ins result }
+        ensures history { self.new.history ≡ self.old.history }
         ensures came { IfSome result (λ k. (arrived : Arrivals) → Fit arrived self.new.ins → Came arrived k.from k.arrival) }
     {
         if let Some(kept) = self.kept {
@@ -202,6 +204,7 @@ impl<N: RunNames, A: Acts, M: Links, T: Tap> Node<N, A, M, T> {
     // Takes the arrival that is kept, or the next one, if it may be taken. What isn't taken stays.
     pub(crate) fn take(&mut self, plan: &Plan) -> Result<bool, OutOfMemory>
         ensures name { name_of A.id self.new ≡ name_of A.id self.old }
+        ensures takes { result ≡ Ok true → HasTaken A.id self.old self.new }
         ensures stays { result ≢ Ok true → IsAtHand self.old.kept self.old.ins self.new.ins self.new.kept }
     {
         let Some(Kept { from, arrival }) = self.fetch() else {

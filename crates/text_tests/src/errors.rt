@@ -6,13 +6,23 @@ use run_journal::EventsError;
 use std::alloc::Global;
 use std::fmt::Display;
 use std::test::Fail;
-use trade_text::{CashError, CashField, Field, TradeError};
+use trade_text::{CashError, CashField, Field, FileField, ReadError, TradeError};
 use tuple_edge::OutOfMemory;
 
 // Whether an error prints itself so.
 fn says<E: Display + Drop>(alloc: Global, error: E, text: &str) -> Result<bool, Fail> {
     let printed = format!(in alloc; "{error}")?;
     Ok(printed.as_str() == text)
+}
+
+// Whether both faults of a field name it.
+fn names<F: FileField>(alloc: Global, field: F, name: &str) -> Result<bool, Fail> {
+    let form = format!(in alloc; "record 7: field {name}")?;
+    let range = format!(in alloc; "record 7: range {name}")?;
+    Ok(
+        says(alloc, ReadError::Field { rec: 7, field }, form.as_str())?
+            && says(alloc, ReadError::Range { rec: 7, field }, range.as_str())?,
+    )
 }
 
 #[test]
@@ -30,7 +40,10 @@ fn plans(rt: HostRuntime) -> Result<(), Fail> {
             "crowded, edges 9, mark 1",
         ),
         (PlanError::OutOfMemory, "out of memory"),
-        (PlanError::JoinNotLast { line: 7 }, "line 7: stage after join"),
+        (
+            PlanError::JoinNotLast { line: 7 },
+            "line 7: stage after join",
+        ),
     ] {
         assert!(rt; says(rt.alloc(), error, text)?, "{text}");
     }
@@ -96,10 +109,7 @@ fn trades(rt: HostRuntime) -> Result<(), Fail> {
         (Field::Qty, "qty"),
         (Field::Price, "price"),
     ] {
-        let form = format!(in rt.alloc(); "record 7: field {name}")?;
-        assert!(rt; says(rt.alloc(), TradeError::Field { rec: 7, field }, form.as_str())?, "{form}");
-        let range = format!(in rt.alloc(); "record 7: range {name}")?;
-        assert!(rt; says(rt.alloc(), TradeError::Range { rec: 7, field }, range.as_str())?, "{range}");
+        assert!(rt; names(rt.alloc(), field, name)?, "{name}");
     }
     for (error, text) in [
         (TradeError::Header, "header"),
@@ -120,10 +130,7 @@ fn movements(rt: HostRuntime) -> Result<(), Fail> {
         (CashField::Account, "account"),
         (CashField::Amount, "amount"),
     ] {
-        let form = format!(in rt.alloc(); "record 7: field {name}")?;
-        assert!(rt; says(rt.alloc(), CashError::Field { rec: 7, field }, form.as_str())?, "{form}");
-        let range = format!(in rt.alloc(); "record 7: range {name}")?;
-        assert!(rt; says(rt.alloc(), CashError::Range { rec: 7, field }, range.as_str())?, "{range}");
+        assert!(rt; names(rt.alloc(), field, name)?, "{name}");
     }
     for (error, text) in [
         (CashError::Header, "header"),

@@ -4,7 +4,7 @@ use crate::fixture::two;
 use bucket_move::{MAX_MOVES_BYTES, MovesError, read_moves};
 use failure_script::{MAX_SCRIPT_BYTES, ScriptError, read_script};
 use plan_reader::{MAX_PLAN_BYTES, PlanError, read_plan};
-use run_journal::{EventsError, MAX_EVENTS, MAX_EVENTS_BYTES, read_events};
+use run_journal::{EventsError, MAX_EVENTS, read_events};
 use std::alloc::Global;
 use std::process::Abort;
 use std::test::Fail;
@@ -60,15 +60,6 @@ fn refuses_the_first_byte_too_many(rt: HostRuntime) -> Result<(), Fail> {
             "{kind:?}"
         );
     }
-    Ok(())
-}
-
-// A text of events may have 536,870,912 bytes.
-#[test]
-fn refuses_events_that_are_too_long(rt: HostRuntime) -> Result<(), Fail> {
-    let text = vec![in rt.alloc(); b'#'; 536_870_913]?;
-    let found = read_events(rt.alloc(), &text, &two(rt.alloc())?);
-    assert_eq!(rt; found.err(), Some(EventsError::TooLong { bytes: MAX_EVENTS_BYTES + 1 }));
     Ok(())
 }
 

@@ -13,7 +13,7 @@ loop-part-preserved c stage calls after =
     let line : ℕ → List ℕ = λ p. part_line p (keys_at stage (table_after (opening_table stage.parts) calls) p (fed calls)) in
     c.in_ok-extend_from_slice.ensures.items
     ∙ lines_pushed line c.args.text.now.items c.loop-part.text.items c.as_bytes.result.now part (c.loop-part.invariant stage calls after)
-    (c.as_bytes.ensures.value ∙ c.in_ok-line.ensures ∙ ap (part_line part) (c.keys.ensures stage calls after))
+    (c.as_bytes.ensures.value ∙ c.in_ok-line.ensures ∙ ap (part_line part) (c.keys.ensures.after stage calls after))
 
 pub returns : goal.returns
 returns c stage calls after =

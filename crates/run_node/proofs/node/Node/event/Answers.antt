@@ -5,7 +5,7 @@ use Rattle.run_node.specs.Ends.{OutsView}
 use Rattle.pair_machine.specs.Courses.{Arrivals}
 use Rattle.pair_machine.specs.Numbers.{Node}
 use Rattle.pair_machine.specs.Scripts.{IsAllowedAt}
-use Rattle.run_node.specs.Fits.{Fit}
+use Rattle.run_node.specs.Fits.{Fit, HasHappened}
 use Rattle.run_node.specs.NodeView.{NodeView, NodeName, name_of, out_names, in_names}
 use Rattle.run_node.specs.Sends.{with_all_sent}
 use Rattle.run_node.specs.SoundNode.{IsSoundNode}
@@ -70,3 +70,13 @@ invariant_of-self-in-Idle g c =
     let still = sound_still g.A.Acts.id g.A.Acts.of_plan g.A.Acts.stands g.N.RunNames.plan g.N.RunNames.inputs g.N.RunNames.script n.state n.ins.items n.outs.links n.kept n.clock n.fired n.history.items sound
     c.act.new.self c.reserve_event.new.outs.links c.reserve_event.new.history.items same c.reserve_event.ensures.history c.act.ensures.id (c.act.ensures.of_plan g.N.RunNames.plan sound.named) (λ x h. subst (λ st. g.A.Acts.stands g.N.RunNames.plan g.N.RunNames.inputs st x) (sym idle.0) h) in
     (idle.1, tap_later g.T.Tap.given g.A.Acts.rows n.tap n.state c.act.new.self c.act.ensures.rows c.self.invariant.1, still)
+
+pub returns-clause-happens : goal.returns-clause-happens
+returns-clause-happens g c = λ _.
+    let n = c.self.inside in
+    let event = c.event_at-event.ensures ∙ ap (λ k. event_of k c.args.task) c.id.ensures in
+    let here : HasHappened (event_of (g.A.Acts.id n.state) c.args.task) n.history.items c.push_reserved.new.self.items = record {
+      clock = c.max-clock.result + 1;
+      added = c.push_reserved.ensures.items ∙ (ap (λ l. l ++ record { clock = c.max-clock.result + 1; event = c.event_at-event.result } ∷ []) c.reserve_event.ensures.history ∙ ap (λ e. n.history.items ++ record { clock = c.max-clock.result + 1; event = e } ∷ []) event);
+    } in
+    subst (λ (v : NodeView _ _). HasHappened (event_of (g.A.Acts.id v.state) c.args.task) v.history c.push_reserved.new.self.items) c.self.view_is here
