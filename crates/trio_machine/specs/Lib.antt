@@ -1,0 +1,15 @@
+pub mod Acknowledged
+pub mod Asked
+pub mod Boundary
+pub mod Controllers
+pub mod Drain
+pub mod Flow
+pub mod Legal
+pub mod Lengths
+pub mod Links
+pub mod Machine
+pub mod Messages
+pub mod Numbers
+pub mod Replicas
+pub mod Sound
+pub mod WorkedRows

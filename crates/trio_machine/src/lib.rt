@@ -1,0 +1,18 @@
+//! Groups of three: the machine in which each partition of a plan runs as three replicas and a
+//! controller, on numbers. All three start, failures come with notice, and nobody catches up, so a
+//! group survives two of them.
+//!
+//! What each node does at each event is said by functions of its numbers. Edges, producers, consumers
+//! and all that a plan says of them are those of pair_machine. It has no code of its own: each law is
+//! the contract of a function that does nothing. It stands on plan_reader and pair_machine.
+#![tactic(auto)]
+
+mod body;
+mod event;
+mod node;
+mod worked;
+
+pub use body::TrioBody;
+pub use event::TrioEvent;
+pub use node::TrioNode;
+pub use worked::worked_rows;
