@@ -1,6 +1,7 @@
 -- Sound: what holds in every state that the machine reaches, in the form that each step keeps; and what takeover owes, which follows from
 -- it. Owed says that whatever a producer made above the mark of a counted consumer is in the producer's buffer.
 use Rattle.std.specs.Prelude.{◌≡◌, ◌≤◌, ◌<◌, ℕ, true}
+use Rattle.tuple_edge.specs.declared.node.EdgeId.{EdgeId}
 use Rattle.pair_machine.specs.Boundary.{egress_edge}
 use Rattle.pair_machine.specs.CountLaws.{IsOfStage}
 use Rattle.pair_machine.specs.Flow.{Flow}
@@ -17,22 +18,22 @@ use Rattle.trio_machine.specs.declared.node.TrioNode.TheVariants as node
 
 -- a node's numbers are within the lengths, its lows and acknowledgements are at most what is acknowledged and reported, and what was
 -- reported to it is true
-pub record IsSoundNode (f : Flow) (s : State) (n : TrioNode) (x : Node) : Type 0 where
+pub record IsSoundNode (f : Flow) (acked : EdgeId → ℕ) (replicas : Partition → ℕ → Replica) (n : TrioNode) (x : Node) : Type 0 where
   pub bound : NodeBound f n x
-  pub lows : NodeLows (acked_of f s) n x
-  pub reports : NodeReports (replicas_of s) n x
+  pub lows : NodeLows acked n x
+  pub reports : NodeReports replicas n x
 
 -- a message stands where it may, its number is within the lengths and at most what is acknowledged, and what it reports is true
-pub record IsSoundMessage (f : Flow) (s : State) (from to : TrioNode) (m : Message) : Type 0 where
+pub record IsSoundMessage (f : Flow) (acked : EdgeId → ℕ) (replicas : Partition → ℕ → Replica) (from to : TrioNode) (m : Message) : Type 0 where
   pub carried : IsCarried f from to m
   pub bound : MessageBound f m
-  pub lows : MessageLows (acked_of f s) m
-  pub reports : MessageReports (replicas_of s) from m
+  pub lows : MessageLows acked m
+  pub reports : MessageReports replicas from m
 
 -- so it is of all nodes and of all that was ever sent
 pub record IsSound (f : Flow) (s : State) : Type 0 where
-  pub nodes : (n : TrioNode) → IsSoundNode f s n (s.nodes n)
-  pub sent : (from to : TrioNode) → Each (IsSoundMessage f s from to) (s.sent from to)
+  pub nodes : (n : TrioNode) → IsSoundNode f (acked_of f s) (replicas_of s) n (s.nodes n)
+  pub sent : (from to : TrioNode) → Each (IsSoundMessage f (acked_of f s) (replicas_of s) from to) (s.sent from to)
 
 -- ---- what takeover owes
 
