@@ -9,10 +9,10 @@ use Rattle.pair_machine.specs.Lists.{Each}
 use Rattle.pair_machine.specs.Numbers.{Partition, ingress_edge, out_edge}
 use Rattle.pair_machine.proofs.Lists.{each_append, each_map}
 use Rattle.pair_machine.proofs.Tests.{if_elim}
-use Rattle.trio_machine.specs.Acknowledged.{MarkAtLeast, MessageLows, MessageReports, NodeLows, NodeReports, ReplicaLows, acked_of, replicas_of}
-use Rattle.trio_machine.specs.Machine.{State, changed, controller_in, egress_in, ingress_in, messages_to, posted, put, replica_in}
+use Rattle.trio_machine.specs.Acknowledged.{HasTaken, MarkAtLeast, MessageLows, MessageReports, NodeLows, NodeReports, ReplicaLows, acked_of, replicas_of}
+use Rattle.trio_machine.specs.Machine.{State, changed, controller_in, egress_in, messages_to, put, replica_in}
 use Rattle.trio_machine.specs.Messages.{Ack, Envelope, Message, Report}
-use Rattle.trio_machine.specs.Numbers.{Gone, Node, Replica, ReplicaNode, Running, is_node}
+use Rattle.trio_machine.specs.Numbers.{Gone, Node, Replica, Running, is_node}
 use Rattle.trio_machine.specs.Sound.{IsSound, IsSoundMessage, IsSoundNode}
 use Rattle.trio_machine.specs.declared.node.TrioNode.{TrioNode}
 use Rattle.trio_machine.specs.declared.node.TrioNode.TheVariants as node
@@ -47,8 +47,14 @@ module _ (f : Flow) (k k_after : EdgeId → ℕ) (r r_after : Partition → ℕ 
   message_lows_wider (Ack e j) h = let u = up.acked e in omega arith
   message_lows_wider m h = tt
 
+  taken_wider : (q j : ℕ) (from : TrioNode) → HasTaken r q j from → HasTaken r_after q j from
+  taken_wider q j node.Ingress h = tt
+  taken_wider q j (node.Replica s p c) h = up.marks (partition s p) c q j h
+  taken_wider q j (node.Control s p) h = tt
+  taken_wider q j node.Egress h = tt
+
   message_reports_wider : (from : TrioNode) (m : Message) → MessageReports r from m → MessageReports r_after from m
-  message_reports_wider (node.Replica s p c) (Report e j) h = up.marks (partition s p) c e.from j h
+  message_reports_wider from (Report e j) h = taken_wider e.from j from h
   message_reports_wider from m h = tt
 
   pub message_wider : (from to : TrioNode) (m : Message) → IsSoundMessage f k r from to m → IsSoundMessage f k_after r_after from to m

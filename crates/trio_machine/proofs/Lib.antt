@@ -1,6 +1,13 @@
+pub mod BoundaryKept
 pub mod Bounds
+pub mod ControllerKept
 pub mod Frame
+pub mod Laws
 pub mod Names
+pub mod Pulled
+pub mod ReplicaKept
+pub mod Sends
 pub mod Served
+pub mod SoundKept
 pub mod Steps
 pub mod WorkedRows

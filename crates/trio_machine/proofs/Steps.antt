@@ -1,5 +1,5 @@
 -- What a step's act rests on: what is taken was sent, and what is pulled is made and above the producer's low.
-use Rattle.std.proofs.Common.{◌≡◌, ◌<◌, ◌≤◌, inl, inr, ℕ, zero, suc, List, [], ◌∷◌, Option, None, Some, Result, Ok, Err, ◌&&◌, refl, sym, arith}
+use Rattle.std.proofs.Common.{◌≡◌, ◌<◌, ◌≤◌, inl, inr, ℕ, zero, suc, List, [], ◌∷◌, Option, None, Some, Result, Ok, Err, ◌&&◌, refl}
 use Rattle.std.specs.Prelude.{nat_lt, nat_le}
 use Rattle.std.proofs.lemmas.Bool.{ltb-true, leb-true}
 use Rattle.tuple_edge.specs.declared.node.EdgeId.{EdgeId}

@@ -56,7 +56,14 @@ NodeReports replicas (node.Replica s p c) x = Unit {0}
 NodeReports replicas (node.Control s p) x = (c q : ℕ) → MarkAtLeast q ((controller_in x).reports c q) (replicas (partition s p) c)
 NodeReports replicas node.Egress x = Unit {0}
 
--- what a replica reports, it has taken
+-- a replica that runs has taken the items of in-edge q up to k
+abbrev pub HasTaken : (Partition → ℕ → Replica) → ℕ → ℕ → TrioNode → Type 0
+HasTaken replicas q k node.Ingress = Unit {0}
+HasTaken replicas q k (node.Replica s p c) = MarkAtLeast q k (replicas (partition s p) c)
+HasTaken replicas q k (node.Control s p) = Unit {0}
+HasTaken replicas q k node.Egress = Unit {0}
+
+-- what is reported, its sender has taken
 abbrev pub MessageReports : (Partition → ℕ → Replica) → TrioNode → Message → Type 0
-MessageReports replicas (node.Replica s p c) (Report e k) = MarkAtLeast e.from k (replicas (partition s p) c)
+MessageReports replicas from (Report e k) = HasTaken replicas e.from k from
 MessageReports replicas from m = Unit {0}

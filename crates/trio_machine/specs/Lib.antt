@@ -4,6 +4,7 @@ pub mod Boundary
 pub mod Controllers
 pub mod Drain
 pub mod Flow
+pub mod Laws
 pub mod Legal
 pub mod Lengths
 pub mod Links

@@ -9,10 +9,15 @@
 
 mod body;
 mod event;
+mod law;
 mod node;
 mod worked;
 
 pub use body::TrioBody;
 pub use event::TrioEvent;
+pub use law::{
+    legal_lists_reach_sound_states, output_is_a_front, sound_states_give_what_is_asked, sound_states_owe,
+    steps_keep_sound, the_opening_is_sound, trio_plans_are_flows,
+};
 pub use node::TrioNode;
 pub use worked::worked_rows;
