@@ -1,8 +1,12 @@
 pub mod BoundaryKept
 pub mod Bounds
 pub mod ControllerKept
+pub mod DrainInto
+pub mod DrainMoves
+pub mod DrainWhole
 pub mod Frame
 pub mod Laws
+pub mod Legal
 pub mod Names
 pub mod Pulled
 pub mod ReplicaKept

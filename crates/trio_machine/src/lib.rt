@@ -8,12 +8,14 @@
 #![tactic(auto)]
 
 mod body;
+mod drain_law;
 mod event;
 mod law;
 mod node;
 mod worked;
 
 pub use body::TrioBody;
+pub use drain_law::{drain_is_whole, lost_groups_are_found};
 pub use event::TrioEvent;
 pub use law::{
     legal_lists_reach_sound_states, output_is_a_front, sound_states_give_what_is_asked, sound_states_owe,
