@@ -74,24 +74,27 @@ received M to (x ∷ xs) h = go (is_node x.to to) (is_node-true x.to to) (receiv
     go true e k = (subst (λ n. M n x.message) (e refl) h.0, k)
     go false e k = k
 
+-- what all nodes and all that was sent meet is met after a step where its node and what that node sends meet it
+pub met : (N : TrioNode → Node → Type 0) (M : (from to : TrioNode) → Message → Type 0) (s : State) (n : TrioNode) (x : Node) (out : List Envelope)
+    → ((m : TrioNode) → N m (s.nodes m)) → ((from to : TrioNode) → Each (M from to) (s.sent from to)) → N n x → Each (λ (l : Envelope). M n l.to l.message) out
+    → ((m : TrioNode) → N m ((put n s x out).nodes m)) × ((from to : TrioNode) → Each (M from to) ((put n s x out).sent from to))
+met N M s n x out nodes sent at envelopes = (
+  (λ m. if_elim (N m) (is_node m n) x (s.nodes m) (λ e. subst (λ i. N i x) (sym (is_node-true m n e)) at) (λ e. nodes m)),
+  (λ from to. if_elim (Each (M from to)) (is_node from n) (s.sent from to ++ messages_to to out) (s.sent from to)
+      (λ e. each_append (M from to) (s.sent from to) (messages_to to out) (sent from to)
+      (subst (λ i. Each (M i to) (messages_to to out)) (sym (is_node-true from n e)) (received (M n) to out envelopes)))
+      (λ e. sent from to)),
+)
+
 pub put_sound : (f : Flow) (s : State) (n : TrioNode) (x : Node) (out : List Envelope) → Ahead (acked_of f s) (acked_of f (put n s x out)) (replicas_of s) (replicas_of (put n s x out)) → IsSound f s
     → IsSoundNode f (acked_of f (put n s x out)) (replicas_of (put n s x out)) n x → AreSound f (acked_of f (put n s x out)) (replicas_of (put n s x out)) n out → IsSound f (put n s x out)
-put_sound f s n x out up old at envelopes = record {
-  nodes = λ m. if_elim (IsSoundNode f k r m) (is_node m n) x (s.nodes m) (λ e. subst (λ i. IsSoundNode f k r i x) (sym (is_node-true m n e)) at) (λ e. node_wider f (acked_of f s) k (replicas_of s) r up m (s.nodes m) (old.nodes m));
-  sent = λ from to. if_elim (Each (IsSoundMessage f k r from to)) (is_node from n) (s.sent from to ++ messages_to to out) (s.sent from to)
-      (λ e. each_append (IsSoundMessage f k r from to) (s.sent from to) (messages_to to out) (stays from to)
-      (subst (λ i. Each (IsSoundMessage f k r i to) (messages_to to out)) (sym (is_node-true from n e)) (received (IsSoundMessage f k r n) to out envelopes)))
-      (λ e. stays from to);
-}
-  where
-    k : EdgeId → ℕ
-    k = acked_of f (put n s x out)
-
-    r : Partition → ℕ → Replica
-    r = replicas_of (put n s x out)
-
-    stays : (from to : TrioNode) → Each (IsSoundMessage f k r from to) (s.sent from to)
-    stays from to = each_map (IsSoundMessage f (acked_of f s) (replicas_of s) from to) (IsSoundMessage f k r from to) (message_wider f (acked_of f s) k (replicas_of s) r up from to) (s.sent from to) (old.sent from to)
+put_sound f s n x out up old at envelopes =
+    let k = acked_of f (put n s x out) in
+    let r = replicas_of (put n s x out) in
+    let z = met (IsSoundNode f k r) (IsSoundMessage f k r) s n x out
+    (λ m. node_wider f (acked_of f s) k (replicas_of s) r up m (s.nodes m) (old.nodes m))
+    (λ from to. each_map (IsSoundMessage f (acked_of f s) (replicas_of s) from to) (IsSoundMessage f k r from to) (message_wider f (acked_of f s) k (replicas_of s) r up from to) (s.sent from to) (old.sent from to)) at envelopes in
+    record { nodes = z.0; sent = z.1 }
 
 -- ---- what a node's step must not lower
 

@@ -12,6 +12,7 @@ pub mod Pulled
 pub mod ReplicaKept
 pub mod Sends
 pub mod Served
+pub mod SmallKept
 pub mod SoundKept
 pub mod Steps
 pub mod WorkedRows

@@ -12,5 +12,6 @@ pub mod Machine
 pub mod Messages
 pub mod Numbers
 pub mod Replicas
+pub mod Small
 pub mod Sound
 pub mod WorkedRows

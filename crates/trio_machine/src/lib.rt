@@ -12,6 +12,7 @@ mod drain_law;
 mod event;
 mod law;
 mod node;
+mod small_law;
 mod worked;
 
 pub use body::TrioBody;
@@ -22,4 +23,5 @@ pub use law::{
     steps_keep_sound, the_opening_is_sound, trio_plans_are_flows,
 };
 pub use node::TrioNode;
+pub use small_law::{numbers_fit, numbers_stay_small};
 pub use worked::worked_rows;
