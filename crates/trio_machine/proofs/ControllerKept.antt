@@ -11,7 +11,8 @@ use Rattle.pair_machine.specs.Numbers.{Partition, in_edge}
 use Rattle.pair_machine.proofs.Found.{FoundIn, first_found}
 use Rattle.pair_machine.proofs.Lists.{each_append}
 use Rattle.pair_machine.proofs.Tests.{if_elim}
-use Rattle.trio_machine.specs.Acknowledged.{ControllerAcks, HasTaken, MarkAtLeast}
+use Rattle.trio_machine.specs.Acknowledged.{ControllerAcks}
+use Rattle.trio_machine.specs.Reports.{IsRunning, KnowsItsReplicas, MarkAtLeast, OfReplica}
 use Rattle.trio_machine.specs.Controllers.{acks, acks_from, controller_hears, controller_takes, downed, goes_down, leads_now, least, least_below, least_with, named, reported}
 use Rattle.trio_machine.specs.Flow.{IsTrioFlow}
 use Rattle.trio_machine.specs.Links.{IsUp}
@@ -71,11 +72,11 @@ module _ (f : Flow) (ok : IsTrioFlow f) (k : EdgeId → ℕ) (r : Partition → 
   abbrev me : TrioNode
   me = node.Control s q
 
-  -- what the controller was reported is true
-  abbrev pub Reported : Controller → Type 0
-  Reported x = (c j : ℕ) → MarkAtLeast j (x.reports c j) (r p c)
+  -- what the controller knows is true
+  abbrev pub Knows : Controller → Type 0
+  Knows x = KnowsItsReplicas (r p) x
 
-  reported_true : (c j u : ℕ) (x : Controller) → MarkAtLeast j u (r p c) → Reported x → Reported (reported c j u x)
+  reported_true : (c j u : ℕ) (x : Controller) → MarkAtLeast j u (r p c) → ((d i : ℕ) → MarkAtLeast i (x.reports d i) (r p d)) → (d i : ℕ) → MarkAtLeast i ((reported c j u x).reports d i) (r p d)
   reported_true c j u x h old d i = if_elim (λ (g : ℕ → ℕ). MarkAtLeast i (g i) (r p d)) (d == c) (with_at (x.reports c) j (max (x.reports c j) u)) (x.reports d)
       (λ e. subst (λ w. MarkAtLeast i (with_at (x.reports c) j (max (x.reports c j) u) i) (r p w)) (sym (eqb-true d c e))
       (if_elim (λ v. MarkAtLeast i v (r p c)) (i == j) (max (x.reports c j) u) (x.reports c i)
@@ -99,43 +100,47 @@ module _ (f : Flow) (ok : IsTrioFlow f) (k : EdgeId → ℕ) (r : Partition → 
   record Heard (x : Controller) (d : Controller × List Envelope) : Type 0 where
     same : d.0.acked ≡ x.acked
     acks : ControllerAcks d.0
-    reports : Reported d.0
+    knows : Knows d.0
     sends : AreSound f k r me d.1
 
-  nothing : (x : Controller) → ControllerAcks x → Reported x → Heard x (x, [])
-  nothing x a b = record { same = refl; acks = a; reports = b; sends = tt }
+  nothing : (x : Controller) → ControllerAcks x → Knows x → Heard x (x, [])
+  nothing x a b = record { same = refl; acks = a; knows = b; sends = tt }
 
-  names : (x y : Controller) (o : Option ℕ) → FoundIn y.up group_size o → y.acked ≡ x.acked → ControllerAcks y → Reported y → Heard x (named p y o)
-  names x y None h e a b = record { same = e; acks = a; reports = b; sends = tt }
+  names : (x y : Controller) (o : Option ℕ) → FoundIn y.up group_size o → y.acked ≡ x.acked → ControllerAcks y → Knows y → Heard x (named p y o)
+  names x y None h e a b = record { same = e; acks = a; knows = record { reports = b.reports; up = b.up }; sends = tt }
   names x y (Some c) h e a b = record {
     same = e;
     acks = a;
-    reports = b;
+    knows = record { reports = b.reports; up = b.up };
     sends = (record { carried = record { sender = at; receiver = (at, h.1); carries = (refl, refl) }; bound = tt; lows = tt; reports = tt }, tt);
   }
 
-  downs : (c : ℕ) (x : Controller) → ControllerAcks x → Reported x → Heard x (goes_down p c x)
-  downs c x a b = if_elim (Heard x) (leads_now x.leader c) _ _
-      (λ e. names x (downed c x) (first_below (downed c x).up group_size) (first_found group_size (downed c x).up) refl (downed_acks c x a) b)
-      (λ e. record { same = refl; acks = downed_acks c x a; reports = b; sends = tt })
+  -- a replica that is gone may be held down
+  downed_knows : (c : ℕ) (x : Controller) → (IsRunning (r p c) → ⊥) → Knows x → Knows (downed c x)
+  downed_knows c x gone b = record { reports = b.reports; up = λ d run. if_elim (λ u. u ≡ true) (d == c) false (x.up d) (λ e. absurd (gone (subst (λ i. IsRunning (r p i)) (eqb-true d c e) run))) (λ e. b.up d run) }
 
-  -- a report comes from the replica that it is of
-  sender_took : (from : TrioNode) (j u : ℕ) → IsUp from me → HasTaken r j u from → MarkAtLeast j u (r p (copy_of from))
-  sender_took node.Ingress j u h t = absurd h
-  sender_took (node.Replica a b c) j u h t = subst₂ (λ v w. MarkAtLeast j u (r (partition v w) c)) h.0 h.1 t
-  sender_took (node.Control a b) j u h t = absurd h
-  sender_took node.Egress j u h t = absurd h
+  downs : (c : ℕ) (x : Controller) → (IsRunning (r p c) → ⊥) → ControllerAcks x → Knows x → Heard x (goes_down p c x)
+  downs c x gone a b = if_elim (Heard x) (leads_now x.leader c) _ _
+      (λ e. names x (downed c x) (first_below (downed c x).up group_size) (first_found group_size (downed c x).up) refl (downed_acks c x a) (downed_knows c x gone b))
+      (λ e. record { same = refl; acks = downed_acks c x a; knows = downed_knows c x gone b; sends = tt })
 
-  hears : (from : TrioNode) (m : Message) (x : Controller) → IsSoundMessage f k r from me m → ControllerAcks x → Reported x → Heard x (controller_hears p (copy_of from) m x)
+  -- what a replica tells its controller is of the group's own
+  of_sender : (P : Replica → Type 0) (from : TrioNode) → IsUp from me → OfReplica r P from → P (r p (copy_of from))
+  of_sender P node.Ingress h t = absurd h
+  of_sender P (node.Replica a b c) h t = subst₂ (λ v w. P (r (partition v w) c)) h.0 h.1 t
+  of_sender P (node.Control a b) h t = absurd h
+  of_sender P node.Egress h t = absurd h
+
+  hears : (from : TrioNode) (m : Message) (x : Controller) → IsSoundMessage f k r from me m → ControllerAcks x → Knows x → Heard x (controller_hears p (copy_of from) m x)
   hears from (Report e u) x h a b = if_elim (Heard x) (x.up (copy_of from)) _ _
       (λ z. record {
         same = refl;
         acks = reported_acks (copy_of from) e.from u x a;
-        reports = reported_true (copy_of from) e.from u x (sender_took from e.from u h.carried.carries.0 h.reports) b;
+        knows = record { reports = reported_true (copy_of from) e.from u x (of_sender (MarkAtLeast e.from u) from h.carried.carries.0 h.reports) b.reports; up = b.up };
         sends = tt;
       })
       (λ z. nothing x a b)
-  hears from Down x h a b = if_elim (Heard x) (x.up (copy_of from)) _ _ (λ z. downs (copy_of from) x a b) (λ z. nothing x a b)
+  hears from Down x h a b = if_elim (Heard x) (x.up (copy_of from)) _ _ (λ z. downs (copy_of from) x (of_sender (λ y. IsRunning y → ⊥) from h.carried.carries h.reports) a b) (λ z. nothing x a b)
   hears from message x h a b = nothing x a b
 
   -- ---- acknowledgements
@@ -155,17 +160,17 @@ module _ (f : Flow) (ok : IsTrioFlow f) (k : EdgeId → ℕ) (r : Partition → 
   pub record Took (x : Controller) (d : Controller × List Envelope) : Type 0 where
     pub rises : (i : ℕ) → x.acked i ≤ d.0.acked i
     pub acks : ControllerAcks d.0
-    pub reports : Reported d.0
+    pub knows : Knows d.0
     pub sends : ((i : ℕ) → d.0.acked i ≤ k (in_edge p i)) → AreSound f k r me d.1
 
-  pub controller_sound : (from : TrioNode) (m : Message) (x : Controller) → IsSoundMessage f k r from me m → ControllerAcks x → Reported x → Took x (controller_takes (f.sources s) p (copy_of from) m x)
+  pub controller_sound : (from : TrioNode) (m : Message) (x : Controller) → IsSoundMessage f k r from me m → ControllerAcks x → Knows x → Took x (controller_takes (f.sources s) p (copy_of from) m x)
   controller_sound from m x h a b =
       let heard = controller_hears p (copy_of from) m x in
       let g = hears from m x h a b in
       record {
         rises = λ i. let same = ap (λ (z : ℕ → ℕ). z i) g.same in omega arith;
         acks = after_acks heard.0 g.acks;
-        reports = g.reports;
+        knows = record { reports = g.knows.reports; up = g.knows.up };
         sends = λ top. each_append (λ (z : Envelope). IsSoundMessage f k r me z.to z.message) heard.1 (acks_from (f.sources s) 0 p heard.0) g.sends
             (acks_sound (f.sources s) 0 heard.0 (omega arith) (λ j. let l = top j in omega arith));
       }

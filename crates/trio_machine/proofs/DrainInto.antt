@@ -11,7 +11,8 @@ use Rattle.pair_machine.specs.Numbers.{Consumer, Partition, in_edge, ingress_edg
 use Rattle.pair_machine.specs.Replicas.{made_by}
 use Rattle.pair_machine.proofs.DrainSums.{marks_other, marks_self}
 use Rattle.pair_machine.proofs.Tests.{if_elim}
-use Rattle.trio_machine.specs.Acknowledged.{MarkAtLeast, acked_of, replicas_of}
+use Rattle.trio_machine.specs.Acknowledged.{acked_of}
+use Rattle.trio_machine.specs.Reports.{IsRunning, MarkAtLeast, replicas_of}
 use Rattle.trio_machine.specs.Boundary.{source_made}
 use Rattle.trio_machine.specs.Drain.{IsDrainEvent, consumer_in, drain_into, feeder, pulls_below, server}
 use Rattle.trio_machine.specs.Flow.{IsTrioFlow}
@@ -19,7 +20,7 @@ use Rattle.trio_machine.specs.Links.{HasEdge, HasNode, IsConsumer, IsThere}
 use Rattle.trio_machine.specs.Machine.{State, buffer_in, buffer_of, controller_in, ingress_in, put, replica_in, step}
 use Rattle.trio_machine.specs.Messages.{Pulls, Works}
 use Rattle.trio_machine.specs.Numbers.{Gone, Node, Replica, Running, control_at, group_size, part_of, replica_at}
-use Rattle.trio_machine.specs.Sound.{IsRunning, IsSound, LowAtMost, Serves}
+use Rattle.trio_machine.specs.Sound.{IsSound, LowAtMost, Serves}
 use Rattle.trio_machine.specs.declared.event.TrioEvent.{TrioEvent}
 use Rattle.trio_machine.specs.declared.event.TrioEvent.TheVariants as event
 use Rattle.trio_machine.specs.declared.node.TrioNode.{TrioNode}

@@ -18,7 +18,7 @@ use Rattle.trio_machine.specs.Machine.{State, act_of, acted, after, as_replica, 
 use Rattle.trio_machine.specs.Messages.{Act, Pulls, Refusal, Works}
 use Rattle.trio_machine.specs.Numbers.{EgressNode, Gone, Node, Replica, ReplicaNode, Running, is_node, part_of}
 use Rattle.trio_machine.specs.Replicas.{replica_pulls, replica_works}
-use Rattle.trio_machine.specs.Sound.{IsRunning}
+use Rattle.trio_machine.specs.Reports.{IsRunning}
 use Rattle.trio_machine.specs.declared.event.TrioEvent.{TrioEvent}
 use Rattle.trio_machine.specs.declared.event.TrioEvent.TheVariants as event
 use Rattle.trio_machine.specs.declared.node.TrioNode.{TrioNode}

@@ -17,7 +17,7 @@ use Rattle.pair_machine.proofs.Drain.{DrainFlow as PairDrainFlow}
 use Rattle.pair_machine.proofs.DrainWhole.{plan_drains as pair_drains}
 use Rattle.pair_machine.proofs.Lists.{each_append, each_left, each_right}
 use Rattle.pair_machine.proofs.Tests.{if_elim}
-use Rattle.trio_machine.specs.Acknowledged.{replicas_of}
+use Rattle.trio_machine.specs.Reports.{replicas_of}
 use Rattle.trio_machine.specs.Drain.{DrainIsWhole, IsEgressDone, IsEmptied, IsFirstLost, LostGroupsAreFound, consumer_in, drain, drain_events, drain_group, drain_groups, drain_into, feeder, first_lost, is_lost, pulls_below, server}
 use Rattle.trio_machine.specs.Flow.{IsTrioFlow, IsTrioPlan, trio_flow, with_replicas}
 use Rattle.trio_machine.specs.Machine.{State, at_node, does, egress_in, ingress_in, put, replica_in}

@@ -9,19 +9,21 @@ use Rattle.pair_machine.specs.Lists.{Each}
 use Rattle.pair_machine.specs.Numbers.{Partition, ingress_edge, out_edge}
 use Rattle.pair_machine.proofs.Lists.{each_append, each_map}
 use Rattle.pair_machine.proofs.Tests.{if_elim}
-use Rattle.trio_machine.specs.Acknowledged.{HasTaken, MarkAtLeast, MessageLows, MessageReports, NodeLows, NodeReports, ReplicaLows, acked_of, replicas_of}
+use Rattle.trio_machine.specs.Acknowledged.{MessageLows, NodeLows, ReplicaLows, acked_of}
+use Rattle.trio_machine.specs.Reports.{IsRunning, MarkAtLeast, MessageReports, NodeReports, OfReplica, replicas_of}
 use Rattle.trio_machine.specs.Machine.{State, changed, controller_in, egress_in, messages_to, put, replica_in}
-use Rattle.trio_machine.specs.Messages.{Ack, Envelope, Message, Report}
+use Rattle.trio_machine.specs.Messages.{Ack, Down, Envelope, Message, Report}
 use Rattle.trio_machine.specs.Numbers.{Gone, Node, Replica, Running, is_node}
 use Rattle.trio_machine.specs.Sound.{IsSound, IsSoundMessage, IsSoundNode}
 use Rattle.trio_machine.specs.declared.node.TrioNode.{TrioNode}
 use Rattle.trio_machine.specs.declared.node.TrioNode.TheVariants as node
 use Rattle.trio_machine.proofs.Names.{is_node-true}
 
--- what is acknowledged and the marks of those that run don't fall
+-- what is acknowledged and the marks of those that run don't fall, and none that is gone comes back
 pub record Ahead (k k_after : EdgeId → ℕ) (r r_after : Partition → ℕ → Replica) : Type 0 where
   pub acked : (e : EdgeId) → k e ≤ k_after e
   pub marks : (p : Partition) (c q j : ℕ) → MarkAtLeast q j (r p c) → MarkAtLeast q j (r_after p c)
+  pub gone : (p : Partition) (c : ℕ) → IsRunning (r_after p c) → IsRunning (r p c)
 
 module _ (f : Flow) (k k_after : EdgeId → ℕ) (r r_after : Partition → ℕ → Replica) (up : Ahead k k_after r r_after) where
   lows_wider : (x : Replica) (p : Partition) → ReplicaLows (λ t. k (out_edge p t)) x → ReplicaLows (λ t. k_after (out_edge p t)) x
@@ -37,7 +39,10 @@ module _ (f : Flow) (k k_after : EdgeId → ℕ) (r r_after : Partition → ℕ 
   node_reports_wider : (n : TrioNode) (x : Node) → NodeReports r n x → NodeReports r_after n x
   node_reports_wider node.Ingress x h = tt
   node_reports_wider (node.Replica s p c) x h = tt
-  node_reports_wider (node.Control s p) x h = λ c q. up.marks (partition s p) c q ((controller_in x).reports c q) (h c q)
+  node_reports_wider (node.Control s p) x h = record {
+    reports = λ c q. up.marks (partition s p) c q ((controller_in x).reports c q) (h.reports c q);
+    up = λ c run. h.up c (up.gone (partition s p) c run);
+  }
   node_reports_wider node.Egress x h = tt
 
   pub node_wider : (n : TrioNode) (x : Node) → IsSoundNode f k r n x → IsSoundNode f k_after r_after n x
@@ -47,14 +52,15 @@ module _ (f : Flow) (k k_after : EdgeId → ℕ) (r r_after : Partition → ℕ 
   message_lows_wider (Ack e j) h = let u = up.acked e in omega arith
   message_lows_wider m h = tt
 
-  taken_wider : (q j : ℕ) (from : TrioNode) → HasTaken r q j from → HasTaken r_after q j from
-  taken_wider q j node.Ingress h = tt
-  taken_wider q j (node.Replica s p c) h = up.marks (partition s p) c q j h
-  taken_wider q j (node.Control s p) h = tt
-  taken_wider q j node.Egress h = tt
+  of_replica_wider : (P : Replica → Type 0) → ((p : Partition) (c : ℕ) → P (r p c) → P (r_after p c)) → (from : TrioNode) → OfReplica r P from → OfReplica r_after P from
+  of_replica_wider P g node.Ingress h = tt
+  of_replica_wider P g (node.Replica s p c) h = g (partition s p) c h
+  of_replica_wider P g (node.Control s p) h = tt
+  of_replica_wider P g node.Egress h = tt
 
   message_reports_wider : (from : TrioNode) (m : Message) → MessageReports r from m → MessageReports r_after from m
-  message_reports_wider from (Report e j) h = taken_wider e.from j from h
+  message_reports_wider from (Report e j) h = of_replica_wider (MarkAtLeast e.from j) (λ p c. up.marks p c e.from j) from h
+  message_reports_wider from Down h = of_replica_wider (λ x. IsRunning x → ⊥) (λ p c none run. none (up.gone p c run)) from h
   message_reports_wider from m h = tt
 
   pub message_wider : (from to : TrioNode) (m : Message) → IsSoundMessage f k r from to m → IsSoundMessage f k_after r_after from to m
@@ -98,9 +104,13 @@ put_sound f s n x out up old at envelopes =
 
 -- ---- what a node's step must not lower
 
+pub record ReplicaRises (x y : Replica) : Type 0 where
+  pub marks : (q j : ℕ) → MarkAtLeast q j x → MarkAtLeast q j y
+  pub gone : IsRunning y → IsRunning x
+
 abbrev pub Rises : TrioNode → Node → Node → Type 0
 Rises node.Ingress x y = Unit {0}
-Rises (node.Replica s p c) x y = (q j : ℕ) → MarkAtLeast q j (replica_in x) → MarkAtLeast q j (replica_in y)
+Rises (node.Replica s p c) x y = ReplicaRises (replica_in x) (replica_in y)
 Rises (node.Control s p) x y = (q : ℕ) → (controller_in x).acked q ≤ (controller_in y).acked q
 Rises node.Egress x y = (q : ℕ) → (egress_in x).told q ≤ (egress_in y).told q
 
@@ -131,7 +141,14 @@ module _ (f : Flow) (s : State) where
   marks_rise node.Egress x out h p c q j m = m
   marks_rise (node.Control t i) x out h p c q j m = m
   marks_rise (node.Replica t i d) x out h p c q j m = if_elim (λ (n : Node). MarkAtLeast q j (replica_in n)) (is_node (node.Replica p.stage p.part c) (node.Replica t i d)) x (s.nodes (node.Replica p.stage p.part c))
-      (λ e. h q j (subst (λ n. MarkAtLeast q j (replica_in (s.nodes n))) (is_node-true (node.Replica p.stage p.part c) (node.Replica t i d) e) m)) (λ e. m)
+      (λ e. h.marks q j (subst (λ n. MarkAtLeast q j (replica_in (s.nodes n))) (is_node-true (node.Replica p.stage p.part c) (node.Replica t i d) e) m)) (λ e. m)
+
+  none_comes_back : (n : TrioNode) (x : Node) (out : List Envelope) → Rises n (s.nodes n) x → (p : Partition) (c : ℕ) → IsRunning (replicas_of (put n s x out) p c) → IsRunning (replicas_of s p c)
+  none_comes_back node.Ingress x out h p c run = run
+  none_comes_back node.Egress x out h p c run = run
+  none_comes_back (node.Control t i) x out h p c run = run
+  none_comes_back (node.Replica t i d) x out h p c run = if_elim (λ (n : Node). IsRunning (replica_in n) → IsRunning (replicas_of s p c)) (is_node (node.Replica p.stage p.part c) (node.Replica t i d)) x (s.nodes (node.Replica p.stage p.part c))
+      (λ e ran. subst (λ n. IsRunning (replica_in (s.nodes n))) (sym (is_node-true (node.Replica p.stage p.part c) (node.Replica t i d) e)) (h.gone ran)) (λ e ran. ran) run
 
   pub ahead : (n : TrioNode) (x : Node) (out : List Envelope) → Rises n (s.nodes n) x → Ahead (acked_of f s) (acked_of f (put n s x out)) (replicas_of s) (replicas_of (put n s x out))
-  ahead n x out h = record { acked = acked_rises n x out h; marks = marks_rise n x out h }
+  ahead n x out h = record { acked = acked_rises n x out h; marks = marks_rise n x out h; gone = none_comes_back n x out h }

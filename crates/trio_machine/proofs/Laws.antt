@@ -5,13 +5,14 @@ use Rattle.pair_machine.specs.Flow.{Flow, IsFlow}
 use Rattle.pair_machine.proofs.CountLaws.{in_order}
 use Rattle.pair_machine.proofs.Lists.{each_at}
 use Rattle.pair_machine.proofs.PlanFlow.{plan_is_flow}
-use Rattle.trio_machine.specs.Acknowledged.{acked_of, replicas_of}
+use Rattle.trio_machine.specs.Acknowledged.{acked_of}
+use Rattle.trio_machine.specs.Reports.{replicas_of}
 use Rattle.trio_machine.specs.Flow.{trio_flow}
-use Rattle.trio_machine.specs.Laws.{LegalListsReachSoundStates, OutputIsAFront, SoundStatesGiveWhatIsAsked, SoundStatesOwe, StepsKeepSound, TheOpeningIsSound, TrioPlansAreFlows}
+use Rattle.trio_machine.specs.Laws.{LegalListsReachSoundStates, LostGroupsAreGone, OutputIsAFront, SoundStatesGiveWhatIsAsked, SoundStatesOwe, StepsKeepSound, TheOpeningIsSound, TrioPlansAreFlows}
 use Rattle.trio_machine.specs.Machine.{egress_in}
 use Rattle.trio_machine.specs.Sound.{IsSound, IsSoundMessage}
 use Rattle.trio_machine.specs.declared.node.TrioNode.TheVariants as node
-use Rattle.trio_machine.proofs.SoundKept.{opening_sound, sound_always, sound_kept, sound_owed}
+use Rattle.trio_machine.proofs.SoundKept.{lost_are_gone, opening_sound, sound_always, sound_kept, sound_owed}
 use Rattle.trio_machine.proofs.Steps.{HoldsOnOk}
 
 -- how many replicas there are is nothing to a flow's other numbers
@@ -45,6 +46,9 @@ pub reached_is_sound : LegalListsReachSoundStates
 reached_is_sound plan inputs p es t legal =
     let sound = sound_always (trio_flow plan inputs) (trio_is_flow plan inputs p) es t legal.there legal.leads in
     record { sound = sound; owed = sound_owed (trio_flow plan inputs) t sound }
+
+pub lost_groups_are_gone : LostGroupsAreGone
+lost_groups_are_gone plan inputs p s sound q lost c there = lost_are_gone (trio_flow plan inputs) s sound q lost c there
 
 pub sound_gives : SoundStatesGiveWhatIsAsked
 sound_gives plan inputs p s sound = record {

@@ -2,16 +2,16 @@
 use Rattle.std.proofs.Common.{◌≡◌, ◌<◌, ◌≤◌, ℕ, List, Option, None, Some, Result, Ok, Err, ◌+◌, ◌-◌, refl, ap, sym, subst, arith}
 use Rattle.std.specs.Prelude.{nat_lt}
 use Rattle.tuple_edge.specs.declared.node.EdgeId.{EdgeId}
-use Rattle.pair_machine.specs.Consumers.{is_ready, untold}
+use Rattle.pair_machine.specs.Consumers.{is_ready, untold, telling, merged_one, pulled}
 use Rattle.pair_machine.specs.CountLaws.{IsOfStage}
 use Rattle.pair_machine.specs.Drain.{partition}
 use Rattle.pair_machine.specs.Flow.{Flow}
 use Rattle.pair_machine.specs.Numbers.{Partition, in_edge, out_edge}
-use Rattle.pair_machine.specs.Producers.{Due, due}
+use Rattle.pair_machine.specs.Producers.{Due, due, sent_on}
 use Rattle.pair_machine.specs.Replicas.{made_by}
 use Rattle.pair_machine.proofs.Found.{FoundIn, first_found}
 use Rattle.pair_machine.proofs.Tests.{if_elim}
-use Rattle.trio_machine.specs.Acknowledged.{MarkAtLeast}
+use Rattle.trio_machine.specs.Reports.{IsRunning, MarkAtLeast}
 use Rattle.trio_machine.specs.Flow.{IsTrioFlow}
 use Rattle.trio_machine.specs.Messages.{Ack, Act, Dies, Envelope, Lead, Makes, Message, Pulls, Refusal, Takes, Tuple, Works}
 use Rattle.trio_machine.specs.Numbers.{Gone, Replica, ReplicaNode, Running, RunningNumbers, group_size}
@@ -21,7 +21,7 @@ use Rattle.trio_machine.specs.declared.node.TrioNode.{TrioNode}
 use Rattle.trio_machine.specs.declared.node.TrioNode.TheVariants as node
 use Rattle.trio_machine.proofs.BoundaryKept.{TakesSound, edge_as}
 use Rattle.trio_machine.proofs.Bounds.{acked_bound, acked_lows, leading_bound, leading_lows, merged_bound, offered_bound, offered_marks, pulled_bound, pulled_marks, sent_bound, telling_bound}
-use Rattle.trio_machine.proofs.Frame.{AreSound}
+use Rattle.trio_machine.proofs.Frame.{AreSound, ReplicaRises}
 use Rattle.trio_machine.proofs.Sends.{due_is, due_sound}
 
 module _ (f : Flow) (ok : IsTrioFlow f) (k : EdgeId → ℕ) (r : Partition → ℕ → Replica) (s q c : ℕ) (at : IsOfStage f (partition s q)) (there : c < group_size) where
@@ -100,46 +100,50 @@ module _ (f : Flow) (ok : IsTrioFlow f) (k : EdgeId → ℕ) (r : Partition → 
   replica_sound Works x h g b = works_sound x b
   replica_sound Makes x h g b = tt
   replica_sound Dies Gone h g b = tt
-  replica_sound Dies (Running x) h g b = (gone_sound, λ is. (record { carried = record { sender = (at, there); receiver = at; carries = (refl, refl) }; bound = tt; lows = tt; reports = tt }, tt))
+  replica_sound Dies (Running x) h g b = (gone_sound, λ is. (record { carried = record { sender = (at, there); receiver = at; carries = (refl, refl) }; bound = tt; lows = tt; reports = λ run. subst IsRunning is run }, tt))
   replica_sound (Pulls j) Gone h g b = tt
   replica_sound (Pulls j) (Running x) h g b = let last = at.last in
       (record { bound = (pulled_bound f ok.flow p at.first (omega arith) x.consumer j (g x refl) b.bound.0, b.bound.1); lows = b.lows; reports = tt }, λ is. tt)
 
--- ---- marks
+-- ---- marks don't fall, and none that is gone comes back
 
-abbrev MarksRise : Replica → Replica → Type 0
-MarksRise x y = (q j : ℕ) → MarkAtLeast q j x → MarkAtLeast q j y
+abbrev pub RisesOk : Replica → Result (Replica × List Envelope) Refusal → Type 0
+RisesOk x (Ok d) = ReplicaRises x d.0
+RisesOk x (Err e) = Unit {0}
 
-abbrev pub MarksRiseOk : Replica → Result (Replica × List Envelope) Refusal → Type 0
-MarksRiseOk x (Ok d) = MarksRise x d.0
-MarksRiseOk x (Err e) = Unit {0}
+same_rises : (x : Replica) → ReplicaRises x x
+same_rises x = record { marks = λ q j h. h; gone = λ run. run }
 
-run_took_rises : (m : Message) (x : RunningNumbers) → MarksRise (Running x) (Running (run_takes m x))
-run_took_rises (Tuple e n) x q j h = let l = offered_marks x.consumer e.from n q in omega arith
-run_took_rises message x q j h = h
+run_rises : (x y : RunningNumbers) → ((q : ℕ) → x.consumer.marks q ≤ y.consumer.marks q) → ReplicaRises (Running x) (Running y)
+run_rises x y h = record { marks = λ q j m. let l = h q in omega arith; gone = λ run. tt }
 
-took_rises : (m : Message) (x : Replica) → MarksRise x (replica_takes m x)
-took_rises m Gone q j h = tt
-took_rises m (Running x) q j h = run_took_rises m x q j h
+run_took_rises : (m : Message) (x : RunningNumbers) (q : ℕ) → x.consumer.marks q ≤ (run_takes m x).consumer.marks q
+run_took_rises (Tuple e n) x q = offered_marks x.consumer e.from n q
+run_took_rises message x q = omega arith
+
+took_rises : (m : Message) (x : Replica) → ReplicaRises x (replica_takes m x)
+took_rises m Gone = same_rises Gone
+took_rises m (Running x) = run_rises x (run_takes m x) (run_took_rises m x)
 
 module _ (f : Flow) (p : Partition) where
-  reports_rises : (x : RunningNumbers) (o : Option ℕ) → MarksRiseOk (Running x) (reports f p x o)
+  reports_rises : (x : RunningNumbers) (o : Option ℕ) → RisesOk (Running x) (reports f p x o)
   reports_rises x None = tt
-  reports_rises x (Some i) = λ q j h. h
+  reports_rises x (Some i) = run_rises x (record x { consumer = telling x.consumer i }) (λ q. omega arith)
 
-  sends_rises : (x : RunningNumbers) (o : Option Due) → MarksRiseOk (Running x) (sends_or_reports f p x o)
-  sends_rises x (Some d) = λ q j h. h
+  sends_rises : (x : RunningNumbers) (o : Option Due) → RisesOk (Running x) (sends_or_reports f p x o)
+  sends_rises x (Some d) = run_rises x (record x { producer = sent_on x.producer d }) (λ q. omega arith)
   sends_rises x None = reports_rises x (untold f p x.consumer)
 
-  works_rises : (x : Replica) → MarksRiseOk x (replica_works f p x)
+  works_rises : (x : Replica) → RisesOk x (replica_works f p x)
   works_rises Gone = tt
-  works_rises (Running x) = if_elim (MarksRiseOk (Running x)) (is_ready f p x.consumer) _ _ (λ e. λ q j h. h) (λ e. sends_rises x (due f p (made_by f p x.consumer.count) x.producer))
+  works_rises (Running x) = if_elim (RisesOk (Running x)) (is_ready f p x.consumer) _ _ (λ e. run_rises x (record x { consumer = merged_one x.consumer }) (λ q. omega arith))
+      (λ e. sends_rises x (due f p (made_by f p x.consumer.count) x.producer))
 
-  pub replica_rises : (a : Act) (x : Replica) → MarksRiseOk x (replica_does f p a x)
+  pub replica_rises : (a : Act) (x : Replica) → RisesOk x (replica_does f p a x)
   replica_rises (Takes from m) x = took_rises m x
   replica_rises Works x = works_rises x
   replica_rises Makes x = tt
   replica_rises Dies Gone = tt
-  replica_rises Dies (Running x) = λ q j h. tt
+  replica_rises Dies (Running x) = record { marks = λ q j h. tt; gone = λ run. absurd run }
   replica_rises (Pulls i) Gone = tt
-  replica_rises (Pulls i) (Running x) = λ q j h. let l = pulled_marks x.consumer i q in omega arith
+  replica_rises (Pulls i) (Running x) = run_rises x (record x { consumer = pulled x.consumer i }) (pulled_marks x.consumer i)

@@ -5,11 +5,11 @@ use Rattle.std.specs.Option.{option_or}
 use Rattle.std.proofs.lemmas.Bool.{cases_lt, true≢false}
 use Rattle.pair_machine.specs.Consumers.{first_below}
 use Rattle.pair_machine.specs.Numbers.{Partition}
-use Rattle.trio_machine.specs.Acknowledged.{replicas_of}
+use Rattle.trio_machine.specs.Reports.{IsRunning, replicas_of}
 use Rattle.trio_machine.specs.Drain.{is_lost, is_running, is_serving, server}
 use Rattle.trio_machine.specs.Machine.{State, controller_in}
 use Rattle.trio_machine.specs.Numbers.{Gone, Replica, Running, control_at, group_size}
-use Rattle.trio_machine.specs.Sound.{IsLost, IsRunning, IsServed, Serves}
+use Rattle.trio_machine.specs.Sound.{IsLost, IsServed, Serves}
 use Rattle.pair_machine.proofs.Found.{FoundIn, first_found}
 use Rattle.pair_machine.proofs.Tests.{both}
 

@@ -1,5 +1,5 @@
 -- Every step keeps Sound, the opening has it, and it gives what takeover owes.
-use Rattle.std.proofs.Common.{◌≡◌, ◌≤◌, ◌<◌, ℕ, true, false, List, [], ◌∷◌, Result, Ok, Err, ◌+◌, ◌-◌, ap, subst, arith}
+use Rattle.std.proofs.Common.{◌≡◌, ◌≤◌, ◌<◌, ℕ, true, false, List, [], ◌∷◌, Result, Ok, Err, ◌+◌, ◌-◌, ap, subst, arith, refl, sym}
 use Rattle.std.specs.Prelude.{◌==◌, if◌then◌else◌}
 use Rattle.std.proofs.lemmas.Bool.{eq-eqb}
 use Rattle.tuple_edge.specs.declared.node.EdgeId.{EdgeId}
@@ -13,7 +13,8 @@ use Rattle.pair_machine.specs.Machine.{new_consumer}
 use Rattle.pair_machine.specs.Numbers.{Consumer, Partition, in_edge, out_edge}
 use Rattle.pair_machine.proofs.Lists.{each_at}
 use Rattle.pair_machine.proofs.Tests.{nat_not, nat_self}
-use Rattle.trio_machine.specs.Acknowledged.{MarkAtLeast, ReplicaLows, acked_of, replicas_of}
+use Rattle.trio_machine.specs.Acknowledged.{ReplicaLows, acked_of}
+use Rattle.trio_machine.specs.Reports.{IsRunning, MarkAtLeast, replicas_of}
 use Rattle.trio_machine.specs.Boundary.{egress_does, ingress_does}
 use Rattle.trio_machine.specs.Controllers.{controller_takes}
 use Rattle.trio_machine.specs.Flow.{IsTrioFlow}
@@ -22,7 +23,7 @@ use Rattle.trio_machine.specs.Machine.{Leads, State, after, as_egress, as_ingres
 use Rattle.trio_machine.specs.Messages.{Act, Envelope, Pulls, Refusal, Takes}
 use Rattle.trio_machine.specs.Numbers.{Controller, ControllerNode, EgressNode, Gone, Ingress, IngressNode, Node, Replica, ReplicaNode, Running, control_at, copy_of, group_size, replica_at}
 use Rattle.trio_machine.specs.Replicas.{replica_does}
-use Rattle.trio_machine.specs.Sound.{IsOwed, IsSound, IsSoundMessage, IsSoundNode, LowAtMost}
+use Rattle.trio_machine.specs.Sound.{IsLost, IsOwed, IsSound, IsSoundMessage, IsSoundNode, LowAtMost}
 use Rattle.trio_machine.specs.declared.event.TrioEvent.{TrioEvent}
 use Rattle.trio_machine.specs.declared.node.TrioNode.{TrioNode}
 use Rattle.trio_machine.specs.declared.node.TrioNode.TheVariants as node
@@ -31,7 +32,7 @@ use Rattle.trio_machine.proofs.ControllerKept.{controller_sound}
 use Rattle.trio_machine.proofs.Frame.{Ahead, ahead, message_wider, node_wider, put_sound}
 use Rattle.trio_machine.proofs.Names.{node_self}
 use Rattle.trio_machine.proofs.Pulled.{egress_pulled, replica_pulled}
-use Rattle.trio_machine.proofs.ReplicaKept.{MarksRiseOk, PullFits, ReplicaOk, replica_rises, replica_sound}
+use Rattle.trio_machine.proofs.ReplicaKept.{PullFits, ReplicaOk, RisesOk, replica_rises, replica_sound}
 use Rattle.trio_machine.proofs.Steps.{HoldsOnOk, IsPulled, WasSent, step_by}
 
 pub put_there : (n : TrioNode) (s : State) (x : Node) (out : List Envelope) → (put n s x out).nodes n ≡ x
@@ -83,7 +84,7 @@ module _ (f : Flow) (ok : IsTrioFlow f) (s : State) (old : IsSound f s) where
       x : Replica
       x = replica_in (s.nodes (node.Replica t q c))
 
-      go : (d : Result (Replica × List Envelope) Refusal) → ((k : EdgeId → ℕ) (r : Partition → ℕ → Replica) → Wider k r → ReplicaOk f ok k r t q c h.0 h.1 d) → MarksRiseOk x d
+      go : (d : Result (Replica × List Envelope) Refusal) → ((k : EdgeId → ℕ) (r : Partition → ℕ → Replica) → Wider k r → ReplicaOk f ok k r t q c h.0 h.1 d) → RisesOk x d
           → HoldsOnOk (IsSound f) (after (node.Replica t q c) s (as_replica d))
       go (Err e) g rises = tt
       go (Ok d) g rises =
@@ -113,7 +114,7 @@ module _ (f : Flow) (ok : IsTrioFlow f) (s : State) (old : IsSound f s) where
       let up = ahead f s me (ControllerNode d.0) d.1 first.rises in
       let b = at_node_wider me (acked_of f now) (replicas_of now) up in
       let z = controller_sound f ok (acked_of f now) (replicas_of now) t q at from m x (taken me (Takes from m) sent (acked_of f now) (replicas_of now) up) b.lows b.reports in
-      put_sound f s me (ControllerNode d.0) d.1 up old (record { bound = tt; lows = z.acks; reports = z.reports }) (z.sends (controller_top t q d.0 d.1 at))
+      put_sound f s me (ControllerNode d.0) d.1 up old (record { bound = tt; lows = z.acks; reports = record { reports = z.knows.reports; up = z.knows.up } }) (z.sends (controller_top t q d.0 d.1 at))
   controller_kept t q a at sent = tt
 
   -- ---- egress
@@ -163,7 +164,7 @@ opening_sound f ok = record { nodes = nodes; sent = λ from to. tt }
     nodes : (n : TrioNode) → IsSoundNode f (acked_of f opening) (replicas_of opening) n (opening.nodes n)
     nodes node.Ingress = record { bound = (omega arith, record { above = λ t c. omega arith }); lows = λ t. omega arith; reports = tt }
     nodes (node.Replica s p c) = record { bound = (consumer (partition s p), record { above = λ t d. omega arith }); lows = λ t. omega arith; reports = tt }
-    nodes (node.Control s p) = record { bound = tt; lows = λ q c l up. omega arith; reports = λ c q. omega arith }
+    nodes (node.Control s p) = record { bound = tt; lows = λ q c l up. omega arith; reports = record { reports = λ c q. omega arith; up = λ c run. refl } }
     nodes node.Egress = record { bound = consumer (egress_partition f); lows = tt; reports = tt }
 
 -- ---- lists
@@ -198,6 +199,18 @@ sound_owed f s sound = record {
   producers = λ p c t at. low_of t (λ t. acked_of f s (out_edge p t)) (replicas_of s p c) (sound.nodes (replica_at p c)).lows;
   consumers = λ p c q at there counted. rw (in_edge_acked f s p q at.first at.last)
       (mark_less q ((controller_in (s.nodes (control_at p))).acked q) ((controller_in (s.nodes (control_at p))).reports c q) (replicas_of s p c)
-      ((sound.nodes (control_at p)).lows q c there counted) ((sound.nodes (control_at p)).reports c q));
+      ((sound.nodes (control_at p)).lows q c there counted) ((sound.nodes (control_at p)).reports.reports c q));
   egress = λ q. let z : (f.stages == f.stages) ≡ true = nat_self f.stages in let t = (sound.nodes node.Egress).bound.told q in simp z t;
 }
+
+-- ---- who is gone
+
+-- a group is lost only where all its replicas are gone
+pub lost_are_gone : (f : Flow) (s : State) → IsSound f s → (p : Partition) → IsLost s p → (c : ℕ) → c < group_size → replicas_of s p c ≡ Gone
+lost_are_gone f s sound p lost c there = go (replicas_of s p c) refl
+  where
+    go : (r : Replica) → replicas_of s p c ≡ r → r ≡ Gone
+    go Gone e = refl
+    go (Running x) e =
+        let run : IsRunning (replicas_of s p c) = subst IsRunning (sym e) tt in
+        absurd (lost (c, record { there = there; running = run; counted = (sound.nodes (control_at p)).reports.up c run }))

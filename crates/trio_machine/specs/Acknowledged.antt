@@ -1,6 +1,5 @@
--- What is acknowledged: at most what each replica that is up reported, and no producer or message is beyond it; and reports are true: they
--- are at most the marks of the replicas that gave them. What is acknowledged never falls, and neither do the marks of a replica that runs,
--- so what a message said of them stays true.
+-- What is acknowledged: at most what each replica that is up reported, and no producer or message is beyond it. What is acknowledged never
+-- falls, so what a message said of it stays true.
 use Rattle.std.specs.Prelude.{◌≡◌, ◌≤◌, ◌<◌, ℕ, true, ◌+◌, ◌==◌, if◌then◌else◌}
 use Rattle.tuple_edge.specs.declared.node.EdgeId.{EdgeId}
 use Rattle.pair_machine.specs.Drain.{partition}
@@ -11,8 +10,6 @@ use Rattle.trio_machine.specs.Messages.{Message, Ack, Report}
 use Rattle.trio_machine.specs.Numbers.{Replica, Gone, Running, Controller, Node, group_size, replica_at}
 use Rattle.trio_machine.specs.declared.node.TrioNode.{TrioNode}
 use Rattle.trio_machine.specs.declared.node.TrioNode.TheVariants as node
-
--- ---- acknowledged
 
 -- up to which number an edge is acknowledged: by the controller of its consumers, or by what egress told
 abbrev pub acked_of : Flow → State → EdgeId → ℕ
@@ -37,33 +34,3 @@ NodeLows acked node.Egress x = Unit {0}
 abbrev pub MessageLows : (EdgeId → ℕ) → Message → Type 0
 MessageLows acked (Ack e k) = k ≤ acked e
 MessageLows acked m = Unit {0}
-
--- ---- reported
-
--- the replicas of all groups
-abbrev pub replicas_of : State → Partition → ℕ → Replica
-replicas_of s p c = replica_in (s.nodes (replica_at p c))
-
--- the mark of a replica that runs is at least k
-abbrev pub MarkAtLeast : ℕ → ℕ → Replica → Type 0
-MarkAtLeast q k Gone = Unit {0}
-MarkAtLeast q k (Running x) = k ≤ x.consumer.marks q
-
--- what a controller was reported of a replica, the replica has taken
-abbrev pub NodeReports : (Partition → ℕ → Replica) → TrioNode → Node → Type 0
-NodeReports replicas node.Ingress x = Unit {0}
-NodeReports replicas (node.Replica s p c) x = Unit {0}
-NodeReports replicas (node.Control s p) x = (c q : ℕ) → MarkAtLeast q ((controller_in x).reports c q) (replicas (partition s p) c)
-NodeReports replicas node.Egress x = Unit {0}
-
--- a replica that runs has taken the items of in-edge q up to k
-abbrev pub HasTaken : (Partition → ℕ → Replica) → ℕ → ℕ → TrioNode → Type 0
-HasTaken replicas q k node.Ingress = Unit {0}
-HasTaken replicas q k (node.Replica s p c) = MarkAtLeast q k (replicas (partition s p) c)
-HasTaken replicas q k (node.Control s p) = Unit {0}
-HasTaken replicas q k node.Egress = Unit {0}
-
--- what is reported, its sender has taken
-abbrev pub MessageReports : (Partition → ℕ → Replica) → TrioNode → Message → Type 0
-MessageReports replicas from (Report e k) = HasTaken replicas e.from k from
-MessageReports replicas from m = Unit {0}

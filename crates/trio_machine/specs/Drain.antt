@@ -12,12 +12,12 @@ use Rattle.pair_machine.specs.Lists.{Each}
 use Rattle.pair_machine.specs.Machine.{new_consumer}
 use Rattle.pair_machine.specs.Numbers.{Consumer, Partition}
 use Rattle.pair_machine.specs.Output.{output}
-use Rattle.trio_machine.specs.Acknowledged.{replicas_of}
 use Rattle.trio_machine.specs.Flow.{IsTrioPlan, trio_flow}
 use Rattle.trio_machine.specs.Legal.{IsLegalFrom}
 use Rattle.trio_machine.specs.Machine.{State, controller_in, egress_in, ingress_in, replica_in, step}
 use Rattle.trio_machine.specs.Messages.{Refusal}
 use Rattle.trio_machine.specs.Numbers.{Replica, Gone, Running, Node, control_at, group_size, replica_at}
+use Rattle.trio_machine.specs.Reports.{replicas_of}
 use Rattle.trio_machine.specs.Sound.{IsLost, IsServed, IsSound}
 use Rattle.trio_machine.specs.declared.event.TrioEvent.{TrioEvent}
 use Rattle.trio_machine.specs.declared.event.TrioEvent.TheVariants as event

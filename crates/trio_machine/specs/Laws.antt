@@ -1,10 +1,11 @@
 -- What holds of the machine of groups, for every plan of one source within its limits, all inputs and every list of events.
-use Rattle.std.specs.Prelude.{◌≡◌, ◌≤◌, List, Ok, length, take}
+use Rattle.std.specs.Prelude.{◌≡◌, ◌≤◌, List, Ok, length, take, ℕ, ◌<◌}
 use Rattle.tuple_edge.specs.Input.{Input}
 use Rattle.plan_reader.specs.PlanView.{PlanView}
 use Rattle.pair_machine.specs.Boundary.{egress_partition}
 use Rattle.pair_machine.specs.CountLaws.{output_first}
 use Rattle.pair_machine.specs.Lists.{Among}
+use Rattle.pair_machine.specs.Numbers.{Partition}
 use Rattle.pair_machine.specs.Output.{output}
 use Rattle.trio_machine.specs.Asked.{TakenAsks}
 use Rattle.trio_machine.specs.Flow.{IsTrioFlow, IsTrioPlan, trio_flow}
@@ -13,7 +14,9 @@ use Rattle.trio_machine.specs.Lengths.{NodeBound}
 use Rattle.trio_machine.specs.Links.{IsThere}
 use Rattle.trio_machine.specs.Machine.{State, egress_in, opening, step}
 use Rattle.trio_machine.specs.Messages.{Message}
-use Rattle.trio_machine.specs.Sound.{IsOwed, IsSound}
+use Rattle.trio_machine.specs.Numbers.{Gone, group_size}
+use Rattle.trio_machine.specs.Reports.{replicas_of}
+use Rattle.trio_machine.specs.Sound.{IsLost, IsOwed, IsSound}
 use Rattle.trio_machine.specs.declared.event.TrioEvent.{TrioEvent}
 use Rattle.trio_machine.specs.declared.node.TrioNode.{TrioNode}
 use Rattle.trio_machine.specs.declared.node.TrioNode.TheVariants as node
@@ -51,6 +54,10 @@ pub record GivesWhatIsAsked (plan : PlanView) (inputs : List Input) (s : State) 
 
 abbrev pub SoundStatesGiveWhatIsAsked : Type 0
 SoundStatesGiveWhatIsAsked = (plan : PlanView) (inputs : List Input) → IsTrioPlan plan → (s : State) → IsSound (trio_flow plan inputs) s → GivesWhatIsAsked plan inputs s
+
+-- a group is lost only where all its replicas are gone: it survives two failures
+abbrev pub LostGroupsAreGone : Type 0
+LostGroupsAreGone = (plan : PlanView) (inputs : List Input) → IsTrioPlan plan → (s : State) → IsSound (trio_flow plan inputs) s → (p : Partition) → IsLost s p → (c : ℕ) → c < group_size → replicas_of s p c ≡ Gone
 
 -- ---- the output
 

@@ -12,6 +12,7 @@ pub mod Machine
 pub mod Messages
 pub mod Numbers
 pub mod Replicas
+pub mod Reports
 pub mod Small
 pub mod Sound
 pub mod WorkedRows

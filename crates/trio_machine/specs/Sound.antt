@@ -7,23 +7,24 @@ use Rattle.pair_machine.specs.CountLaws.{IsOfStage}
 use Rattle.pair_machine.specs.Flow.{Flow}
 use Rattle.pair_machine.specs.Lists.{Each}
 use Rattle.pair_machine.specs.Numbers.{Partition, in_edge, ingress_edge, out_edge}
-use Rattle.trio_machine.specs.Acknowledged.{MarkAtLeast, MessageLows, MessageReports, NodeLows, NodeReports, acked_of, replicas_of}
+use Rattle.trio_machine.specs.Acknowledged.{MessageLows, NodeLows, acked_of}
 use Rattle.trio_machine.specs.Lengths.{MessageBound, NodeBound}
 use Rattle.trio_machine.specs.Links.{IsCarried}
 use Rattle.trio_machine.specs.Machine.{State, controller_in, egress_in, ingress_in}
 use Rattle.trio_machine.specs.Messages.{Message}
+use Rattle.trio_machine.specs.Reports.{IsRunning, MarkAtLeast, MessageReports, NodeReports, replicas_of}
 use Rattle.trio_machine.specs.Numbers.{Replica, Gone, Running, Node, control_at, group_size}
 use Rattle.trio_machine.specs.declared.node.TrioNode.{TrioNode}
 use Rattle.trio_machine.specs.declared.node.TrioNode.TheVariants as node
 
--- a node's numbers are within the lengths, its lows and acknowledgements are at most what is acknowledged and reported, and what was
--- reported to it is true
+-- a node's numbers are within the lengths, its lows and acknowledgements are at most what is acknowledged and reported, and what it knows
+-- of replicas is true
 pub record IsSoundNode (f : Flow) (acked : EdgeId → ℕ) (replicas : Partition → ℕ → Replica) (n : TrioNode) (x : Node) : Type 0 where
   pub bound : NodeBound f n x
   pub lows : NodeLows acked n x
   pub reports : NodeReports replicas n x
 
--- a message stands where it may, its number is within the lengths and at most what is acknowledged, and what it reports is true
+-- a message stands where it may, its number is within the lengths and at most what is acknowledged, and what it tells is true
 pub record IsSoundMessage (f : Flow) (acked : EdgeId → ℕ) (replicas : Partition → ℕ → Replica) (from to : TrioNode) (m : Message) : Type 0 where
   pub carried : IsCarried f from to m
   pub bound : MessageBound f m
@@ -54,10 +55,6 @@ pub record IsOwed (f : Flow) (s : State) : Type 0 where
   pub egress : (q : ℕ) → acked_of f s (egress_edge f q) ≤ (egress_in (s.nodes node.Egress)).marks q
 
 -- ---- counted and lost
-
-abbrev pub IsRunning : Replica → Type 0
-IsRunning Gone = ⊥
-IsRunning (Running x) = Unit {0}
 
 -- replica c of a group serves where it runs and is counted
 pub record Serves (s : State) (p : Partition) (c : ℕ) : Type 0 where

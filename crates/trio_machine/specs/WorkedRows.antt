@@ -4,7 +4,7 @@ use Rattle.std.specs.Prelude.{◌≡◌, ℕ, Bool, true, false, List, [], ◌�
 use Rattle.pair_machine.specs.Drain.{pairs_up_to, partition}
 use Rattle.pair_machine.specs.Flow.{Flow}
 use Rattle.pair_machine.specs.WorkedRows.{edge_from, totals, totals_of_totals, trades}
-use Rattle.trio_machine.specs.Acknowledged.{replicas_of}
+use Rattle.trio_machine.specs.Reports.{replicas_of}
 use Rattle.trio_machine.specs.Drain.{drain, first_lost}
 use Rattle.trio_machine.specs.Flow.{IsTrioPlan, trio_flow}
 use Rattle.trio_machine.specs.Machine.{State, controller_in, follow, opening, step}

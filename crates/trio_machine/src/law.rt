@@ -1,5 +1,5 @@
 // What holds of the machine of groups, as contracts of functions that do nothing.
-ghost use Rattle.trio_machine.specs.Laws.{LegalListsReachSoundStates, OutputIsAFront, SoundStatesGiveWhatIsAsked, SoundStatesOwe, StepsKeepSound, TheOpeningIsSound, TrioPlansAreFlows};
+ghost use Rattle.trio_machine.specs.Laws.{LegalListsReachSoundStates, LostGroupsAreGone, OutputIsAFront, SoundStatesGiveWhatIsAsked, SoundStatesOwe, StepsKeepSound, TheOpeningIsSound, TrioPlansAreFlows};
 
 /// The numbers of a plan of one source are those of a flow of groups of three.
 #[tactic(auto, using(crate::proofs::Laws::trio_is_flow))]
@@ -34,6 +34,12 @@ pub fn legal_lists_reach_sound_states()
 #[tactic(auto, using(crate::proofs::Laws::sound_gives))]
 pub fn sound_states_give_what_is_asked()
     ensures { SoundStatesGiveWhatIsAsked }
+{}
+
+/// In a sound state a group is lost only where all three of its replicas are gone.
+#[tactic(auto, using(crate::proofs::Laws::lost_groups_are_gone))]
+pub fn lost_groups_are_gone()
+    ensures { LostGroupsAreGone }
 {}
 
 /// After every legal list the rows that egress has merged are the first rows of the output.

@@ -19,7 +19,7 @@ pub use body::TrioBody;
 pub use drain_law::{drain_is_whole, lost_groups_are_found};
 pub use event::TrioEvent;
 pub use law::{
-    legal_lists_reach_sound_states, output_is_a_front, sound_states_give_what_is_asked, sound_states_owe,
+    legal_lists_reach_sound_states, lost_groups_are_gone, output_is_a_front, sound_states_give_what_is_asked, sound_states_owe,
     steps_keep_sound, the_opening_is_sound, trio_plans_are_flows,
 };
 pub use node::TrioNode;
