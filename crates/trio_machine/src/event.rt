@@ -1,0 +1,28 @@
+// What happens at the nodes of groups of three.
+use crate::node::TrioNode;
+
+/// One step at one node.
+#[derive(Clone, Copy, Debug, PartialEq, Eq)]
+pub enum TrioEvent {
+    /// A node takes the packet that another one sent to it at this place, from 1.
+    Take {
+        from: TrioNode,
+        to: TrioNode,
+        index: u64,
+    },
+    /// A node does the first piece of work that is due.
+    Work {
+        node: TrioNode,
+    },
+    /// Ingress makes the next input, or the end, into items.
+    Make,
+    /// A replica fails.
+    Kill {
+        node: TrioNode,
+    },
+    /// The next item of an edge goes straight from one node's buffer to another node.
+    Pull {
+        from: TrioNode,
+        to: TrioNode,
+    },
+}
