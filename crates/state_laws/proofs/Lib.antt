@@ -1,0 +1,2 @@
+pub mod FromEntries
+pub mod OfBoth
