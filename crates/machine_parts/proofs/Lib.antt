@@ -1,0 +1,3 @@
+pub mod PartsKept
+pub mod SafePairsKept
+pub mod Turned
