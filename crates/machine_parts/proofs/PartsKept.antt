@@ -7,19 +7,21 @@ use Rattle.pair_machine.specs.Lengths.{IsWithinLengths}
 use Rattle.pair_machine.specs.Links.{AreBetweenNodes, AreOnTheirLinks}
 use Rattle.pair_machine.specs.Machine.{State}
 use Rattle.pair_machine.specs.Numbers.{Partition}
-use Rattle.pair_machine.specs.Pairs.{AreIncarnationsInOrder, AreReportsTrue, IsOneMove, IsPairSound, Side}
+use Rattle.pair_machine.specs.Pairs.{AreCatchingCovered, AreCountedCovered, AreIncarnationsInOrder, AreReportsTrue, IsOneMove, Side}
 use Rattle.pair_machine.specs.Sound.{IsSound}
 use Rattle.pair_machine.proofs.AcknowledgedKept.{acked_kept}
+use Rattle.pair_machine.proofs.CatchingKept.{keep_catching_there}
+use Rattle.pair_machine.proofs.CountedKept.{keep_counted, keep_counted_there}
 use Rattle.pair_machine.proofs.LengthsKept.{bound_kept}
 use Rattle.pair_machine.proofs.LinksKept.{carried_kept}
 use Rattle.pair_machine.proofs.MovesKept.{keep_mover, keep_received}
 use Rattle.pair_machine.proofs.NodesKept.{between_nodes_kept}
-use Rattle.pair_machine.proofs.PairKept.{keep_turns}
 use Rattle.pair_machine.proofs.PlanFlow.{plan_is_flow}
 use Rattle.pair_machine.proofs.ReportsKept.{keep_reports, keep_reports_there}
 use Rattle.pair_machine.proofs.StepTurns.{HoldsOnOk}
 use Rattle.pair_machine.proofs.Turns.{Turn}
 use Rattle.machine_parts.specs.Parts.{AcknowledgingIsKept, BothWays, CatchingIsKept, CountingIsKept, HasAllParts, IncarnationsAreKept, LengthsAreKept, LinksAreKept, MovesAreKept, NodesAreKept, ReportsAreKept, SoundIsItsParts}
+use Rattle.machine_parts.proofs.CatchingTurns.{catching_turn}
 use Rattle.machine_parts.proofs.Turned.{gone_anyhow, incarnations_turn, turned, turns_keep}
 
 -- ---- the parts that speak of one node or message at a time
@@ -67,27 +69,29 @@ pub moves_kept : MovesAreKept
 moves_kept plan inputs h s t e there uses part done = λ p l.
     (turns_keep (WithMoves (flow_of plan inputs) p) (λ kill stop a b x y turn k. moves_turn turn k) (λ a b k. (turned AreIncarnationsInOrder a b k.0, turned (IsOneMove (flow_of plan inputs) p) a b k.1)) (gone_anyhow (flow_of plan inputs) s t e there uses.0 done p) (uses.1 p l, part p l)).1
 
+-- with the incarnations and the reports
+abbrev WithCovered : Side → Side → Type 0
+WithCovered a b = WithReports a b × BothWays AreCountedCovered a b × BothWays AreCatchingCovered a b
+
+covered_turn : {f : Flow} {p : Partition} {kill stop : Bool} {a b x y : Side} → Turn f p kill stop a b x y → WithCovered a b → WithCovered x y
+covered_turn t h =
+    let n = h.0.0 in
+    (reports_turn t h.0, (keep_counted t n.0 h.0.1.0 h.2.1 h.1.0, keep_counted_there t h.1.1), (keep_catching_there t n.0 h.2.0, catching_turn t n.0 n.1 h.1.1 h.2.1))
+
+covered_round : (a b : Side) → WithCovered a b → WithCovered b a
+covered_round a b k = ((turned AreIncarnationsInOrder a b k.0.0, turned AreReportsTrue a b k.0.1), turned AreCountedCovered a b k.1, turned AreCatchingCovered a b k.2)
+
 pub counting_kept : CountingIsKept
 counting_kept plan inputs h s t e there uses part done = λ p l.
-    let before : IsPairSound (flow_of plan inputs) p _ _ = record {
-      first = record { incarnations = (uses.1 p l).0; reports = (uses.2 p l).0; counted = (part p l).0; moves = (uses.3 p l).0; catching = (uses.4 p l).0 };
-      second = record { incarnations = (uses.1 p l).1; reports = (uses.2 p l).1; counted = (part p l).1; moves = (uses.3 p l).1; catching = (uses.4 p l).1 };
-    } in
-    let now = keep_turns (gone_anyhow (flow_of plan inputs) s t e there uses.0 done p) before in
-    (now.first.counted, now.second.counted)
+    (turns_keep WithCovered (λ kill stop a b x y turn k. covered_turn turn k) covered_round (gone_anyhow (flow_of plan inputs) s t e there uses.0 done p) ((uses.1 p l, uses.2 p l), part p l, uses.3 p l)).1
 
 pub catching_kept : CatchingIsKept
 catching_kept plan inputs h s t e there uses part done = λ p l.
-    let before : IsPairSound (flow_of plan inputs) p _ _ = record {
-      first = record { incarnations = (uses.1 p l).0; reports = (uses.2 p l).0; counted = (uses.4 p l).0; moves = (uses.3 p l).0; catching = (part p l).0 };
-      second = record { incarnations = (uses.1 p l).1; reports = (uses.2 p l).1; counted = (uses.4 p l).1; moves = (uses.3 p l).1; catching = (part p l).1 };
-    } in
-    let now = keep_turns (gone_anyhow (flow_of plan inputs) s t e there uses.0 done p) before in
-    (now.first.catching, now.second.catching)
+    (turns_keep WithCovered (λ kill stop a b x y turn k. covered_turn turn k) covered_round (gone_anyhow (flow_of plan inputs) s t e there uses.0 done p) ((uses.1 p l, uses.2 p l), uses.3 p l, part p l)).2
 
 -- ---- all parts
 
-parts_of : (f : Flow) (s : State) → IsSound f s → HasAllParts f s
+pub parts_of : (f : Flow) (s : State) → IsSound f s → HasAllParts f s
 parts_of f s h = record {
   nodes = h.ends;
   links = h.carried;

@@ -88,10 +88,9 @@ ReportsAreKept = IsKept (λ f s. AreOnTheirLinks f s × IncarnationsAreInOrder f
 abbrev pub MovesAreKept : Type 0
 MovesAreKept = IsKept (λ f s. AreOnTheirLinks f s × IncarnationsAreInOrder f s) MovesAreOne
 
--- counted reports, and those of a newcomer, are covered: either uses the other, links, incarnations, reports and moves; neither uses the
--- nodes, the lengths or what is acknowledged
+-- counted reports, and those of a newcomer, are covered: either uses the other, the links, the incarnations and the reports
 abbrev pub CountingIsKept : Type 0
-CountingIsKept = IsKept (λ f s. AreOnTheirLinks f s × IncarnationsAreInOrder f s × ReportsAreTrue f s × MovesAreOne f s × CatchingAreCovered f s) CountedAreCovered
+CountingIsKept = IsKept (λ f s. AreOnTheirLinks f s × IncarnationsAreInOrder f s × ReportsAreTrue f s × CatchingAreCovered f s) CountedAreCovered
 
 abbrev pub CatchingIsKept : Type 0
-CatchingIsKept = IsKept (λ f s. AreOnTheirLinks f s × IncarnationsAreInOrder f s × ReportsAreTrue f s × MovesAreOne f s × CountedAreCovered f s) CatchingAreCovered
+CatchingIsKept = IsKept (λ f s. AreOnTheirLinks f s × IncarnationsAreInOrder f s × ReportsAreTrue f s × CountedAreCovered f s) CatchingAreCovered

@@ -9,13 +9,14 @@ use Rattle.tuple_edge.specs.declared.status.Status.TheVariants as status
 use Rattle.plan_reader.specs.PlanView.{IsPlan, PlanView}
 use Rattle.pair_machine.specs.Controllers.{is_down}
 use Rattle.pair_machine.specs.Counts.{flow_of}
+use Rattle.pair_machine.specs.Legal.{HoldsThroughout, IsLegal}
 use Rattle.pair_machine.specs.Links.{AreOnTheirLinks, IsThere}
 use Rattle.pair_machine.specs.Lists.{Among}
 use Rattle.pair_machine.specs.Machine.{State, opening, step}
 use Rattle.pair_machine.specs.Messages.{AskStop, Caught, Down, Stop}
 use Rattle.pair_machine.specs.Numbers.{Partition, other, replica_at}
 use Rattle.pair_machine.specs.Pairs.{Side, side_of}
-use Rattle.pair_machine.specs.Scripts.{IsAllowed, IsSafe}
+use Rattle.pair_machine.specs.Scripts.{AreWithin, IsAllowed, IsSafe}
 use Rattle.pair_machine.specs.Sound.{IsRunning, IsServed}
 use Rattle.pair_machine.specs.declared.order.Order.{Order}
 use Rattle.machine_parts.specs.Parts.{IncarnationsAreInOrder}
@@ -73,3 +74,8 @@ SafePairsStaySafe = (plan : PlanView) (inputs : List Input) → IsPlan plan → 
 abbrev pub SafePairsAreServed : Type 0
 SafePairsAreServed = (plan : PlanView) (inputs : List Input) → IsPlan plan → (script : List Order) → IsSafe script → (s : State)
     → IncarnationsAreInOrder (flow_of plan inputs) s → ArePairsSafe script s → (p : Partition) → 1 ≤ p.stage → IsServed s p
+
+-- so they hold in every state along a legal list of events within a safe script
+abbrev pub SafePairsHoldThroughout : Type 0
+SafePairsHoldThroughout = (plan : PlanView) (inputs : List Input) → IsPlan plan → (script : List Order) → IsSafe script → (es : List Event) (t : State) → IsLegal (flow_of plan inputs) es t
+    → AreWithin (flow_of plan inputs) script es → HoldsThroughout (flow_of plan inputs) (ArePairsSafe script) es

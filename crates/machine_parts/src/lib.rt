@@ -14,4 +14,6 @@ pub use part_law::{
     lengths_are_kept, links_are_kept, moves_are_kept, nodes_are_kept, reports_are_kept,
     sound_is_its_parts,
 };
-pub use safe_law::{opening_pairs_are_safe, safe_pairs_are_served, safe_pairs_stay_safe};
+pub use safe_law::{
+    opening_pairs_are_safe, safe_pairs_are_served, safe_pairs_hold_throughout, safe_pairs_stay_safe,
+};

@@ -41,14 +41,14 @@ pub fn moves_are_kept()
     ensures { MovesAreKept }
 {}
 
-/// That counted reports are covered is kept where incarnations are in order, reports are true, there
-/// is one move for a target, and a newcomer's reports are covered.
+/// That counted reports are covered is kept where incarnations are in order, reports are true, and a
+/// newcomer's reports are covered.
 pub fn counting_is_kept()
     ensures { CountingIsKept }
 {}
 
 /// That a newcomer's reports are covered is kept where incarnations are in order, reports are true,
-/// there is one move for a target, and counted reports are covered.
+/// and counted reports are covered.
 pub fn catching_is_kept()
     ensures { CatchingIsKept }
 {}

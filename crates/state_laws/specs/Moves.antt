@@ -23,8 +23,8 @@ parts_of es = chunks_above 0 es ++ moved.End (length es) ∷ []
 
 -- ---- calls
 
--- The beginning of a move for a target, of what a consumer and a producer hold, with the operator's state watched just before it or just
--- after it; a call of `next`; a step of the state.
+-- The beginning of a move for a target, of what a consumer and a producer hold, where the operator's state is watched, and its entries
+-- counted, with no step between; a call of `next`; a step of the state.
 pub data Call : Type 0 where
   Begins : (target : ℕ) → (merge : MergeView) → (producer : ProducerView) → Call
   Nexts : Call
@@ -51,6 +51,7 @@ mover_after None old = None
 mover_after (Some m) None = Some m
 mover_after (Some m) (Some old) = Some (after_next m old)
 
+-- what calls make of them: the state has the entries of its items at each moment, and a watch keeps those of its beginning
 abbrev pub after_call : OpSpec → Moving → Call → Moving
 after_call spec x (Begins target merge producer) =
     record { items = x.items; old = Some (entries spec x.items); mover = Some (begun target (fixed_part merge producer) (length (entries spec x.items))) }
@@ -61,12 +62,12 @@ abbrev pub after_calls : OpSpec → Moving → List Call → Moving
 after_calls spec x [] = x
 after_calls spec x (call ∷ calls) = after_calls spec (after_call spec x call) calls
 
+-- the parts that calls give, in order
 abbrev pub given_by : Moving → Call → List Moved
 given_by x (Begins target merge producer) = []
 given_by x Nexts = option_to_list (next_of x.mover x.old)
 given_by x (Steps i) = []
 
--- the parts that calls give, in order
 abbrev pub given : OpSpec → Moving → List Call → List Moved
 given spec x [] = []
 given spec x (call ∷ calls) = given_by x call ++ given spec (after_call spec x call) calls
