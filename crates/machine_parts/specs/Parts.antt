@@ -1,0 +1,96 @@
+-- The parts of soundness, and which of them each part's keeping uses: from any state in which a part and those that it uses hold, a
+-- step leads to one in which the part holds.
+use Rattle.std.specs.Prelude.{◌≡◌, ◌≤◌, ◌↔◌, List, Ok}
+use Rattle.tuple_edge.specs.Input.{Input}
+use Rattle.tuple_edge.specs.declared.event.Event.{Event}
+use Rattle.tuple_edge.specs.declared.node.Which.TheVariants.{A, B}
+use Rattle.plan_reader.specs.PlanView.{IsPlan, PlanView}
+use Rattle.pair_machine.specs.Acknowledged.{IsAckedAtMostReported}
+use Rattle.pair_machine.specs.Counts.{flow_of}
+use Rattle.pair_machine.specs.Flow.{Flow}
+use Rattle.pair_machine.specs.Lengths.{IsWithinLengths}
+use Rattle.pair_machine.specs.Links.{AreBetweenNodes, AreOnTheirLinks, IsThere}
+use Rattle.pair_machine.specs.Machine.{State, step}
+use Rattle.pair_machine.specs.Numbers.{Partition}
+use Rattle.pair_machine.specs.Pairs.{AreCatchingCovered, AreCountedCovered, AreIncarnationsInOrder, AreReportsTrue, IsOneMove, Side, side_of}
+use Rattle.pair_machine.specs.Sound.{IsSound}
+
+-- a fact on one side of a pair and the other, both ways
+abbrev pub BothWays : (Side → Side → Type 0) → Side → Side → Type 0
+BothWays P a b = P a b × P b a
+
+-- it holds of every pair
+abbrev pub InPairs : (Partition → Side → Side → Type 0) → State → Type 0
+InPairs P s = (p : Partition) → 1 ≤ p.stage → BothWays (P p) (side_of s p A) (side_of s p B)
+
+-- the parts that speak of pairs
+abbrev pub IncarnationsAreInOrder : Flow → State → Type 0
+IncarnationsAreInOrder f s = InPairs (λ p a b. AreIncarnationsInOrder a b) s
+
+abbrev pub ReportsAreTrue : Flow → State → Type 0
+ReportsAreTrue f s = InPairs (λ p a b. AreReportsTrue a b) s
+
+abbrev pub CountedAreCovered : Flow → State → Type 0
+CountedAreCovered f s = InPairs (λ p a b. AreCountedCovered a b) s
+
+abbrev pub MovesAreOne : Flow → State → Type 0
+MovesAreOne f s = InPairs (IsOneMove f) s
+
+abbrev pub CatchingAreCovered : Flow → State → Type 0
+CatchingAreCovered f s = InPairs (λ p a b. AreCatchingCovered a b) s
+
+-- all parts
+pub record HasAllParts (f : Flow) (s : State) : Type 0 where
+  pub nodes : AreBetweenNodes f s
+  pub links : AreOnTheirLinks f s
+  pub lengths : IsWithinLengths f s
+  pub incarnations : IncarnationsAreInOrder f s
+  pub reports : ReportsAreTrue f s
+  pub acknowledged : IsAckedAtMostReported f s
+  pub counted : CountedAreCovered f s
+  pub catching : CatchingAreCovered f s
+  pub moves : MovesAreOne f s
+
+-- these are all that makes a state sound
+abbrev pub SoundIsItsParts : Type 0
+SoundIsItsParts = (f : Flow) (s : State) → IsSound f s ↔ HasAllParts f s
+
+-- where a step leads from a state that has the part and what it uses, the part holds again
+abbrev pub IsKept : (Flow → State → Type 0) → (Flow → State → Type 0) → Type 0
+IsKept uses part = (plan : PlanView) (inputs : List Input) → IsPlan plan → (s t : State) (e : Event) → IsThere (flow_of plan inputs) e
+    → uses (flow_of plan inputs) s → part (flow_of plan inputs) s → step (flow_of plan inputs) s e ≡ Ok t → part (flow_of plan inputs) t
+
+-- nothing else is used
+abbrev pub Nothing : Flow → State → Type 0
+Nothing f s = Unit {0}
+
+-- messages go between nodes of the plan, and stand on links that carry them: either is kept by itself
+abbrev pub NodesAreKept : Type 0
+NodesAreKept = IsKept Nothing AreBetweenNodes
+
+abbrev pub LinksAreKept : Type 0
+LinksAreKept = IsKept Nothing AreOnTheirLinks
+
+-- numbers are within lengths, what is acknowledged is at most reported, and incarnations are in order: each uses the links alone
+abbrev pub LengthsAreKept : Type 0
+LengthsAreKept = IsKept AreOnTheirLinks IsWithinLengths
+
+abbrev pub AcknowledgingIsKept : Type 0
+AcknowledgingIsKept = IsKept AreOnTheirLinks IsAckedAtMostReported
+
+abbrev pub IncarnationsAreKept : Type 0
+IncarnationsAreKept = IsKept AreOnTheirLinks IncarnationsAreInOrder
+
+-- reports are true, and there is one move for a target: either uses the links and the incarnations
+abbrev pub ReportsAreKept : Type 0
+ReportsAreKept = IsKept (λ f s. AreOnTheirLinks f s × IncarnationsAreInOrder f s) ReportsAreTrue
+
+abbrev pub MovesAreKept : Type 0
+MovesAreKept = IsKept (λ f s. AreOnTheirLinks f s × IncarnationsAreInOrder f s) MovesAreOne
+
+-- counted reports, and those of a newcomer, are covered: either uses the other, the links, the incarnations and the reports
+abbrev pub CountingIsKept : Type 0
+CountingIsKept = IsKept (λ f s. AreOnTheirLinks f s × IncarnationsAreInOrder f s × ReportsAreTrue f s × CatchingAreCovered f s) CountedAreCovered
+
+abbrev pub CatchingIsKept : Type 0
+CatchingIsKept = IsKept (λ f s. AreOnTheirLinks f s × IncarnationsAreInOrder f s × ReportsAreTrue f s × CountedAreCovered f s) CatchingAreCovered

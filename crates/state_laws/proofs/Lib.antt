@@ -1,0 +1,3 @@
+pub mod FromEntries
+pub mod MovesKept
+pub mod OfBoth
