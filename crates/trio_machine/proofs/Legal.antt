@@ -3,8 +3,8 @@ use Rattle.std.proofs.Common.{◌≡◌, ◌≢◌, Bool, true, false, List, [],
 use Rattle.std.specs.Prelude.{if◌then◌else◌}
 use Rattle.pair_machine.specs.Flow.{Flow}
 use Rattle.pair_machine.specs.Lists.{Each}
-use Rattle.pair_machine.proofs.Lists.{each_append}
-use Rattle.trio_machine.specs.Legal.{IsLegalFrom}
+use Rattle.pair_machine.proofs.Lists.{each_append, each_left, each_right}
+use Rattle.trio_machine.specs.Legal.{IsLegalFrom, ListsGoOn}
 use Rattle.trio_machine.specs.Links.{IsThere}
 use Rattle.trio_machine.specs.Machine.{Leads, State, act_of, acted, after, at_node, changed, does, follow, put, step}
 use Rattle.trio_machine.specs.Messages.{Act, Envelope, Refusal}
@@ -24,6 +24,22 @@ follow_append f (x ∷ xs) ys (Err e) = sym (follow_err f ys e)
 
 pub legal_join : (f : Flow) (s m t : State) (xs ys : List TrioEvent) → IsLegalFrom f s xs m → IsLegalFrom f m ys t → IsLegalFrom f s (xs ++ ys) t
 legal_join f s m t xs ys a b = record { there = each_append (IsThere f) xs ys a.there b.there; leads = follow_append f xs ys (Ok s) ∙ (ap (follow f ys) a.leads ∙ b.leads) }
+
+legal_split : (f : Flow) (s t : State) (xs ys : List TrioEvent) → IsLegalFrom f s (xs ++ ys) t → (m : State) × IsLegalFrom f s xs m × IsLegalFrom f m ys t
+legal_split f s t xs ys h = go (follow f xs (Ok s)) refl
+  where
+    through : follow f ys (follow f xs (Ok s)) ≡ Ok t
+    through = sym (follow_append f xs ys (Ok s)) ∙ h.leads
+
+    go : (r : Result State Refusal) → follow f xs (Ok s) ≡ r → (m : State) × IsLegalFrom f s xs m × IsLegalFrom f m ys t
+    go (Ok m) q = (m, record { there = each_left (IsThere f) xs ys h.there; leads = q }, record { there = each_right (IsThere f) xs ys h.there; leads = ap (follow f ys) (sym q) ∙ through })
+    go (Err x) q = let z : Err x ≡ Ok t = sym (follow_err f ys x) ∙ (ap (follow f ys) (sym q) ∙ through) in absurd (let y : ⊥ = cc z in y)
+
+one_end : (f : Flow) (s t u : State) (es : List TrioEvent) → IsLegalFrom f s es t → IsLegalFrom f s es u → t ≡ u
+one_end f s t u es a b = let z : Ok t ≡ Ok u = sym a.leads ∙ b.leads in cc z
+
+pub go_on : ListsGoOn
+go_on f = record { joined = legal_join f; split = legal_split f; one_end = one_end f }
 
 -- ---- nodes at which no event is
 
