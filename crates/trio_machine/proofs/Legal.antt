@@ -13,7 +13,7 @@ use Rattle.trio_machine.specs.declared.event.TrioEvent.{TrioEvent}
 use Rattle.trio_machine.specs.declared.node.TrioNode.{TrioNode}
 use Rattle.trio_machine.proofs.Names.{is_node-true}
 
-follow_err : (f : Flow) (es : List TrioEvent) (x : Refusal) → follow f es (Err x) ≡ Err x
+pub follow_err : (f : Flow) (es : List TrioEvent) (x : Refusal) → follow f es (Err x) ≡ Err x
 follow_err f [] x = refl
 follow_err f (e ∷ es) x = refl
 
@@ -25,7 +25,7 @@ follow_append f (x ∷ xs) ys (Err e) = sym (follow_err f ys e)
 pub legal_join : (f : Flow) (s m t : State) (xs ys : List TrioEvent) → IsLegalFrom f s xs m → IsLegalFrom f m ys t → IsLegalFrom f s (xs ++ ys) t
 legal_join f s m t xs ys a b = record { there = each_append (IsThere f) xs ys a.there b.there; leads = follow_append f xs ys (Ok s) ∙ (ap (follow f ys) a.leads ∙ b.leads) }
 
-legal_split : (f : Flow) (s t : State) (xs ys : List TrioEvent) → IsLegalFrom f s (xs ++ ys) t → (m : State) × IsLegalFrom f s xs m × IsLegalFrom f m ys t
+pub legal_split : (f : Flow) (s t : State) (xs ys : List TrioEvent) → IsLegalFrom f s (xs ++ ys) t → (m : State) × IsLegalFrom f s xs m × IsLegalFrom f m ys t
 legal_split f s t xs ys h = go (follow f xs (Ok s)) refl
   where
     through : follow f ys (follow f xs (Ok s)) ≡ Ok t
@@ -35,7 +35,7 @@ legal_split f s t xs ys h = go (follow f xs (Ok s)) refl
     go (Ok m) q = (m, record { there = each_left (IsThere f) xs ys h.there; leads = q }, record { there = each_right (IsThere f) xs ys h.there; leads = ap (follow f ys) (sym q) ∙ through })
     go (Err x) q = let z : Err x ≡ Ok t = sym (follow_err f ys x) ∙ (ap (follow f ys) (sym q) ∙ through) in absurd (let y : ⊥ = cc z in y)
 
-one_end : (f : Flow) (s t u : State) (es : List TrioEvent) → IsLegalFrom f s es t → IsLegalFrom f s es u → t ≡ u
+pub one_end : (f : Flow) (s t u : State) (es : List TrioEvent) → IsLegalFrom f s es t → IsLegalFrom f s es u → t ≡ u
 one_end f s t u es a b = let z : Ok t ≡ Ok u = sym a.leads ∙ b.leads in cc z
 
 pub go_on : ListsGoOn
@@ -50,7 +50,7 @@ changed_elsewhere n m x nodes apart = go (is_node m n) (is_node-true m n)
     go true same = absurd (apart (same refl))
     go false same = refl
 
-at_one_node : (f : Flow) (s t : State) (e : TrioEvent) → step f s e ≡ Ok t → (n : TrioNode) → n ≢ at_node e → t.nodes n ≡ s.nodes n
+pub at_one_node : (f : Flow) (s t : State) (e : TrioEvent) → step f s e ≡ Ok t → (n : TrioNode) → n ≢ at_node e → t.nodes n ≡ s.nodes n
 unfolding step
 at_one_node f s t e done n apart = by_act (act_of f s e) done
   where
