@@ -52,8 +52,7 @@ module _ (f : Flow) (ok : IsTrioFlow f) (k : EdgeId → ℕ) (r : Partition → 
   ingress_sent x None e c = tt
   ingress_sent x (Some d) e c =
       let is = due_is f (ingress_source 0) (source_made f x) x.producer d e in
-      let l = c.bound.1.above d.to d.copy in let most = ok.flow.makes_most 0 d.to x.makes in
-      (
+      let l = c.bound.1.above d.to d.copy in let most = ok.flow.makes_most 0 d.to x.makes in (
         record { bound = (c.bound.0, sent_bound x.producer d is.1 c.bound.1); lows = c.lows; reports = tt },
         due_sound f ok k r (ingress_source 0) node.Ingress (source_made f x) x.producer d (omega arith) tt (refl, refl) e (omega (arith, is.1), omega (arith, is.2)),
       )

@@ -275,7 +275,7 @@ as_trio f h trio = record {
   makes_whole = λ t. h.makes_whole 0 t (let only = trio.one_source in omega arith);
 }
 
-trio_drains : (plan : PlanView) (inputs : List Input) → IsTrioPlan plan → DrainFlow (trio_flow plan inputs)
+pub trio_drains : (plan : PlanView) (inputs : List Input) → IsTrioPlan plan → DrainFlow (trio_flow plan inputs)
 trio_drains plan inputs p = as_trio (flow_of plan inputs) (pair_drains plan inputs p.within) (trio_is_flow plan inputs p)
 
 pub drain_whole : DrainIsWhole

@@ -3,20 +3,18 @@ use Rattle.std.proofs.Common.{refl, subst}
 use Rattle.pair_machine.specs.Counts.{flow_of}
 use Rattle.pair_machine.specs.Flow.{Flow, IsFlow}
 use Rattle.pair_machine.proofs.CountLaws.{in_order}
-use Rattle.pair_machine.proofs.Lists.{each_at}
 use Rattle.pair_machine.proofs.PlanFlow.{plan_is_flow}
-use Rattle.trio_machine.specs.Acknowledged.{acked_of}
-use Rattle.trio_machine.specs.Reports.{replicas_of}
 use Rattle.trio_machine.specs.Flow.{trio_flow}
 use Rattle.trio_machine.specs.Laws.{LegalListsReachSoundStates, LostGroupsAreGone, OutputIsAFront, SoundStatesGiveWhatIsAsked, SoundStatesOwe, StepsKeepSound, TheOpeningIsSound, TrioPlansAreFlows}
+use Rattle.trio_machine.specs.Messages.{Takes}
 use Rattle.trio_machine.specs.Machine.{egress_in}
-use Rattle.trio_machine.specs.Sound.{IsSound, IsSoundMessage}
+use Rattle.trio_machine.specs.Sound.{IsSound}
 use Rattle.trio_machine.specs.declared.node.TrioNode.TheVariants as node
-use Rattle.trio_machine.proofs.SoundKept.{lost_are_gone, opening_sound, sound_always, sound_kept, sound_owed}
+use Rattle.trio_machine.proofs.SoundKept.{lost_are_gone, opening_sound, sound_always, sound_asks, sound_kept, sound_owed}
 use Rattle.trio_machine.proofs.Steps.{HoldsOnOk}
 
 -- how many replicas there are is nothing to a flow's other numbers
-as_trio : (f : Flow) → IsFlow f → IsFlow (record f { replicas = 3 })
+pub as_trio : (f : Flow) → IsFlow f → IsFlow (record f { replicas = 3 })
 as_trio f h = record {
   some_stage = h.some_stage;
   first_sources = h.first_sources;
@@ -53,10 +51,7 @@ lost_groups_are_gone plan inputs p s sound q lost c there = lost_are_gone (trio_
 pub sound_gives : SoundStatesGiveWhatIsAsked
 sound_gives plan inputs p s sound = record {
   nodes = λ n. (sound.nodes n).bound;
-  messages = λ n from m among.
-      let f = trio_flow plan inputs in
-      let h = each_at (IsSoundMessage f (acked_of f s) (replicas_of s) from n) m (s.sent from n) among (sound.sent from n) in
-      record { carried = h.carried; bound = h.bound };
+  messages = λ n from m among. (sound_asks (trio_flow plan inputs) s n (Takes from m) sound among).1;
 }
 
 pub output_is_a_front : OutputIsAFront

@@ -3,8 +3,8 @@ use Rattle.std.proofs.Common.{◌≡◌, ◌≢◌, Bool, true, false, List, [],
 use Rattle.std.specs.Prelude.{if◌then◌else◌}
 use Rattle.pair_machine.specs.Flow.{Flow}
 use Rattle.pair_machine.specs.Lists.{Each}
-use Rattle.pair_machine.proofs.Lists.{each_append}
-use Rattle.trio_machine.specs.Legal.{IsLegalFrom}
+use Rattle.pair_machine.proofs.Lists.{each_append, each_left, each_right}
+use Rattle.trio_machine.specs.Legal.{IsLegalFrom, ListsGoOn}
 use Rattle.trio_machine.specs.Links.{IsThere}
 use Rattle.trio_machine.specs.Machine.{Leads, State, act_of, acted, after, at_node, changed, does, follow, put, step}
 use Rattle.trio_machine.specs.Messages.{Act, Envelope, Refusal}
@@ -13,7 +13,7 @@ use Rattle.trio_machine.specs.declared.event.TrioEvent.{TrioEvent}
 use Rattle.trio_machine.specs.declared.node.TrioNode.{TrioNode}
 use Rattle.trio_machine.proofs.Names.{is_node-true}
 
-follow_err : (f : Flow) (es : List TrioEvent) (x : Refusal) → follow f es (Err x) ≡ Err x
+pub follow_err : (f : Flow) (es : List TrioEvent) (x : Refusal) → follow f es (Err x) ≡ Err x
 follow_err f [] x = refl
 follow_err f (e ∷ es) x = refl
 
@@ -25,6 +25,22 @@ follow_append f (x ∷ xs) ys (Err e) = sym (follow_err f ys e)
 pub legal_join : (f : Flow) (s m t : State) (xs ys : List TrioEvent) → IsLegalFrom f s xs m → IsLegalFrom f m ys t → IsLegalFrom f s (xs ++ ys) t
 legal_join f s m t xs ys a b = record { there = each_append (IsThere f) xs ys a.there b.there; leads = follow_append f xs ys (Ok s) ∙ (ap (follow f ys) a.leads ∙ b.leads) }
 
+pub legal_split : (f : Flow) (s t : State) (xs ys : List TrioEvent) → IsLegalFrom f s (xs ++ ys) t → (m : State) × IsLegalFrom f s xs m × IsLegalFrom f m ys t
+legal_split f s t xs ys h = go (follow f xs (Ok s)) refl
+  where
+    through : follow f ys (follow f xs (Ok s)) ≡ Ok t
+    through = sym (follow_append f xs ys (Ok s)) ∙ h.leads
+
+    go : (r : Result State Refusal) → follow f xs (Ok s) ≡ r → (m : State) × IsLegalFrom f s xs m × IsLegalFrom f m ys t
+    go (Ok m) q = (m, record { there = each_left (IsThere f) xs ys h.there; leads = q }, record { there = each_right (IsThere f) xs ys h.there; leads = ap (follow f ys) (sym q) ∙ through })
+    go (Err x) q = let z : Err x ≡ Ok t = sym (follow_err f ys x) ∙ (ap (follow f ys) (sym q) ∙ through) in absurd (let y : ⊥ = cc z in y)
+
+pub one_end : (f : Flow) (s t u : State) (es : List TrioEvent) → IsLegalFrom f s es t → IsLegalFrom f s es u → t ≡ u
+one_end f s t u es a b = let z : Ok t ≡ Ok u = sym a.leads ∙ b.leads in cc z
+
+pub go_on : ListsGoOn
+go_on f = record { joined = legal_join f; split = legal_split f; one_end = one_end f }
+
 -- ---- nodes at which no event is
 
 changed_elsewhere : (n m : TrioNode) (x : Node) (nodes : TrioNode → Node) → m ≢ n → changed n x nodes m ≡ nodes m
@@ -34,7 +50,7 @@ changed_elsewhere n m x nodes apart = go (is_node m n) (is_node-true m n)
     go true same = absurd (apart (same refl))
     go false same = refl
 
-at_one_node : (f : Flow) (s t : State) (e : TrioEvent) → step f s e ≡ Ok t → (n : TrioNode) → n ≢ at_node e → t.nodes n ≡ s.nodes n
+pub at_one_node : (f : Flow) (s t : State) (e : TrioEvent) → step f s e ≡ Ok t → (n : TrioNode) → n ≢ at_node e → t.nodes n ≡ s.nodes n
 unfolding step
 at_one_node f s t e done n apart = by_act (act_of f s e) done
   where

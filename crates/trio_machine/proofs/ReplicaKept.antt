@@ -63,22 +63,23 @@ module _ (f : Flow) (ok : IsTrioFlow f) (k : EdgeId → ℕ) (r : Partition → 
   reports_sound : (x : RunningNumbers) (o : Option ℕ) → FoundIn (λ j. nat_lt (x.consumer.told j) (x.consumer.marks j)) (f.sources s) o → SoundReplica (Running x) → ReplicaOk (reports f p x o)
   reports_sound x None h b = tt
   reports_sound x (Some j) h b =
-      let last = at.last in let first = at.first in
-      (
+      let last = at.last in let first = at.first in (
         record { bound = (telling_bound f ok.flow p at.first (omega arith) x.consumer j b.bound.0, b.bound.1); lows = b.lows; reports = tt },
-        λ is. (record {
-          carried = record { sender = (at, there); receiver = at; carries = ((refl, refl), (omega arith, refl, h.1)) };
-          bound = tt;
-          lows = tt;
-          reports = subst (MarkAtLeast j (x.consumer.marks j)) (sym is) (let l : x.consumer.marks j ≤ x.consumer.marks j = omega arith in l);
-        }, tt),
+        λ is. (
+          record {
+            carried = record { sender = (at, there); receiver = at; carries = ((refl, refl), (omega arith, refl, h.1)) };
+            bound = tt;
+            lows = tt;
+            reports = subst (MarkAtLeast j (x.consumer.marks j)) (sym is) (let l : x.consumer.marks j ≤ x.consumer.marks j = omega arith in l);
+          },
+          tt,
+        ),
       )
 
   sends_sound : (x : RunningNumbers) (o : Option Due) → due f p (made_by f p x.consumer.count) x.producer ≡ o → SoundReplica (Running x) → ReplicaOk (sends_or_reports f p x o)
   sends_sound x (Some d) e b =
       let is = due_is f p (made_by f p x.consumer.count) x.producer d e in
-      let l = b.bound.1.above d.to d.copy in let most = ok.flow.made_most p d.to x.consumer.count at.first at.last at.part in
-      (
+      let l = b.bound.1.above d.to d.copy in let most = ok.flow.made_most p d.to x.consumer.count at.first at.last at.part in (
         record { bound = (b.bound.0, sent_bound x.producer d is.1 b.bound.1); lows = b.lows; reports = tt },
         λ same. due_sound f ok k r p me (made_by f p x.consumer.count) x.producer d at.last (at, there) (at.first, refl, refl) e (omega (arith, is.1), omega (arith, is.2)),
       )

@@ -37,8 +37,7 @@ module _ (f : Flow) (ok : IsTrioFlow f) (k : EdgeId → ℕ) (r : Partition → 
           let far : p.stage ≢ f.stages = λ y. (let w = eq-eqb p.stage f.stages y in cc) in
           let next_stage : p.stage + 2 ≡ p.stage + 1 + 1 = omega arith in
           let copy : d.copy < f.replicas = simp z at (due_there f p made x d e) in
-          let three = ok.three in
-          (
+          let three = ok.three in (
             record { first = omega arith; last = omega arith; part = subst (λ s. d.to < f.sources s) next_stage (subst (λ n. d.to < n) (ok.flow.next_parts p.stage (omega arith)) (due_is f p made x d e).0) },
             omega arith,
           )

@@ -274,8 +274,7 @@ module _ (b : ℕ) where
   controller_small edges p c m x new h =
       let heard = controller_hears p c m x in
       let g = hears p c m x new h in
-      let small = least_small heard g in
-      (
+      let small = least_small heard g in (
         record { reports = λ d q. up (heard.0.reports d q) (g.reports d q); acked = λ q. (let a = g.acked q in let l = small q in omega arith); term = g.term },
         each_append (λ (z : Envelope). EachOfMessage New z.message) heard.1 (acks_from edges 0 p heard.0) g.sends (acks_small p edges 0 heard.0 small),
       )

@@ -15,6 +15,7 @@ use Rattle.pair_machine.proofs.Lists.{each_at}
 use Rattle.pair_machine.proofs.Tests.{nat_not, nat_self}
 use Rattle.trio_machine.specs.Acknowledged.{ReplicaLows, acked_of}
 use Rattle.trio_machine.specs.Reports.{IsRunning, MarkAtLeast, replicas_of}
+use Rattle.trio_machine.specs.Asked.{ActAsks, Asks}
 use Rattle.trio_machine.specs.Boundary.{egress_does, ingress_does}
 use Rattle.trio_machine.specs.Controllers.{controller_takes}
 use Rattle.trio_machine.specs.Flow.{IsTrioFlow}
@@ -214,3 +215,14 @@ lost_are_gone f s sound p lost c there = go (replicas_of s p c) refl
     go (Running x) e =
         let run : IsRunning (replicas_of s p c) = subst IsRunning (sym e) tt in
         absurd (lost (c, record { there = there; running = run; counted = (sound.nodes (control_at p)).reports.up c run }))
+
+-- ---- what a step may ask
+
+pub sound_asks : (f : Flow) (s : State) (n : TrioNode) (a : Act) → IsSound f s → WasSent f s n a → Asks f n (s.nodes n) a
+sound_asks f s n a sound sent = ((sound.nodes n).bound, of_act a sent)
+  where
+    of_act : (a : Act) → WasSent f s n a → ActAsks f n a
+    of_act (Takes from m) among =
+        let h = each_at (IsSoundMessage f (acked_of f s) (replicas_of s) from n) m (s.sent from n) among (sound.sent from n) in
+        record { carried = h.carried; bound = h.bound }
+    of_act a among = tt

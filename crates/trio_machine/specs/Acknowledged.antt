@@ -4,10 +4,10 @@ use Rattle.std.specs.Prelude.{◌≡◌, ◌≤◌, ◌<◌, ℕ, true, ◌+◌,
 use Rattle.tuple_edge.specs.declared.node.EdgeId.{EdgeId}
 use Rattle.pair_machine.specs.Drain.{partition}
 use Rattle.pair_machine.specs.Flow.{Flow}
-use Rattle.pair_machine.specs.Numbers.{Partition, ingress_edge, out_edge}
+use Rattle.pair_machine.specs.Numbers.{ingress_edge, out_edge}
 use Rattle.trio_machine.specs.Machine.{State, controller_in, egress_in, ingress_in, replica_in}
-use Rattle.trio_machine.specs.Messages.{Message, Ack, Report}
-use Rattle.trio_machine.specs.Numbers.{Replica, Gone, Running, Controller, Node, group_size, replica_at}
+use Rattle.trio_machine.specs.Messages.{Message, Ack}
+use Rattle.trio_machine.specs.Numbers.{Replica, Gone, Running, Controller, Node, group_size}
 use Rattle.trio_machine.specs.declared.node.TrioNode.{TrioNode}
 use Rattle.trio_machine.specs.declared.node.TrioNode.TheVariants as node
 

@@ -1,10 +1,18 @@
 // What holds of the machine of groups, as contracts of functions that do nothing.
+ghost use Rattle.trio_machine.specs.Legal.{ListsGoOn};
 ghost use Rattle.trio_machine.specs.Laws.{LegalListsReachSoundStates, LostGroupsAreGone, OutputIsAFront, SoundStatesGiveWhatIsAsked, SoundStatesOwe, StepsKeepSound, TheOpeningIsSound, TrioPlansAreFlows};
 
 /// The numbers of a plan of one source are those of a flow of groups of three.
 #[tactic(auto, using(crate::proofs::Laws::trio_is_flow))]
 pub fn trio_plans_are_flows()
     ensures { TrioPlansAreFlows }
+{}
+
+/// One list after another is legal just where the first leads to a state from which the second is legal;
+/// and a list leads to one state only.
+#[tactic(auto, using(crate::proofs::Legal::go_on))]
+pub fn lists_go_on()
+    ensures { ListsGoOn }
 {}
 
 /// The opening is sound.
