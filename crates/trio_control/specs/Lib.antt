@@ -1,0 +1,6 @@
+pub mod Contents
+pub mod ControllerPackets
+pub mod ControllerView
+pub mod Group
+pub mod Outbox
+pub mod Steps

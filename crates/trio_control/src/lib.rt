@@ -1,0 +1,15 @@
+//! The nodes of a dataflow whose partitions run as groups of three replicas.
+//!
+//! A [`TrioControl`] hears its three replicas, names the lowest one that is up where the leader fails, and
+//! acknowledges of each in-edge what every replica that is up has reported. It promises that each event of
+//! a node is its step of the machine of `trio_machine`, on which it stands.
+#![tactic(auto)]
+
+mod controller;
+mod group;
+mod outbox;
+
+pub use controller::TrioControl;
+pub use group::GROUP_SIZE;
+pub use outbox::TrioOutbox;
+pub use trio_machine::{TrioBody, TrioNode};
