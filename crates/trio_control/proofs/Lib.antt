@@ -1,3 +1,4 @@
 pub mod Acknowledging
+pub mod EgressSteps
 pub mod Hearing
 pub mod Taking

@@ -6,10 +6,12 @@
 #![tactic(auto)]
 
 mod controller;
+mod egress;
 mod group;
 mod outbox;
 
 pub use controller::TrioControl;
+pub use egress::TrioEgress;
 pub use group::GROUP_SIZE;
 pub use outbox::TrioOutbox;
 pub use trio_machine::{TrioBody, TrioNode};
