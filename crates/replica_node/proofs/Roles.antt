@@ -20,7 +20,7 @@ use Rattle.pair_machine.proofs.EdgeLaws.{get_of, parts_at}
 use Rattle.pair_machine.proofs.Tests.{both, nat_not}
 use Rattle.move_list.proofs.Lists.{none_past}
 use Rattle.replica_node.specs.Admitted.{IsIntoHere}
-use Rattle.replica_node.specs.Answering.{HasParts}
+use Rattle.partition_step.specs.Answering.{HasParts}
 use Rattle.replica_node.specs.IsReplica.{IsRole}
 use Rattle.replica_node.specs.ReplicaView.{copies_of, partition_of, targets_of}
 use Rattle.replica_node.specs.StandsFor.{IsOfPlan}

@@ -1,6 +1,6 @@
 use Rattle.std.proofs.Common.{◌∙◌, arith}
-use Rattle.replica_node.proofs.Emitting.{all_emitted, fits_left, none_emitted, one_emitted, room_left}
-use Rattle.replica_node.proofs.answer.emit_rows.Goals as goal
+use Rattle.partition_step.proofs.Emitting.{all_emitted, fits_left, none_emitted, one_emitted, room_left}
+use Rattle.partition_step.proofs.answer.emit_rows.Goals as goal
 
 pub loop-row-init : goal.loop-row-init
 loop-row-init c = none_emitted c.args.next.now c.args.stamp c.args.rows.now c.args.producer.now c.requires.room c.requires.fits

@@ -14,7 +14,7 @@ use Rattle.pair_machine.specs.Edges.{edge_to, passed, stamped}
 use Rattle.pair_machine.proofs.Made.{edge_to-append}
 use Rattle.node_edges.specs.OutEdges.{HasMade, MayMakeMore}
 use Rattle.node_edges.proofs.OnEdges.{made_both, made_so, none_made}
-use Rattle.replica_node.specs.Answering.{TakesOne}
+use Rattle.partition_step.specs.Answering.{TakesOne}
 
 -- nothing is on an edge of nothing
 edge_to_nothing : (next : Option Stage) (t : ℕ) → edge_to next t [] ≡ []
@@ -111,3 +111,8 @@ may_still items y z same may t l =
 pub when_ok : {X Y : Type 0} (r : Result X Y) (P : Type 0) → P → OnOk r P
 when_ok (Ok x) P h = h
 when_ok (Err e) P h = tt
+
+-- what follows from what holds where a call succeeds
+pub on_ok : {X Y : Type 0} (r : Result X Y) (P Q : Type 0) → (P → Q) → OnOk r P → OnOk r Q
+on_ok (Ok x) P Q f h = f h
+on_ok (Err e) P Q f h = tt

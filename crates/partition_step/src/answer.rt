@@ -2,8 +2,7 @@
 ghost use Rattle.flux_producer.specs.ProducerView.{HasRoom, contents_of};
 ghost use Rattle.node_edges.specs.OutEdges.{HasMade, MayMakeMore};
 ghost use Rattle.pair_machine.specs.Edges.{edge_to, passed, stamped};
-ghost use Rattle.replica_node.specs.Answering.{HasParts, TakesOne, target_at};
-ghost use Rattle.replica_node.specs.ReplicaView.{targets_of};
+ghost use Rattle.partition_step.specs.Answering.{HasParts, TakesOne, target_at, targets_of};
 ghost use Rattle.std.specs.Prelude.{◌≡◌, ◌<◌, ◌+◌, ◌++◌, ◌∷◌, ◌↔◌, [], IsTrue, OnOk, length};
 ghost use Rattle.tuple_edge.specs.Item.{stamp_of};
 ghost use Rattle.tuple_edge.specs.declared.item.Item.TheVariants as item;
@@ -24,9 +23,9 @@ fn may_make(producer: &Producer, items: u64) -> bool
     true
 }
 
-// Makes room on every edge for so many more items. Numbers of items past their limit are answered as want
-// of memory: no memory holds that many.
-pub(crate) fn make_room(producer: &mut Producer, items: u64) -> Result<(), OutOfMemory>
+/// Makes room on every edge for so many more items. Numbers of items past their limit are answered as want
+/// of memory: no memory holds that many.
+pub fn make_room(producer: &mut Producer, items: u64) -> Result<(), OutOfMemory>
     ensures contents { contents_of producer.new ≡ contents_of producer.old }
     ensures room { OnOk result (HasRoom producer.new.edges items) }
     ensures fits { OnOk result (MayMakeMore items producer.new) }
@@ -89,7 +88,7 @@ fn pass_on(producer: &mut Producer, item: Item)
     }
 }
 
-/// Produces the rows that answer an item, with its stamp, and then passes on a mark or an end.
+// Produces the rows that answer an item, with its stamp, and then passes on a mark or an end.
 pub(crate) fn emit_answer(producer: &mut Producer, next: &Option<Stage>, item: Item, rows: &[Row])
     requires parts { HasParts next.now }
     requires targets { length producer.old.edges ≡ targets_of next.now }

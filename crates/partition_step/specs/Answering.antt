@@ -10,6 +10,11 @@ abbrev pub HasParts : Option Stage → Type 0
 HasParts None = Unit {0}
 HasParts (Some next) = 1 ≤ next.parts
 
+-- how many out-edges there are: one to each partition of the next stage, or to egress
+abbrev pub targets_of : Option Stage → ℕ
+targets_of None = 1
+targets_of (Some next) = next.parts
+
 -- the target of a row: the partition that routing names, or egress
 abbrev pub target_at : Option Stage → Row → ℕ
 target_at None row = 0
