@@ -3,6 +3,8 @@ pub mod ControllerPackets
 pub mod ControllerView
 pub mod Egress
 pub mod Group
+pub mod Ingress
+pub mod IngressView
 pub mod Outbox
 pub mod Steps
 pub mod Work

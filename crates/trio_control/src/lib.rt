@@ -8,10 +8,12 @@
 mod controller;
 mod egress;
 mod group;
+mod ingress;
 mod outbox;
 
 pub use controller::TrioControl;
 pub use egress::TrioEgress;
 pub use group::GROUP_SIZE;
+pub use ingress::{TrioIngress, TrioMade};
 pub use outbox::TrioOutbox;
 pub use trio_machine::{TrioBody, TrioNode};
