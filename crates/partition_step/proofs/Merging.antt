@@ -29,7 +29,7 @@ use Rattle.node_edges.specs.OutEdges.{AreNext, HasMade}
 use Rattle.node_edges.proofs.Consumers as consumers
 use Rattle.node_edges.proofs.Producers as producers
 use Rattle.partition_step.specs.Merging.{IsPartition, Merges, Parts, PartsStand}
-use Rattle.partition_step.specs.declared.merge.Task.{Task}
+use Rattle.partition_step.specs.declared.task.Task.{Task}
 
 -- no end is among the items before the next one of an edge
 pub none_ended : (last : ℕ) (is : List Item) → IsEdge last is → (n : ℕ) (i : Item) → slice_get is n ≡ Some i → IsOpen (take n is)

@@ -1,11 +1,17 @@
--- What holds of each item that waits holds of the next one, and of each that waits after it.
-use Rattle.std.proofs.Common.{◌≡◌, ◌+◌, ℕ, zero, suc, Bool, true, false, List, [], ◌∷◌, Option, None, Some, All, drop, subst, arith}
-use Rattle.std.specs.Prelude.{fold, if◌then◌else◌, slice_index_or}
-use Rattle.std.proofs.lemmas.List.Elements.{All-drop, All-head, All-map, All-set, All-tail}
+-- What holds of each item that a merge takes holds of each that waits, of the next one, and of each that waits after it.
+use Rattle.std.proofs.Common.{◌≡◌, ◌+◌, ℕ, zero, suc, Bool, true, false, List, [], ◌∷◌, ◌++◌, Option, None, Some, All, drop, subst, arith}
+use Rattle.std.specs.Prelude.{◌==◌, fold, if◌then◌else◌, slice_index_or, slice_set}
+use Rattle.std.proofs.lemmas.List.Elements.{All-append, All-cons, All-drop, All-head, All-map, All-nil, All-set, All-tail}
 use Rattle.tuple_edge.specs.declared.item.Item.{Item}
 use Rattle.tuple_edge.specs.declared.item.Item.TheVariants as item
 use Rattle.tuple_edge.specs.Item.{comes_before}
-use Rattle.merge_order.specs.MergeView.{MergeView, after_head, after_next, all_wait, heads_from, is_alike, item_of, least, lesser, taken_from, without}
+use Rattle.merge_order.specs.MergeView.{MergeView, after_head, after_next, after_offer, all_wait, heads_from, is_alike, item_of, least, lesser, mark_of, taken_from, waiting_of, without}
+
+-- it holds of the list at a place
+pub all_at : {X : Type 0} (P : X → Type 0) (xss : List (List X)) (q : ℕ) → All (All P) xss → All P (slice_index_or xss q [])
+all_at P [] q all = All-nil P
+all_at P (xs ∷ xss) zero all = All-head (All P) xs xss all
+all_at P (xs ∷ xss) (suc q) all = all_at P xss q (All-tail (All P) xs xss all)
 
 module _ (P : Item → Type 0) where
   -- what holds of each item of an edge that is there, or of none, where it isn't
@@ -71,3 +77,12 @@ module _ (P : Item → Type 0) where
   -- what holds of each item that waits holds of the next one
   pub next_holds : (waiting : List (List Item)) (i : Item) → All (All P) waiting → item_of (least waiting) ≡ Some i → P i
   next_holds waiting i each found = subst HoldsOf found (least_holds waiting each)
+
+  -- ---- an item is offered
+
+  pub all_offer : (m : MergeView) (q n : ℕ) (i : Item) → P i → All (All P) m.waiting → All (All P) (after_offer m q n i).waiting
+  all_offer m q n i here all = by_test (n == mark_of m q + 1)
+    where
+      by_test : (b : Bool) → All (All P) (if b then record { marks = slice_set m.marks q n; waiting = slice_set m.waiting q (waiting_of m q ++ i ∷ []); count = m.count } else m).waiting
+      by_test true = All-set (All P) m.waiting q (waiting_of m q ++ i ∷ []) (All-append P (waiting_of m q) (i ∷ []) (all_at P m.waiting q all) (All-cons P i [] here (All-nil P))) all
+      by_test false = all

@@ -18,7 +18,7 @@ use Rattle.pair_machine.specs.Flow.{Flow}
 use Rattle.pair_machine.specs.Numbers.{Consumer, Partition, Producer, out_edge}
 use Rattle.node_edges.specs.InEdges.{ConsumerStands}
 use Rattle.node_edges.specs.OutEdges.{HasMade, ProducerStands}
-use Rattle.partition_step.specs.declared.merge.Task.{Task}
+use Rattle.partition_step.specs.declared.task.Task.{Task}
 
 -- what a partition that runs has: both sides of its edges, and its operator
 pub record Parts : Type 0 where

@@ -9,6 +9,8 @@
 
 mod answer;
 mod merge;
+mod task;
 
 pub use answer::make_room;
-pub use merge::{Task, merge_next};
+pub use merge::merge_next;
+pub use task::{Task, task_in};

@@ -8,20 +8,12 @@ ghost use Rattle.std.specs.Prelude.{◌≡◌, ◌<◌, ◌+◌, OnErr, OnOk, So
 ghost use Rattle.stream_ops.specs.State.{most_by};
 ghost use Rattle.tuple_edge.specs.Limits.{number_limit};
 
+use crate::Task;
 use crate::answer::{emit_answer, make_room};
 use flux_consumer::Consumer;
 use flux_producer::Producer;
-use plan_reader::Stage;
 use stream_ops::{OpSpec, OpState};
 use tuple_edge::{Item, OutOfMemory, Row};
-
-/// What a partition does with its items: its operator, and the stage that what it sends goes to, if there
-/// is one; after the last one comes egress.
-#[derive(Clone, Copy, Debug, PartialEq, Eq)]
-pub struct Task {
-    pub op: OpSpec,
-    pub next: Option<Stage>,
-}
 
 // Room for at most how many rows an item's answer needs.
 fn answer_room(op: &OpSpec, state: &OpState, item: &Item) -> u64

@@ -13,7 +13,7 @@ use Rattle.pair_machine.specs.Counts.{flow_of}
 use Rattle.pair_machine.specs.Numbers.{RunningNumbers}
 use Rattle.node_edges.proofs.Consumers as consumers
 use Rattle.partition_step.specs.Merging.{IsPartition, Parts}
-use Rattle.partition_step.specs.declared.merge.Task.{Task}
+use Rattle.partition_step.specs.declared.task.Task.{Task}
 use Rattle.partition_step.proofs.Merging as step
 use Rattle.partition_step.proofs.TimelyNext.{next_holds, next_keeps}
 use Rattle.replica_node.specs.IsReplica.{AllTimely, IsMoving, IsRunning}

@@ -3,7 +3,7 @@ use Rattle.tuple_edge.specs.Item.{stamp_of}
 use Rattle.pair_machine.specs.Edges.{edge_to, passed, stamped}
 use Rattle.node_edges.specs.OutEdges.{HasMade}
 use Rattle.partition_step.proofs.Emitting.{on_ok}
-use Rattle.partition_step.specs.declared.merge.Task.{Task}
+use Rattle.partition_step.specs.declared.task.Task.{Task}
 use Rattle.replica_node.proofs.phase.Running.merge.Goals as goal
 
 pub returns-clause-merges : goal.returns-clause-merges
