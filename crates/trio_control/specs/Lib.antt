@@ -6,5 +6,7 @@ pub mod Group
 pub mod Ingress
 pub mod IngressView
 pub mod Outbox
+pub mod Replica
+pub mod ReplicaView
 pub mod Steps
 pub mod Work
