@@ -79,7 +79,7 @@ works_of_plan plan e = alike_of_plan plan e (working e).after (works_alike e (it
 -- ---- links
 
 -- what is to be told is of an edge that is there
-report_there : (y : ConsumerView) (n : ℕ) (report : ℕ × ℕ) → report_below y n ≡ Some report → report.0 < n
+pub report_there : (y : ConsumerView) (n : ℕ) (report : ℕ × ℕ) → report_below y n ≡ Some report → report.0 < n
 report_there y zero report e = let z : ⊥ = cc e in absurd z
 report_there y (suc n) report e = go (report_below y n) refl (nat_lt (told_of y n) (mark_of y.merge n)) e (λ before. report_there y n report before)
   where

@@ -42,11 +42,11 @@ use Rattle.ingress_egress.specs.EgressStands.{IsAdmitted, IsTaken, IsWorked, Sta
 use Rattle.ingress_egress.specs.EgressView.{EgressView, acknowledgements, after_tuple, has_end, is_end, merging, merging_or_reporting, pulling, reporting, taking, working}
 
 module _ (plan : PlanView) (rows : List Input) where
-  stages_are : (flow_of plan rows).stages ≡ length plan.stages
+  pub stages_are : (flow_of plan rows).stages ≡ length plan.stages
   unfolding flow_of
   stages_are = refl
 
-  merges_last : IsMerging (flow_of plan rows) (egress_partition (flow_of plan rows))
+  pub merges_last : IsMerging (flow_of plan rows) (egress_partition (flow_of plan rows))
   merges_last = record { first = omega arith; last = omega arith }
 
   offered_count : (x : Consumer) (q n : ℕ) → (offered x q n).count ≡ x.count
@@ -104,7 +104,7 @@ module _ (plan : PlanView) (rows : List Input) where
       let same : (flow_of plan rows).stages + 1 - 1 ≡ edge.stage = let a = stages_are in let b = s.stages in omega arith in
       λ i. record { stage = same i; from = edge.from; to = sym to i }
 
-  take_tuple : (e : EgressView) (n : Node) (stage part : ℕ) (edge : EdgeId) (number : ℕ) (i : Item) → StandsFor plan rows e n → part < length e.consumer.merge.marks
+  pub take_tuple : (e : EgressView) (n : Node) (stage part : ℕ) (edge : EdgeId) (number : ℕ) (i : Item) → StandsFor plan rows e n → part < length e.consumer.merge.marks
       → edge.stage ≡ e.stages → edge.from ≡ part → edge.to ≡ 0 → item_at (items_on plan rows edge) number ≡ Some i
       → StandsFor plan rows (after_tuple e edge.from number i) (EgressNode (offered (egress_in n) edge.from number))
   take_tuple e n stage part edge number i s l at from to item =
@@ -141,7 +141,7 @@ module _ (plan : PlanView) (rows : List Input) where
       let all = items (merged_at plan rows ((flow_of plan rows).stages + 1) 0) in
       ap (λ k. take k all) next ∙ front_more count all i at
 
-  merge_stands : IsPlan plan → (e : EgressView) (n : Node) (i : Item) → item_of (least e.consumer.merge.waiting) ≡ Some i → StandsFor plan rows e n
+  pub merge_stands : IsPlan plan → (e : EgressView) (n : Node) (i : Item) → item_of (least e.consumer.merge.waiting) ≡ Some i → StandsFor plan rows e n
       → StandsFor plan rows (merging e i) (EgressNode (merged_one (egress_in n)))
   merge_stands is e n i found s =
       let m = consumers.merges plan rows (egress_partition (flow_of plan rows)) (egress_in n) e.consumer i is merges_last found s.consumer in
@@ -160,7 +160,7 @@ module _ (plan : PlanView) (rows : List Input) where
       one_end (item.End stamp) = refl
 
   -- the rest of a piece of work: what is to be acknowledged
-  no_first : IsPlan plan → ((flow_of plan rows).stages + 1 == 1) ≡ false
+  pub no_first : IsPlan plan → ((flow_of plan rows).stages + 1 == 1) ≡ false
   no_first is = nat_not ((flow_of plan rows).stages + 1) 1 (λ e. let a = stages_are in let b = is.some in let z : ⊥ = omega arith in z)
 
   acks_stand : IsPlan plan → (stages q mark upto : ℕ) → stages ≡ length plan.stages → mark ≡ upto
@@ -180,7 +180,7 @@ module _ (plan : PlanView) (rows : List Input) where
       → as_egress (egress_works (flow_of plan rows) x) ≡ as_egress (if b then Ok (merged_one x, []) else egress_tells (flow_of plan rows) x o)
   works_as x b o ready told = λ j. as_egress (if ready j then Ok (merged_one x, []) else egress_tells (flow_of plan rows) x (told j))
 
-  ready_as : IsPlan plan → (e : EgressView) (n : Node) (o : Option Item) → item_of (least e.consumer.merge.waiting) ≡ o → StandsFor plan rows e n
+  pub ready_as : IsPlan plan → (e : EgressView) (n : Node) (o : Option Item) → item_of (least e.consumer.merge.waiting) ≡ o → StandsFor plan rows e n
       → is_ready (flow_of plan rows) (egress_partition (flow_of plan rows)) (egress_in n) ≡ is_some o
   ready_as is e n o found s = sym (consumers.gives plan rows (egress_partition (flow_of plan rows)) (egress_in n) e.consumer is merges_last s.consumer) ∙ ap is_some found
 

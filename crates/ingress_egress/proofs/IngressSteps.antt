@@ -69,7 +69,7 @@ some_in : (d : Option Sending) → is_some d ≡ is_some (any_due_in d)
 some_in None = refl
 some_in (Some d) = refl
 
-ltb-not : (m n : ℕ) → n ≤ m → nat_lt m n ≡ false
+pub ltb-not : (m n : ℕ) → n ≤ m → nat_lt m n ≡ false
 ltb-not m n l = go (nat_lt m n) (ltb-true m n)
   where
     go : (b : Bool) → (b ≡ true → m < n) → b ≡ false
@@ -112,7 +112,7 @@ module _ (plan : PlanView) (rows : List Input) where
   unfolding flow_of
   sources_are = refl
 
-  targets_are : (i : IngressView) → slice_get plan.stages 0 ≡ Some i.first → i.first.parts ≡ (flow_of plan rows).targets 0
+  pub targets_are : (i : IngressView) → slice_get plan.stages 0 ≡ Some i.first → i.first.parts ≡ (flow_of plan rows).targets 0
   unfolding flow_of
   targets_are i first = sym (parts_at plan.stages 0 i.first first)
 
@@ -125,7 +125,7 @@ module _ (plan : PlanView) (rows : List Input) where
 
   -- ---- opening
 
-  not_last : IsPlan plan → (0 == (flow_of plan rows).stages) ≡ false
+  pub not_last : IsPlan plan → (0 == (flow_of plan rows).stages) ≡ false
   not_last is = nat_not 0 (flow_of plan rows).stages (λ e. let some = some_stage is in let z : ⊥ = omega arith in z)
 
   opens_at : IsPlan plan → (parts q : ℕ) → parts ≡ (flow_of plan rows).targets 0 → q < plan.version
@@ -234,7 +234,7 @@ module _ (plan : PlanView) (rows : List Input) where
       subst (λ b. ArePacketsFor (BodyStands plan rows) node.Ingress (tuple_of q d item ∷ []) (envelope (if b then node.Egress else node.Replica (0 + 1) d.to (which_at d.copy)) (Tuple (out_edge (ingress_source q) d.to) d.number) ∷ []))
       (sym (not_last is)) ((refl, (refl, refl, at)), tt)
 
-  most_made : IsPlan plan → (q t m : ℕ) → (flow_of plan rows).made (ingress_edge q t) m ≤ length (items_on plan rows (ingress_edge q t))
+  pub most_made : IsPlan plan → (q t m : ℕ) → (flow_of plan rows).made (ingress_edge q t) m ≤ length (items_on plan rows (ingress_edge q t))
   unfolding flow_of
   most_made is q t m = (plan_is_flow plan rows is).makes_most q t m
 
@@ -267,7 +267,7 @@ module _ (plan : PlanView) (rows : List Input) where
   abbrev later : Ingress → Ingress
   later x = record x { makes = x.makes + 1 }
 
-  makes_all : (flow_of plan rows).makes ≡ length rows + 1
+  pub makes_all : (flow_of plan rows).makes ≡ length rows + 1
   unfolding flow_of
   makes_all = refl
 

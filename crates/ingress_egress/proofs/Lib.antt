@@ -1,6 +1,6 @@
-mod EgressSteps
-mod IngressSteps
+pub mod EgressSteps
+pub mod IngressSteps
 mod EachSource
 mod Admitting
-mod EgressPlan
-mod IngressPlan
+pub mod EgressPlan
+pub mod IngressPlan

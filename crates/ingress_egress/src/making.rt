@@ -21,11 +21,11 @@ pub enum Made {
     NoMoreRows,
 }
 
-// An input: a row with its source.
+/// An input: a row with its source.
 #[derive(Clone, Copy)]
-pub(crate) struct Given {
-    pub(crate) source: u32,
-    pub(crate) row: Row,
+pub struct Given {
+    pub source: u32,
+    pub row: Row,
 }
 
 // The row of an input goes on the one edge of its own source that routing names.
@@ -57,8 +57,8 @@ fn make_mark(producer: &mut Producer, mark: u64, stamp: u64)
     }
 }
 
-// Produces what one make gives of a source: of an input its row and its mark, else the end.
-fn make_at(
+/// Produces what one make gives of a source: of an input its row and its mark, else the end.
+pub fn make_at(
     producer: &mut Producer,
     source: u32,
     first: &Stage,

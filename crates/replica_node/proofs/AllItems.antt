@@ -12,13 +12,8 @@ use Rattle.tuple_edge.specs.declared.item.Item.{Item}
 use Rattle.tuple_edge.specs.declared.packet.Entry.{Entry}
 use Rattle.tuple_edge.specs.declared.packet.Entry.TheVariants as entry
 use Rattle.merge_order.specs.MergeView.{MergeView, after_offer, mark_of, starting, waiting_of}
+pub use Rattle.partition_step.proofs.TimelyNext.{all_at, all_offer}
 use Rattle.catch_up.specs.Rebuild.{all_offered, folded, folded_below, heads_step, marks_in, count_in, merge_in}
-
--- it holds of the list at a place
-pub all_at : {X : Type 0} (P : X → Type 0) (xss : List (List X)) (q : ℕ) → All (All P) xss → All P (slice_index_or xss q [])
-all_at P [] q all = All-nil P
-all_at P (xs ∷ xss) zero all = All-head (All P) xs xss all
-all_at P (xs ∷ xss) (suc q) all = all_at P xss q (All-tail (All P) xs xss all)
 
 pub none_at_all : {X : Type 0} (P : X → Type 0) (n : ℕ) → All (All P) (replicate n [])
 none_at_all P zero = All-nil (All P)
@@ -37,17 +32,10 @@ all_put Q k i (e ∷ es) here all = by_order (nat_cmp k e.0) refl (all_put Q k i
     by_order Greater is later = rw is (All-cons Q e (insert_entry nat_cmp es k i) (All-head Q e es all) later)
 
 module _ (P : Item → Type 0) where
-  pub all_offer : (m : MergeView) (q n : ℕ) (i : Item) → P i → All (All P) m.waiting → All (All P) (after_offer m q n i).waiting
-  all_offer m q n i here all = by_test (n == mark_of m q + 1)
-    where
-      by_test : (b : Bool) → All (All P) (if b then record { marks = slice_set m.marks q n; waiting = slice_set m.waiting q (waiting_of m q ++ i ∷ []); count = m.count } else m).waiting
-      by_test true = All-set (All P) m.waiting q (waiting_of m q ++ i ∷ []) (All-append P (waiting_of m q) (i ∷ []) (all_at P m.waiting q all) (All-cons P i [] here (All-nil P))) all
-      by_test false = all
-
   pub all_folded_on : (q : ℕ) (m : MergeView) (held : List (ℕ × Item)) → All (λ (h : ℕ × Item). P h.1) held → All (All P) m.waiting → All (All P) (all_offered q m held).waiting
   all_folded_on q m [] items all = all
   all_folded_on q m (h ∷ held) items all =
-      all_folded_on q (after_offer m q h.0 h.1) held (All-tail (λ (z : ℕ × Item). P z.1) h held items) (all_offer m q h.0 h.1 (All-head (λ (z : ℕ × Item). P z.1) h held items) all)
+      all_folded_on q (after_offer m q h.0 h.1) held (All-tail (λ (z : ℕ × Item). P z.1) h held items) (all_offer P m q h.0 h.1 (All-head (λ (z : ℕ × Item). P z.1) h held items) all)
 
   pub all_folded : (n : ℕ) (m : MergeView) (held : List (List (ℕ × Item))) → All (All (λ (h : ℕ × Item). P h.1)) held → All (All P) m.waiting → All (All P) (folded_below n m held).waiting
   all_folded zero m held items all = all
@@ -64,7 +52,7 @@ module _ (P : Item → Type 0) where
   OfEntry (entry.Keyed k slot a b c) = Unit {0}
 
   all_step : (m : MergeView) (e : Entry) → OfEntry e → All (All P) m.waiting → All (All P) (heads_step m e).waiting
-  all_step m (entry.Head q number i) here all = all_offer m q number i here all
+  all_step m (entry.Head q number i) here all = all_offer P m q number i here all
   all_step m (entry.Mark q upto) here all = all
   all_step m (entry.Count count) here all = all
   all_step m (entry.Low t low produced) here all = all

@@ -2,7 +2,6 @@ pub mod Admitting
 pub mod AllItems
 pub mod CatchUps
 pub mod Courses
-pub mod Emitting
 pub mod Ending
 pub mod Failing
 pub mod Folding
@@ -19,7 +18,6 @@ pub mod Sending
 pub mod Staying
 pub mod Steps
 pub mod Telling
-pub mod TimelyNext
 pub mod Told
 pub mod Whole
 pub mod WorkCourse

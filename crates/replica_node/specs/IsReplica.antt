@@ -9,7 +9,7 @@ use Rattle.op_spec.specs.Spec.{IsSpec}
 use Rattle.op_spec.specs.Times.{IsTimely}
 use Rattle.state_mover.specs.MoverView.{IsMidway, MoverView, total_of}
 use Rattle.catch_up.specs.NewcomerView.{NewcomerView}
-use Rattle.replica_node.specs.Answering.{HasParts}
+use Rattle.partition_step.specs.Answering.{HasParts}
 use Rattle.replica_node.specs.ReplicaView.{ReplicaView, copies_of, targets_of}
 use Rattle.replica_node.specs.declared.phase.Phase.{Phase}
 use Rattle.replica_node.specs.declared.phase.Phase.TheVariants as phase

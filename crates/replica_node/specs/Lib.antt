@@ -1,5 +1,4 @@
 pub mod Admitted
-pub mod Answering
 pub mod CaughtUp
 pub mod Course
 pub mod IsReplica

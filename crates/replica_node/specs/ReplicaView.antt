@@ -4,6 +4,7 @@ use Rattle.tuple_edge.specs.declared.node.NodeId.{NodeId}
 use Rattle.tuple_edge.specs.declared.node.NodeId.TheVariants as node
 use Rattle.plan_reader.specs.declared.stage.Stage.{Stage}
 use Rattle.pair_machine.specs.Numbers.{Partition, other}
+pub use Rattle.partition_step.specs.Answering.{targets_of}
 use Rattle.replica_node.specs.declared.phase.Phase.{Phase}
 use Rattle.replica_node.specs.declared.role.Role.{Role}
 
@@ -26,11 +27,7 @@ node_of role = node.Replica role.stage role.part role.which
 abbrev pub partner_of : Role → NodeId
 partner_of role = node.Replica role.stage role.part (other role.which)
 
--- ---- the next stage; after the last one comes egress, with one partition and one copy
-
-abbrev pub targets_of : Option Stage → ℕ
-targets_of None = 1
-targets_of (Some next) = next.parts
+-- ---- the next stage; after the last one comes egress, with one copy
 
 abbrev pub copies_of : Option Stage → ℕ
 copies_of None = 1

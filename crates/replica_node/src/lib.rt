@@ -4,11 +4,10 @@
 //! A [`Replica`] runs, gathers or is gone, and has just what it needs in that mode. It promises that each
 //! of its events is its step of the machine of `pair_machine`, and that a packet that a sound machine has
 //! sent is admitted. It stands on flux_consumer and flux_producer for its edges, on stream_ops for its
-//! operator, and on move_list, state_mover and catch_up for moves.
+//! operator, on partition_step for its merges, and on move_list, state_mover and catch_up for moves.
 #![tactic(auto)]
 
 mod admission;
-mod answer;
 mod law;
 mod moving;
 mod phase;

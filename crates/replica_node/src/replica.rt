@@ -31,6 +31,7 @@ use catch_up::Newcomer;
 use flux_consumer::Consumer;
 use flux_producer::Producer;
 use node_edges::copy_of;
+use partition_step::task_in;
 use plan_reader::Plan;
 use state_mover::Mover;
 use std::alloc::Global;
@@ -375,14 +376,14 @@ fn role_in(plan: &Plan, stage: u32, part: u32, which: Which) -> Role
     ensures named { node_of result ≡ node.Replica stage part which }
     ensures sound { IsRole result }
 {
-    let stages = plan.stages();
+    let task = task_in(plan, stage, part);
     Role {
         stage,
         part,
         which,
         sources: plan.sources(stage),
-        op: stages[stage as usize - 1].op,
-        next: stages.get(stage as usize).copied(),
+        op: task.op,
+        next: task.next,
     }
 }
 

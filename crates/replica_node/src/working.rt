@@ -4,7 +4,7 @@ ghost use Rattle.flux_producer.specs.Due.{due_of};
 ghost use Rattle.merge_order.specs.MergeView.{item_of, least};
 ghost use Rattle.pair_machine.specs.Receivers.{appended};
 ghost use Rattle.replica_node.specs.Admitted.{MayWorkIn};
-ghost use Rattle.replica_node.specs.Answering.{HasParts};
+ghost use Rattle.partition_step.specs.Answering.{HasParts};
 ghost use Rattle.replica_node.specs.IsReplica.{IsRole, IsRunning};
 ghost use Rattle.replica_node.specs.Rules.{Merges, Moves, MovesOrSends, Reports, SendsOrReports, Works, contents_in_phase, contents_in_running, receiver_of, report_packet, tuples_of};
 ghost use Rattle.replica_node.specs.Takers.{IsReadyToWork};
@@ -12,18 +12,16 @@ ghost use Rattle.replica_node.specs.declared.phase.Phase.TheVariants as phase;
 ghost use Rattle.state_mover.specs.MoverView.{MoverView};
 ghost use Rattle.std.specs.Prelude.{◌≡◌, ◌<◌, ◌≤◌, ◌+◌, ◌++◌, ◌∷◌, [], IfOk, None, OnErr, OnOk, Some};
 ghost use Rattle.op_spec.specs.Times.{IsTimely};
-ghost use Rattle.stream_ops.specs.State.{most_by};
 ghost use Rattle.tuple_edge.specs.Limits.{edge_limit, number_limit};
 ghost use Rattle.tuple_edge.specs.declared.event.Worked.TheVariants as worked;
 
-use crate::answer::{emit_answer, make_room};
 use crate::moving::replica;
 use crate::phase::{Phase, Running};
 use crate::role::Role;
 use flux_producer::Due;
 use node_edges::which_at;
+use partition_step::merge_next;
 use state_mover::Moved;
-use stream_ops::OpState;
 use tuple_edge::{Body, EdgeId, Item, NodeId, OutOfMemory, Outbox, Row, Worked};
 
 impl Phase {
@@ -45,18 +43,6 @@ impl Phase {
             Phase::Running(running) => running.work(role, rows, out),
             Phase::Gathering(_) | Phase::Gone { .. } => Ok(Worked::Idle),
         }
-    }
-}
-
-// Room for at most how many rows an item's answer needs.
-fn answer_room(role: &Role, state: &OpState, item: &Item) -> u64
-    requires { state.now.spec ≡ role.now.op }
-    ensures { result ≡ most_by state.now item.now }
-{
-    match item {
-        Item::Row { .. } => role.op.most_rows(),
-        Item::Mark { .. } => 0,
-        Item::End { .. } => state.entry_count(),
     }
 }
 
@@ -84,7 +70,7 @@ impl Running {
         }
     }
 
-    // Merges the next item, which is this one, and produces what answers it. All room is made first.
+    // Merges the next item, which is this one, and produces what answers it.
     fn merge(&mut self, role: &Role, rows: &mut Vec<Row>, item: Item) -> Result<(), OutOfMemory>
         requires next { item_of (least self.old.consumer.merge.waiting) ≡ Some item }
         requires fits { self.old.consumer.merge.count + 1 < number_limit }
@@ -94,13 +80,14 @@ impl Running {
         ensures merges { OnOk result (Merges role.now item self.old self.new) }
         ensures unchanged { OnErr result (contents_in_running self.new ≡ contents_in_running self.old) }
     {
-        let room = answer_room(role, &self.state, &item).saturating_add(1);
-        make_room(&mut self.producer, room)?;
-        rows.clear();
-        self.state.step(item, rows)?;
-        let _merged = self.consumer.next();
-        emit_answer(&mut self.producer, &role.next, item, rows);
-        Ok(())
+        merge_next(
+            &mut self.consumer,
+            &mut self.state,
+            &mut self.producer,
+            &role.task(),
+            rows,
+            item,
+        )
     }
 
     // Gives the next part of its move, or sends, or reports.

@@ -1,22 +1,23 @@
-use Rattle.std.proofs.Common.{◌∙◌, ◌++◌, ap, refl, subst}
-use Rattle.node_edges.proofs.OnEdges.{made_from}
-use Rattle.node_edges.specs.OutEdges.{HasMade}
-use Rattle.pair_machine.specs.Edges.{edge_to, passed, stamped}
-use Rattle.stream_ops.specs.Answers.{answer}
+use Rattle.std.proofs.Common.{◌++◌, refl, subst}
 use Rattle.tuple_edge.specs.Item.{stamp_of}
+use Rattle.pair_machine.specs.Edges.{edge_to, passed, stamped}
+use Rattle.node_edges.specs.OutEdges.{HasMade}
+use Rattle.partition_step.proofs.Emitting.{on_ok}
+use Rattle.partition_step.specs.declared.task.Task.{Task}
 use Rattle.replica_node.proofs.phase.Running.merge.Goals as goal
 
 pub returns-clause-merges : goal.returns-clause-merges
-returns-clause-merges c = record {
-  inc = refl;
-  consumer = c.next-merged.ensures.after;
-  rows = c.step.new.out.items;
-  made = subst (λ rs. HasMade (λ t. edge_to c.args.role.now.next t (stamped (stamp_of c.args.item) rs ++ passed c.args.item)) c.args.self.now.producer c.emit_answer.new.producer) c.deref.ensures.value
-      (made_from _ c.args.self.now.producer c.make_room.new.producer c.emit_answer.new.producer c.in_ok-make_room.ensures.contents c.emit_answer.ensures);
-  answers = λ before unended stands. c.in_ok-step.ensures.answers before unended stands ∙ ap (λ rs. rs ++ answer c.args.self.now.state.spec before c.args.item) c.clear.ensures.items;
-  stands = c.in_ok-step.ensures.stands;
-  spec = c.in_ok-step.ensures.spec;
-  old = c.in_ok-step.ensures.old;
-  served = refl;
-  move = refl;
-}
+returns-clause-merges c = on_ok c.merge_next.result _ _
+    (λ m. record {
+      inc = refl;
+      consumer = m.consumer;
+      rows = m.rows;
+      made = subst (λ (task : Task). HasMade (λ t. edge_to task.next t (stamped (stamp_of c.args.item) m.rows ++ passed c.args.item)) c.args.self.now.producer c.merge_next.new.producer) c.task.ensures m.made;
+      answers = m.answers;
+      stands = m.stands;
+      spec = m.spec;
+      old = m.old;
+      served = refl;
+      move = refl;
+    })
+    c.merge_next.ensures.merges

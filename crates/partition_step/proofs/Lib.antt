@@ -1,0 +1,4 @@
+pub mod Emitting
+pub mod Merging
+pub mod Places
+pub mod TimelyNext

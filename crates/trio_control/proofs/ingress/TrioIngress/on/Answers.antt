@@ -1,0 +1,10 @@
+use Rattle.std.proofs.Common.{[], subst, sym}
+use Rattle.trio_machine.specs.declared.node.TrioNode.TheVariants as node
+use Rattle.trio_control.specs.Ingress.{StandsFor}
+use Rattle.trio_control.specs.Steps.{IsTaken}
+use Rattle.trio_control.proofs.IngressSteps.{take_step}
+use Rattle.trio_control.proofs.ingress.TrioIngress.on.Goals as goal
+
+pub returns-clause-step : goal.returns-clause-step
+returns-clause-step c = λ plan inputs. subst (λ z. IsTaken plan inputs node.Ingress (StandsFor plan inputs c.args.self.now) (StandsFor plan inputs z) c.args.from c.args.body.now []) (sym c.take.ensures)
+    (take_step plan inputs c.args.self.now c.args.from c.args.body.now c.requires.admitted)

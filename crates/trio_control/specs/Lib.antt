@@ -1,0 +1,12 @@
+pub mod Contents
+pub mod ControllerPackets
+pub mod ControllerView
+pub mod Egress
+pub mod Group
+pub mod Ingress
+pub mod IngressView
+pub mod Outbox
+pub mod Replica
+pub mod ReplicaView
+pub mod Steps
+pub mod Work
