@@ -1,14 +1,12 @@
 -- What a plan has where its partitions run as groups: nodes, edges and links. They are those of pairs, with three replicas for two, as
 -- far as groups have messages for them.
-use Rattle.std.specs.Prelude.{ℕ, Bool, true, false, ◌&&◌, ◌||◌, nat_lt}
+use Rattle.std.specs.Prelude.{Bool, true, false, ◌&&◌, ◌||◌, nat_lt}
 use Rattle.tuple_edge.specs.declared.node.NodeId.{NodeId}
 use Rattle.tuple_edge.specs.declared.node.NodeId.TheVariants as pair
 use Rattle.tuple_edge.specs.declared.node.Which.TheVariants as which
 use Rattle.plan_reader.specs.Nodes.{carries_acknowledgements, carries_items, carries_orders, carries_reports, has_node}
 use Rattle.plan_reader.specs.PlanView.{PlanView}
 use Rattle.trio_machine.specs.Numbers.{group_size}
-use Rattle.trio_machine.specs.declared.event.TrioEvent.{TrioEvent}
-use Rattle.trio_machine.specs.declared.event.TrioEvent.TheVariants as event
 use Rattle.trio_machine.specs.declared.node.TrioNode.{TrioNode}
 use Rattle.trio_machine.specs.declared.node.TrioNode.TheVariants as node
 

@@ -1,5 +1,5 @@
 -- What texts of groups write and name.
-use Rattle.std.specs.Prelude.{ℕ, ◌≡◌, ◌≤◌, true, codes}
+use Rattle.std.specs.Prelude.{◌≡◌, ◌≤◌, true, codes}
 use Rattle.std.specs.Fmt.{decimal}
 use Rattle.text_words.specs.Lines.{Word}
 use Rattle.plan_reader.specs.PlanView.{PlanView}

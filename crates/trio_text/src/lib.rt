@@ -7,6 +7,7 @@
 //! `trio_machine` for nodes, events and messages.
 #![tactic(auto)]
 
+mod law;
 mod lined;
 mod name_text;
 mod names;
@@ -15,6 +16,9 @@ mod read;
 mod statement;
 mod words;
 
+pub use law::{
+    links_are_the_plans, links_carry_messages, named_events_are_there, nodes_are_the_plans,
+};
 pub use lined::TrioLined;
 pub use name_text::push_trio_node;
 pub use read::read_trio;
