@@ -10,17 +10,18 @@ use Rattle.tuple_edge.specs.declared.event.Event.TheVariants as event
 use Rattle.tuple_edge.specs.declared.node.LinkId.{LinkId}
 use Rattle.tuple_edge.specs.declared.node.NodeId.{NodeId}
 use Rattle.text_words.specs.Lines.{Word, counting_lines}
-use Rattle.text_words.specs.Reading.{fixed_or}
+use Rattle.text_words.specs.Reading.{◌>>=◌, fixed_or}
 use Rattle.text_words.specs.Text.{line_text}
 use Rattle.text_words.proofs.LineFacts.{both_true}
 use Rattle.text_words.proofs.NumberWords.{number_of_decimal}
 use Rattle.text_words.proofs.Spelling.{counting_spelled, spelled}
 use Rattle.plan_reader.specs.Nodes.{carries_items, has_link, has_node}
 use Rattle.plan_reader.specs.PlanView.{IsPlan, PlanView}
-use Rattle.run_journal.specs.Events.{ask_back_at, ask_stop_at, body_of, event_at, events_of, events_of_lines, header_at, kill_at, last_replica_at, make_at, once, pull_at, take_at, with_line, with_lines, work_at}
+use Rattle.run_journal.specs.Events.{ask_back_at, ask_stop_at, event_at, events_of, kill_at, last_replica_at, lined_at, make_at, pull_at, take_at, work_at}
 use Rattle.plan_reader.specs.Nodes.{has_edge, has_replica}
 use Rattle.run_journal.specs.Grammar.{index_at, link_at, node_at, replica_at, target_at, times_at}
 use Rattle.run_journal.specs.Limits.{max_events, max_events_bytes, max_index}
+use Rattle.run_journal.specs.Listing.{header_at, lines_after, once, with_line, with_lines}
 use Rattle.run_journal.specs.Text.{AreSayable, IsNamed, event_words, events_text, link_name, lined_from, node_name}
 use Rattle.run_journal.specs.declared.lined.Lined.{Lined}
 use Rattle.run_journal.proofs.NamesBack.{IsShortName, link_back, node_back}
@@ -85,8 +86,8 @@ event_back plan (event.AskBack n) named short = rw (last_back plan n short named
 event_back plan (event.Pull from to) named short = pull_back plan from to short.0 short.1 named
 
 lines_back : (plan : PlanView) (before : List Lined) (number : ℕ) (events : List Event) → IsPlan plan → All (IsNamed plan) events → length before + length events ≤ max_events
-    → with_lines plan before (spelled number (map event_words events)) ≡ Ok (before ++ lined_from number events)
-unfolding with_lines with_line
+    → with_lines (lined_at plan) before (spelled number (map event_words events)) ≡ Ok (before ++ lined_from number events)
+unfolding with_lines with_line lined_at
 lines_back plan before number [] within named few = ap Ok (sym (append-nil before))
 lines_back plan before number (e ∷ events) within named few =
     let here = All-head (IsNamed plan) e events named in
@@ -111,8 +112,8 @@ text_lines plan events within named =
     ∙ counting_spelled 1 ((codes "events" ∷ codes "1" ∷ []) ∷ map event_words events) (text_plain plan events within named)
 
 body_back : (plan : PlanView) (events : List Event) → IsPlan plan → AreSayable plan events
-    → events_of_lines plan (spelled 1 ((codes "events" ∷ codes "1" ∷ []) ∷ map event_words events)) ≡ Ok (lined_from 2 events)
-unfolding events_of_lines body_of header_at fixed_or
+    → (lines_after (codes "events") (spelled 1 ((codes "events" ∷ codes "1" ∷ []) ∷ map event_words events)) >>= with_lines (lined_at plan) []) ≡ Ok (lined_from 2 events)
+unfolding lines_after header_at fixed_or
 body_back plan events within sayable = lines_back plan [] 2 events within sayable.named (omega (arith, sayable.few))
 
 -- the canonical text of events reads back as the events

@@ -2,6 +2,7 @@ pub mod Entries
 pub mod Events
 pub mod Grammar
 pub mod Limits
+pub mod Listing
 pub mod Logs
 pub mod Messages
 pub mod Names

@@ -28,15 +28,18 @@ pub enum EventsError {
 
 /// Why a line of events is refused.
 #[derive(Drop)]
-pub(crate) enum Fault {
+pub enum Fault {
+    /// The line's first word isn't listed, or the line has another form than that word asks for.
     Grammar,
+    /// The plan doesn't have what stands there.
     NoSuchNode,
+    /// A number is outside its limits.
     Range,
 }
 
 impl Fault {
-    // The fault of the line with this number.
-    pub(crate) fn at(self, line: u64) -> EventsError
+    /// The fault of the line with this number.
+    pub fn at(self, line: u64) -> EventsError
         ensures { result ≡ fault_at line self }
     {
         match self {

@@ -14,8 +14,13 @@ pub fn letter_of(which: Which) -> &'static str
     }
 }
 
-// Appends the name of a node of the pair that runs this partition of this stage.
-fn push_member(text: &mut String, stage: u32, part: u32, letter: &str) -> Result<(), OutOfMemory>
+/// Appends the name of a node of those that run this partition of this stage, which this letter tells from the others.
+pub fn push_member(
+    text: &mut String,
+    stage: u32,
+    part: u32,
+    letter: &str,
+) -> Result<(), OutOfMemory>
     ensures { OnOk result (string_bytes text.new ≡ string_bytes text.old ++ member_name stage part letter.now) }
 {
     write!(text, "{stage}.{part}.{letter}")?;

@@ -1,35 +1,21 @@
 // What a line after the first one says: an event, and how often it happens.
 ghost use Rattle.std.specs.Prelude.{◌≡◌, ◌≤◌, IfOk, true};
 ghost use Rattle.tuple_edge.specs.declared.event.Event.TheVariants as event;
-ghost use Rattle.run_journal.specs.Events.{ask_back_at, ask_stop_at, event_at, kill_at, last_replica_at, make_at, once, pull_at, take_at, work_at};
+ghost use Rattle.run_journal.specs.Events.{ask_back_at, ask_stop_at, event_at, kill_at, last_replica_at, make_at, pull_at, take_at, work_at};
 ghost use Rattle.text_words.specs.Reading.{Takes};
 ghost use Rattle.plan_reader.specs.Nodes.{has_replica};
 ghost use Rattle.run_journal.specs.Limits.{max_repeats};
 ghost use Rattle.run_journal.specs.Text.{IsNamed};
 
-use crate::error::Fault;
 use crate::words::{index, link, node, replica, target, times};
+use crate::{Fault, Repeated, once};
 use plan_reader::Plan;
 use text_words::{Words, is_word};
 use tuple_edge::{Event, NodeId};
 
-// An event, and how often it happens.
-#[derive(Drop)]
-pub(crate) struct Repeated {
-    pub(crate) event: Event,
-    pub(crate) times: u64,
-}
-
-// An event that happens once.
-fn once(event: Event) -> Repeated
-    ensures { result ≡ once event }
-{
-    Repeated { event, times: 1 }
-}
-
 // What follows `make`.
 #[tactic(auto, unfolding(crate::specs::Events::make_at))]
-fn make(words: &mut Words<'_>) -> Result<Repeated, Fault>
+fn make(words: &mut Words<'_>) -> Result<Repeated<Event>, Fault>
     ensures value { Takes words.new result (make_at words.old) }
     ensures few { IfOk result (λ said. said.times ≤ max_repeats) }
     ensures made { IfOk result (λ said. said.event ≡ event.Make) }
@@ -43,7 +29,7 @@ fn make(words: &mut Words<'_>) -> Result<Repeated, Fault>
 
 // What follows `work`.
 #[tactic(auto, unfolding(crate::specs::Events::work_at))]
-fn work(words: &mut Words<'_>, plan: &Plan) -> Result<Repeated, Fault>
+fn work(words: &mut Words<'_>, plan: &Plan) -> Result<Repeated<Event>, Fault>
     ensures value { Takes words.new result (work_at plan.now words.old) }
     ensures few { IfOk result (λ said. said.times ≤ max_repeats) }
     ensures named { IfOk result (λ said. IsNamed plan.now said.event) }
@@ -58,7 +44,7 @@ fn work(words: &mut Words<'_>, plan: &Plan) -> Result<Repeated, Fault>
 
 // What follows `take`.
 #[tactic(auto, unfolding(crate::specs::Events::take_at))]
-fn take(words: &mut Words<'_>, plan: &Plan) -> Result<Repeated, Fault>
+fn take(words: &mut Words<'_>, plan: &Plan) -> Result<Repeated<Event>, Fault>
     ensures value { Takes words.new result (take_at plan.now words.old) }
     ensures few { IfOk result (λ said. said.times ≤ max_repeats) }
     ensures named { IfOk result (λ said. IsNamed plan.now said.event) }
@@ -71,7 +57,7 @@ fn take(words: &mut Words<'_>, plan: &Plan) -> Result<Repeated, Fault>
 
 // What follows `pull`.
 #[tactic(auto, unfolding(crate::specs::Events::pull_at))]
-fn pull(words: &mut Words<'_>, plan: &Plan) -> Result<Repeated, Fault>
+fn pull(words: &mut Words<'_>, plan: &Plan) -> Result<Repeated<Event>, Fault>
     ensures value { Takes words.new result (pull_at plan.now words.old) }
     ensures few { IfOk result (λ said. said.times ≤ max_repeats) }
     ensures named { IfOk result (λ said. IsNamed plan.now said.event) }
@@ -98,7 +84,7 @@ fn last_replica(words: &mut Words<'_>, plan: &Plan) -> Result<NodeId, Fault>
 
 // What follows `kill`.
 #[tactic(auto, unfolding(crate::specs::Events::kill_at))]
-fn kill(words: &mut Words<'_>, plan: &Plan) -> Result<Repeated, Fault>
+fn kill(words: &mut Words<'_>, plan: &Plan) -> Result<Repeated<Event>, Fault>
     ensures value { Takes words.new result (kill_at plan.now words.old) }
     ensures few { IfOk result (λ said. said.times ≤ max_repeats) }
     ensures named { IfOk result (λ said. IsNamed plan.now said.event) }
@@ -109,7 +95,7 @@ fn kill(words: &mut Words<'_>, plan: &Plan) -> Result<Repeated, Fault>
 
 // What follows `askstop`.
 #[tactic(auto, unfolding(crate::specs::Events::ask_stop_at))]
-fn ask_stop(words: &mut Words<'_>, plan: &Plan) -> Result<Repeated, Fault>
+fn ask_stop(words: &mut Words<'_>, plan: &Plan) -> Result<Repeated<Event>, Fault>
     ensures value { Takes words.new result (ask_stop_at plan.now words.old) }
     ensures few { IfOk result (λ said. said.times ≤ max_repeats) }
     ensures named { IfOk result (λ said. IsNamed plan.now said.event) }
@@ -120,7 +106,7 @@ fn ask_stop(words: &mut Words<'_>, plan: &Plan) -> Result<Repeated, Fault>
 
 // What follows `askback`.
 #[tactic(auto, unfolding(crate::specs::Events::ask_back_at))]
-fn ask_back(words: &mut Words<'_>, plan: &Plan) -> Result<Repeated, Fault>
+fn ask_back(words: &mut Words<'_>, plan: &Plan) -> Result<Repeated<Event>, Fault>
     ensures value { Takes words.new result (ask_back_at plan.now words.old) }
     ensures few { IfOk result (λ said. said.times ≤ max_repeats) }
     ensures named { IfOk result (λ said. IsNamed plan.now said.event) }
@@ -131,7 +117,7 @@ fn ask_back(words: &mut Words<'_>, plan: &Plan) -> Result<Repeated, Fault>
 
 // What a line after the first one says.
 #[tactic(auto, unfolding(crate::specs::Events::event_at))]
-pub(crate) fn statement(words: &mut Words<'_>, plan: &Plan) -> Result<Repeated, Fault>
+pub(crate) fn statement(words: &mut Words<'_>, plan: &Plan) -> Result<Repeated<Event>, Fault>
     ensures value { Takes words.new result (event_at plan.now words.old) }
     ensures few { IfOk result (λ said. said.times ≤ max_repeats) }
     ensures named { IfOk result (λ said. IsNamed plan.now said.event) }

@@ -6,9 +6,8 @@ ghost use Rattle.plan_reader.specs.Nodes.{has_edge, has_replica};
 ghost use Rattle.run_journal.specs.Grammar.{in_range, index_at, link_at, node_at, replica_at, target_at, times_at};
 ghost use Rattle.run_journal.specs.Limits.{max_index, max_repeats};
 
-use crate::error::Fault;
 use crate::names::link_named;
-use crate::{MAX_INDEX, MAX_REPEATS};
+use crate::{Fault, MAX_INDEX, MAX_REPEATS};
 use plan_reader::{Plan, node_named};
 use text_words::{Words, number_of};
 use tuple_edge::{LinkId, NodeId};
@@ -106,9 +105,9 @@ fn in_range(number: Option<u64>, low: u64, high: u64) -> Result<u64, Fault>
     }
 }
 
-// A packet's place on its link.
+/// A packet's place on its link: the next word.
 #[tactic(auto, unfolding(crate::specs::Grammar::index_at))]
-pub(crate) fn index(words: &mut Words<'_>) -> Result<u64, Fault>
+pub fn index(words: &mut Words<'_>) -> Result<u64, Fault>
     ensures value { Takes words.new result (index_at words.old) }
     ensures within { IfOk result (λ n. n ≤ max_index) }
 {
@@ -116,9 +115,9 @@ pub(crate) fn index(words: &mut Words<'_>) -> Result<u64, Fault>
     in_range(number_of(found), 0, MAX_INDEX)
 }
 
-// How often an event happens: a last word, or once where there is none.
+/// How often an event happens: a last word, or once where there is none.
 #[tactic(auto, unfolding(crate::specs::Grammar::times_at))]
-pub(crate) fn times(words: &mut Words<'_>) -> Result<u64, Fault>
+pub fn times(words: &mut Words<'_>) -> Result<u64, Fault>
     ensures value { Takes words.new result (times_at words.old) }
     ensures within { IfOk result (λ n. (1 ≤ n) × (n ≤ max_repeats)) }
 {

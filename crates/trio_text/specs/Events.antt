@@ -1,0 +1,81 @@
+-- The events that a text says to a plan whose partitions run as groups.
+use Rattle.std.specs.Prelude.{ℕ, List, Result, Ok, Err, codes, if◌then◌else◌}
+use Rattle.std.specs.Str.{bytes_eq}
+use Rattle.text_words.specs.Lines.{Word}
+use Rattle.text_words.specs.Reading.{◌>>=◌, Read, end_or, word_or}
+use Rattle.plan_reader.specs.PlanView.{PlanView}
+use Rattle.run_journal.specs.Grammar.{index_at, times_at}
+use Rattle.run_journal.specs.Listing.{listing_of, once}
+use Rattle.run_journal.specs.declared.error.EventsError.{EventsError}
+use Rattle.run_journal.specs.declared.error.Fault.{Fault}
+use Rattle.run_journal.specs.declared.error.Fault.TheVariants as fault
+use Rattle.run_journal.specs.declared.listing.Repeated.{Repeated}
+use Rattle.trio_machine.specs.declared.event.TrioEvent.{TrioEvent}
+use Rattle.trio_machine.specs.declared.event.TrioEvent.TheVariants as event
+use Rattle.trio_text.specs.Grammar.{ends_at, node_at, replica_at, target_at}
+use Rattle.trio_text.specs.declared.lined.TrioLined.{TrioLined}
+
+-- ---- a line
+
+-- what follows make
+unfoldable pub make_at : List Word → Read (Repeated TrioEvent) Fault
+make_at words = do
+  times ← times_at words
+  Ok (record { event = event.Make; times = times.0 }, times.1)
+
+-- what follows work
+unfoldable pub work_at : PlanView → List Word → Read (Repeated TrioEvent) Fault
+work_at plan words = do
+  at ← node_at plan words
+  times ← times_at at.1
+  Ok (record { event = event.Work at.0; times = times.0 }, times.1)
+
+-- what follows take
+unfoldable pub take_at : PlanView → List Word → Read (Repeated TrioEvent) Fault
+take_at plan words = do
+  ends ← ends_at plan words
+  index ← index_at ends.1
+  end ← end_or fault.Grammar index.1
+  Ok (once (event.Take ends.0.from ends.0.to index.0), end.1)
+
+-- what follows kill
+unfoldable pub kill_at : PlanView → List Word → Read (Repeated TrioEvent) Fault
+kill_at plan words = do
+  at ← replica_at plan words
+  end ← end_or fault.Grammar at.1
+  Ok (once (event.Kill at.0), end.1)
+
+-- what follows pull
+unfoldable pub pull_at : PlanView → List Word → Read (Repeated TrioEvent) Fault
+pull_at plan words = do
+  from ← node_at plan words
+  to ← target_at plan from.0 from.1
+  times ← times_at to.1
+  Ok (record { event = event.Pull from.0 to.0; times = times.0 }, times.1)
+
+-- what a line after the first one says
+unfoldable pub event_at : PlanView → List Word → Read (Repeated TrioEvent) Fault
+event_at plan words = do
+  w ← word_or fault.Grammar words
+  if bytes_eq w.0 (codes "make") then make_at w.1
+      else if bytes_eq w.0 (codes "work") then work_at plan w.1
+      else if bytes_eq w.0 (codes "take") then take_at plan w.1
+      else if bytes_eq w.0 (codes "kill") then kill_at plan w.1
+      else if bytes_eq w.0 (codes "pull") then pull_at plan w.1
+      else Err fault.Grammar
+
+-- ---- the lines
+
+-- an event with its line
+abbrev pub lined : ℕ → Repeated TrioEvent → Repeated TrioLined
+lined number said = record { event = record { line = number; event = said.event }; times = said.times }
+
+-- what a line with this number says, with the line
+unfoldable pub lined_at : PlanView → ℕ → List Word → Read (Repeated TrioLined) Fault
+lined_at plan number words = do
+  said ← event_at plan words
+  Ok (lined number said.0, said.1)
+
+-- the events that a text says to a plan, each with its line
+unfoldable pub trio_events_of : PlanView → List ℕ → Result (List TrioLined) EventsError
+trio_events_of plan bytes = listing_of (codes "trio") (lined_at plan) bytes

@@ -1,0 +1,6 @@
+pub mod Events
+pub mod Grammar
+pub mod Laws
+pub mod Names
+pub mod Nodes
+pub mod Text
