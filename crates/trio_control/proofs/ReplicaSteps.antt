@@ -327,7 +327,7 @@ module _ (plan : PlanView) (inputs : List Input) (is : IsPlan plan) (role : Trio
         let gives : WorksSo (Running x) (Some after) [] worked.Did = λ bound. (
           (Running (record x { consumer = merged_one x.consumer }), []),
           (λ j. if ready_as (Some i) found j then Ok (Running (record x { consumer = merged_one x.consumer }), [])
-          else sends_or_reports (trio_flow plan inputs) (partition_of role) x (due (trio_flow plan inputs) (partition_of role) (λ t. (trio_flow plan inputs).made (out_edge (partition_of role) t) x.consumer.count) x.producer)),
+              else sends_or_reports (trio_flow plan inputs) (partition_of role) x (due (trio_flow plan inputs) (partition_of role) (λ t. (trio_flow plan inputs).made (out_edge (partition_of role) t) x.consumer.count) x.producer)),
           step.merge_stands plan inputs (partition_of role) role.task is here.place (trio_flow plan inputs) (parts_of_run r) (parts_of_run after) x.consumer x.producer i found running.op works.0 s,
           record { messages = refl; items = tt },
         ) in

@@ -162,7 +162,11 @@ impl TrioRunning {
     }
 
     // Sends what is due, or reports the first mark that is above what was told.
-    fn send_or_report(&mut self, role: &TrioRole, out: &mut TrioOutbox) -> Result<Worked, OutOfMemory>
+    fn send_or_report(
+        &mut self,
+        role: &TrioRole,
+        out: &mut TrioOutbox,
+    ) -> Result<Worked, OutOfMemory>
         requires place { IsPlace (partition_of role.now) role.now.sources role.now.task }
         ensures worked { IfOk result (λ did. did ≡ (sending_or_reporting role.now self.old).worked) }
         ensures after { OnOk result (self.new ≡ (sending_or_reporting role.now self.old).after) }
