@@ -3,7 +3,7 @@ pub mod Asking
 pub mod Contents
 pub mod Known
 pub mod Lists
-pub mod Nodes
+pub mod NamedNodes
 pub mod OnLinks
 pub mod Opened
 pub mod Placing
