@@ -23,7 +23,7 @@ use Rattle.trio_control.specs.Contents.{BodyStands}
 use Rattle.trio_core.specs.CoreView.{CoreView, StationView, core_of, found, inputs_at, inputs_in, inputs_of, is_at, name_of, place_of}
 use Rattle.trio_core.specs.Opening.{AreOpen, HasGroup, HasStation, HaveMore, IsOpen}
 use Rattle.trio_core.specs.Sent.{bodies_to}
-use Rattle.trio_core.specs.Stands.{IsCore, IsThere, MemberStands, StandsFor}
+use Rattle.trio_core.specs.Stands.{AreTimely, IsCore, IsThere, MemberStands, StandsFor}
 use Rattle.trio_core.specs.declared.member.Member.{Member}
 use Rattle.trio_core.specs.declared.member.Member.TheVariants as member
 use Rattle.trio_core.proofs.Placing.{found_is, stands_at}
@@ -108,6 +108,7 @@ inputs_is plan inputs (Some at) h = go at.member h.name h.member
   where
     go : (m : Member) → name_of m ≡ node.Ingress → MemberStands plan inputs m (opening.nodes node.Ingress) → inputs_in m ≡ inputs
     go (member.Ingress i) name h = h.inputs_are
+    go (member.Replica r) name h = let z : ⊥ = cc name in absurd z
     go (member.Control c) name h = let z : ⊥ = cc name in absurd z
     go (member.Egress e) name h = let z : ⊥ = cc name in absurd z
 
@@ -117,13 +118,13 @@ pub record Opens (core : CoreView) (inputs : List Input) : Type 0 where
   pub stands : StandsFor core opening
   pub inputs_are : inputs_of core ≡ inputs
 
-pub opens : (plan : PlanView) (inputs : List Input) (xs : List StationView) → IsTrioPlan plan → AreOpen plan inputs xs → ((n : TrioNode) → HasNode (trio_flow plan inputs) n → HasStation n xs) → Opens (core_of plan xs) inputs
-opens plan inputs xs is open all =
+pub opens : (plan : PlanView) (inputs : List Input) (xs : List StationView) → IsTrioPlan plan → AreTimely inputs → AreOpen plan inputs xs → ((n : TrioNode) → HasNode (trio_flow plan inputs) n → HasStation n xs) → Opens (core_of plan xs) inputs
+opens plan inputs xs is times open all =
     let at : (n : TrioNode) → HasNode (trio_flow plan inputs) n → IsThere plan inputs n (found n xs) opening = λ n has. opened_at plan inputs xs open n (all n has) in
     let same : inputs_of (core_of plan xs) ≡ inputs = inputs_is plan inputs (found node.Ingress xs) (at node.Ingress tt) in
     let stands : StandsFor (core_of plan xs) opening = subst (λ I. (n : TrioNode) → HasNode (trio_flow plan I) n → IsThere plan I n (found n xs) opening) (sym same) at in
     record {
-      is = record { plan = is; events = []; state = opening; legal = record { there = tt; leads = refl }; stands = stands };
+      is = record { plan = is; times = subst AreTimely (sym same) times; events = []; state = opening; legal = record { there = tt; leads = refl }; stands = stands };
       stands = stands;
       inputs_are = same;
     }
