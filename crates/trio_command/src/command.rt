@@ -153,6 +153,7 @@ fn text_from(
     ensures text { IfOk result (λ bytes. goes_along name.now (record { plan = core.old.plan; inputs = inputs_of core.old; symbols = trades.now.symbols }) events.now ≡ Writes bytes.items) }
     ensures refused { IfErr result (StopsIn (goes_along name.now (record { plan = core.old.plan; inputs = inputs_of core.old; symbols = trades.now.symbols }) events.now)) }
 {
+    core.known();
     match follow(core, events.lines()) {
         Ok(()) => written(alloc, core, trades),
         Err(stopped) => refusal(alloc, name, stopped),

@@ -1,0 +1,5 @@
+pub mod Endings
+pub mod EventFaults
+pub mod Following
+pub mod Telling
+pub mod Ways
