@@ -2,7 +2,7 @@
 use Rattle.std.proofs.Common.{◌≡◌, ◌≤◌, ◌∙◌, Ok, Some, List, map, refl, sym, ap, subst, [], ◌∷◌, arith}
 use Rattle.tuple_edge.specs.Input.{Input}
 use Rattle.flux_producer.specs.Limits.{max_copies}
-use Rattle.flux_producer.specs.ProducerView.{OutEdgeView, ProducerView, without_room}
+use Rattle.flux_producer.specs.ProducerView.{ProducerView, without_room}
 use Rattle.flux_producer.specs.ProducerView as producer
 use Rattle.node_edges.proofs.Producers.{producers_follow}
 use Rattle.plan_reader.specs.PlanView.{PlanView}
