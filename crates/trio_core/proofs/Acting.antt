@@ -1,5 +1,5 @@
 -- From a node's clauses to its part of the machine's step.
-use Rattle.std.proofs.Common.{◌≡◌, ◌∙◌, ◌++◌, ◌+◌, ℕ, List, [], Some, Result, Ok, Err, OnOk, OnErr, IfErr, drop, length, refl, sym, ap, subst}
+use Rattle.std.proofs.Common.{◌≡◌, ◌∙◌, ◌++◌, ◌+◌, ℕ, Bool, false, List, [], Option, None, Some, Result, Ok, Err, OnOk, OnErr, IfErr, drop, length, refl, sym, ap, subst}
 use Rattle.std.proofs.lemmas.List.{append-nil, drop_at}
 use Rattle.tuple_edge.specs.Input.{Input}
 use Rattle.tuple_edge.specs.declared.item.Item.{Item}
@@ -12,16 +12,21 @@ use Rattle.pair_machine.specs.Numbers.{in_edge}
 use Rattle.ingress_egress.specs.EgressView.{EgressView}
 use Rattle.trio_machine.specs.Asked.{Asks}
 use Rattle.trio_machine.specs.Flow.{IsTrioPlan, trio_flow}
-use Rattle.trio_machine.specs.Machine.{does, egress_in}
-use Rattle.trio_machine.specs.Messages.{Act, Refusal}
-use Rattle.trio_machine.specs.Numbers.{EgressNode, Node}
+use Rattle.trio_machine.specs.Machine.{as_replica, does, egress_in, mark_in, replica_in}
+use Rattle.trio_machine.specs.Messages.{Act, Dies, NotRunning, Refusal}
+use Rattle.trio_machine.specs.Numbers.{EgressNode, Gone, Node, Replica, ReplicaNode, Running, RunningNumbers}
+use Rattle.trio_machine.specs.Replicas.{replica_dies, replica_pulls}
 use Rattle.trio_machine.specs.declared.body.TrioBody.{TrioBody}
 use Rattle.trio_machine.specs.declared.node.TrioNode.{TrioNode}
 use Rattle.trio_machine.specs.declared.node.TrioNode.TheVariants as node
 use Rattle.trio_control.specs.Contents.{appended}
 use Rattle.trio_control.specs.Egress as egress
+use Rattle.trio_control.specs.Replica as replica
+use Rattle.trio_control.specs.Replica.{RunningStands}
+use Rattle.trio_control.specs.ReplicaView.{ReplicaView, node_of, partition_of}
 use Rattle.trio_control.specs.Steps.{IsRefused, IsStep, IsTaken}
-use Rattle.trio_core.specs.Acts.{ActsSo, IsActOf, IsAsked}
+use Rattle.trio_control.specs.declared.running.TrioRunning.{TrioRunning}
+use Rattle.trio_core.specs.Acts.{ActsSo, IsActOf, IsAsked, IsDone, IsNextAt}
 use Rattle.trio_core.specs.CoreView.{Log, StationView, contents_of, inputs_in, name_of}
 use Rattle.trio_core.specs.Stands.{MemberStands}
 use Rattle.trio_core.specs.Steps.{HasActed}
@@ -81,6 +86,35 @@ egress_pulled old new q i h = λ plan inputs x a k. record {
   stands = h plan inputs x k.plan_is.within k.stands k.act.1;
   packets = record { messages = refl; items = tt };
 }
+
+-- ---- of a replica
+
+-- the machine's replica that runs has a mark, and takes the next item of an edge
+pub replica_pulled : (old new : ReplicaView) (q : ℕ) (i : Item)
+    → ((plan : PlanView) (inputs : List Input) (x : RunningNumbers) (n : Node) → IsPlan plan → replica.StandsFor plan inputs old n → replica_in n ≡ Running x
+    → item_at (items_on plan inputs (in_edge (partition_of old.role) q)) (x.consumer.marks q + 1) ≡ Some i
+    → replica.StandsFor plan inputs new (ReplicaNode (Running (record x { consumer = pulled x.consumer q }))))
+    → ActsSo (task.Pull q i) (member.Replica old) (member.Replica new) []
+replica_pulled old new q i h = λ plan inputs x a k. at plan inputs x a k (replica_in x) refl k.act.1
+  where
+    at : (plan : PlanView) (inputs : List Input) (x : Node) (a : Act) → IsAsked plan inputs (task.Pull q i) (member.Replica old) x a → (r : Replica) → replica_in x ≡ r → IsNextAt plan inputs (node_of old.role) q i (mark_in q r)
+        → IsDone plan inputs (member.Replica new) [] x a (node_of old.role)
+    at plan inputs x a k Gone is next = absurd next
+    at plan inputs x a k (Running y) is next = record {
+      done = (ReplicaNode (Running (record y { consumer = pulled y.consumer q })), []);
+      does = ap (λ o. does (trio_flow plan inputs) (node_of old.role) o x) k.act.0 ∙ ap (λ r. as_replica (replica_pulls q r)) is;
+      stands = h plan inputs y x k.plan_is.within k.stands is next;
+      packets = record { messages = refl; items = tt };
+    }
+
+-- one that is gone can't fail
+pub gone_dies : (v : ReplicaView) → v.running ≡ None → (plan : PlanView) (inputs : List Input) → IsTrioPlan plan → IsRefused plan inputs (node_of v.role) (replica.StandsFor plan inputs v) Dies NotRunning
+gone_dies v gone plan inputs is x stands = ap as_replica (dies v.running gone (replica_in x) stands.running)
+  where
+    dies : (r : Option TrioRunning) → r ≡ None → (y : Replica) → RunningStands plan inputs (partition_of v.role) r y → replica_dies (partition_of v.role) y ≡ Err NotRunning
+    dies None e Gone h = refl
+    dies None e (Running y) h = absurd h
+    dies (Some r) e y h = let z : ⊥ = cc e in absurd z
 
 -- ---- a station
 

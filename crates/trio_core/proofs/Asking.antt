@@ -1,15 +1,27 @@
 -- A packet that a node may be asked to take is one that its call admits.
-use Rattle.std.proofs.Common.{◌≡◌, ◌∙◌, ◌<◌, ◌≤◌, ◌+◌, List, length, sym, ap, subst, arith}
+use Rattle.std.proofs.Common.{All, ◌≡◌, ◌∙◌, ◌<◌, ◌≤◌, ◌+◌, ◌-◌, ℕ, zero, suc, List, [], ◌∷◌, Option, None, Some, length, refl, sym, ap, subst, arith}
+use Rattle.std.specs.Prelude.{slice_get}
+use Rattle.std.proofs.lemmas.List.Elements.{All-head, All-tail}
 use Rattle.tuple_edge.specs.Input.{Input}
 use Rattle.tuple_edge.specs.Limits.{number_limit}
+use Rattle.tuple_edge.specs.declared.item.Item.{Item}
+use Rattle.tuple_edge.specs.declared.node.EdgeId.{EdgeId}
+use Rattle.merge_order.specs.Edges.{item_at}
+use Rattle.op_spec.specs.Times.{IsTimely}
+use Rattle.plan_reader.specs.Nodes.{parts_of, sources_of}
 use Rattle.plan_reader.specs.PlanView.{PlanView}
+use Rattle.plan_reader.specs.declared.stage.Stage.{Stage}
 use Rattle.ingress_egress.specs.EgressView.{EgressView}
-use Rattle.pair_machine.proofs.EdgeLaws.{parts_at}
-use Rattle.pair_machine.specs.Counts.{flow_of}
+use Rattle.pair_machine.proofs.EdgeLaws.{parts_at, times_stay}
+use Rattle.pair_machine.specs.Counts.{flow_of, items_on}
 use Rattle.pair_machine.specs.Flow.{Flow}
+use Rattle.pair_machine.specs.Numbers.{in_edge}
+use Rattle.partition_step.specs.Answering.{HasParts, targets_of}
+use Rattle.partition_step.proofs.Places as places
 use Rattle.trio_machine.specs.Asked.{ActAsks, TakenAsks}
 use Rattle.trio_machine.specs.Flow.{IsTrioPlan, trio_flow}
-use Rattle.trio_machine.specs.Links.{IsCarried}
+use Rattle.trio_machine.specs.Links.{Acknowledges, HasNode, IsCarried, IsProducer}
+use Rattle.trio_machine.specs.Machine.{mark_of}
 use Rattle.trio_machine.specs.Messages.{Takes}
 use Rattle.trio_machine.specs.Numbers.{Node}
 use Rattle.trio_machine.specs.declared.body.TrioBody.{TrioBody}
@@ -17,15 +29,20 @@ use Rattle.trio_machine.specs.declared.body.TrioBody.TheVariants as body
 use Rattle.trio_machine.specs.declared.node.TrioNode.{TrioNode}
 use Rattle.trio_machine.specs.declared.node.TrioNode.TheVariants as node
 use Rattle.trio_machine.proofs.Laws.{trio_is_flow}
-use Rattle.trio_control.specs.Contents.{message_of}
+use Rattle.trio_control.specs.Contents.{HasItem, message_of}
 use Rattle.trio_control.specs.ControllerPackets as control
 use Rattle.trio_control.specs.ControllerView.{ControllerView, node_of}
 use Rattle.trio_control.specs.Egress as egress
 use Rattle.trio_control.specs.Ingress as ingress
 use Rattle.trio_control.specs.IngressView.{IngressView}
 use Rattle.trio_control.specs.IngressView as ingress_view
-use Rattle.trio_core.specs.Acts.{Fits, MayBeAsked}
+use Rattle.trio_control.specs.Replica.{IsOfPlan}
+use Rattle.trio_control.specs.ReplicaView as view
+use Rattle.trio_control.specs.ReplicaView.{IsAdmitted, ReplicaView, partition_of}
+use Rattle.trio_control.specs.declared.role.TrioRole.{TrioRole}
+use Rattle.trio_core.specs.Acts.{Fits, IsNextAt, MayBeAsked, merges_at}
 use Rattle.trio_core.specs.CoreView.{name_of}
+use Rattle.trio_core.specs.Stands.{AreTimely}
 use Rattle.trio_core.specs.declared.member.Member.{Member}
 use Rattle.trio_core.specs.declared.member.Member.TheVariants as member
 use Rattle.trio_core.specs.declared.task.Task.TheVariants as task
@@ -120,3 +137,72 @@ ingress_admits plan inputs is i node.Egress body.Down x stands h fits = absurd h
 
 pub ingress_takes : (i : IngressView) (from : TrioNode) (b : TrioBody) → MayBeAsked (task.Take from b) (member.Ingress i) → Fits b → ingress_view.IsAdmitted i from b
 ingress_takes i from b h fits = ingress_admits h.plan h.inputs h.asked.plan_is i from b h.numbers h.asked.stands (carried from b (member.Ingress i) h) fits
+
+-- ---- of a replica
+
+timely_of : (items : List Item) → All IsTimely items → (n : ℕ) (i : Item) → slice_get items n ≡ Some i → IsTimely i
+timely_of [] all n i e = let z : ⊥ = cc e in absurd z
+timely_of (x ∷ items) all zero i e = let same : x ≡ i = cc e in subst IsTimely same (All-head IsTimely x items all)
+timely_of (x ∷ items) all (suc n) i e = timely_of items (All-tail IsTimely x items all) n i e
+
+timely_at : (items : List Item) → All IsTimely items → (n : ℕ) (i : Item) → item_at items n ≡ Some i → IsTimely i
+timely_at items all zero i e = let z : ⊥ = cc e in absurd z
+timely_at items all (suc n) i e = timely_of items all n i e
+
+-- where the times of the inputs are within their limits, so is that of each item on an edge
+pub timely_on : (plan : PlanView) (inputs : List Input) → IsTrioPlan plan → AreTimely inputs → (e : EdgeId) (n : ℕ) (i : Item) → item_at (items_on plan inputs e) n ≡ Some i → IsTimely i
+timely_on plan inputs is times e n i at = timely_at (items_on plan inputs e) ((times_stay plan inputs is.within times).edges e.stage e.from e.to) n i at
+
+some_target : (next : Option Stage) → HasParts next → 1 ≤ targets_of next
+some_target None some = omega arith
+some_target (Some next) some = some
+
+module _ (plan : PlanView) (inputs : List Input) (is : IsTrioPlan plan) (role : TrioRole) (here : IsOfPlan plan role) where
+  -- it takes from the nodes of the stage before
+  source_there : (from : TrioNode) (e : EdgeId) → HasNode (trio_flow plan inputs) from → IsProducer (trio_flow plan inputs) e from → e.stage + 1 ≡ role.stage → e.from < role.sources
+  unfolding flow_of
+  source_there node.Ingress e there makes next =
+      let some = (places.place_sound plan is.within (partition_of role) role.task here.place).some in
+      let first = makes.1 in
+      subst (λ n. e.from < n) (sym here.sources) (omega (arith, some, first))
+  source_there (node.Replica s p c) e there makes next =
+      let stage : s + 1 ≡ role.stage = ap (λ n. n + 1) (sym makes.1) ∙ next in
+      let part : p < sources_of plan role.stage = subst (λ n. p < sources_of plan n) stage there.0.part in
+      subst (λ n. n < role.sources) (sym makes.2) (subst (λ n. p < n) (sym here.sources) part)
+  source_there (node.Control s p) e there makes next = absurd makes
+  source_there node.Egress e there makes next = absurd makes
+
+  -- it is acknowledged by the nodes of the next stage
+  target_there : (from : TrioNode) (e : EdgeId) → HasNode (trio_flow plan inputs) from → Acknowledges (trio_flow plan inputs) e from → e.stage ≡ role.stage → e.to < targets_of role.task.next
+  unfolding flow_of
+  target_there (node.Control s p) e there tells same =
+      let next : s + 1 - 1 ≡ role.stage + 1 = let stage = tells.0 in omega (arith, stage, same) in
+      let part : p < parts_of plan (role.stage + 1) = subst (λ n. p < parts_of plan n) next there.part in
+      subst (λ n. n < targets_of role.task.next) (sym tells.1) (subst (λ n. p < n) (places.targets_are plan (partition_of role) role.task here.place) part)
+  target_there node.Egress e there tells same =
+      let some = some_target role.task.next (places.place_sound plan is.within (partition_of role) role.task here.place).parts in
+      let only = tells.1 in omega (arith, some, only)
+  target_there node.Ingress e there tells same = absurd tells
+  target_there (node.Replica s p c) e there tells same = absurd tells
+
+  replica_admits : AreTimely inputs → (from : TrioNode) (b : TrioBody) → IsCarried (trio_flow plan inputs) from (view.node_of role) (message_of b) → HasItem plan inputs b → Fits b → IsAdmitted role b
+  replica_admits times from (body.Tuple e n i) h item fits =
+      ((h.carries.1.0, h.carries.1.1, source_there from e h.sender h.carries.0 h.carries.1.0), timely_on plan inputs is times e n i item)
+  replica_admits times from (body.Ack e k) h item fits = ((h.carries.1.1, h.carries.1.2, target_there from e h.sender h.carries.0 h.carries.1.1), fits)
+  replica_admits times from (body.Lead t) h item fits = tt
+  replica_admits times from (body.Report e k) h item fits = absurd h.carries.1
+  replica_admits times node.Ingress body.Down h item fits = absurd h.carries
+  replica_admits times (node.Replica s p c) body.Down h item fits = absurd h.carries
+  replica_admits times (node.Control s p) body.Down h item fits = absurd h.carries
+  replica_admits times node.Egress body.Down h item fits = absurd h.carries
+
+pub replica_takes : (r : ReplicaView) (from : TrioNode) (b : TrioBody) → MayBeAsked (task.Take from b) (member.Replica r) → Fits b → IsAdmitted r.role b
+replica_takes r from b h fits =
+    replica_admits h.plan h.inputs h.asked.plan_is r.role h.asked.stands.of_plan h.asked.times from b (carried from b (member.Replica r) h) h.asked.act.2.item fits
+
+next_timely : (plan : PlanView) (inputs : List Input) → IsTrioPlan plan → AreTimely inputs → (n : TrioNode) (q : ℕ) (i : Item) (mark : Option ℕ) → IsNextAt plan inputs n q i mark → IsTimely i
+next_timely plan inputs is times n q i None next = absurd next
+next_timely plan inputs is times n q i (Some mark) next = timely_on plan inputs is times (in_edge (merges_at plan inputs n) q) (mark + 1) i next
+
+pub replica_pulls : (r : ReplicaView) (q : ℕ) (i : Item) → MayBeAsked (task.Pull q i) (member.Replica r) → IsTimely i
+replica_pulls r q i h = next_timely h.plan h.inputs h.asked.plan_is h.asked.times (view.node_of r.role) q i (mark_of q (view.node_of r.role) h.numbers) h.asked.act.1

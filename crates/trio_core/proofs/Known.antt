@@ -14,7 +14,7 @@ use Rattle.trio_machine.proofs.Legal.{legal_join}
 use Rattle.trio_core.specs.Acts.{IsRefusedSo, MayBeAsked}
 use Rattle.trio_core.specs.CoreView.{CoreView, StationView, core_of, flow_in, found, inputs_of, place_of}
 use Rattle.trio_core.specs.Refusals.{IsRefusal}
-use Rattle.trio_core.specs.Stands.{IsCore, IsThere, StandsFor, StationStands}
+use Rattle.trio_core.specs.Stands.{AreTimely, IsCore, IsThere, StandsFor, StationStands}
 use Rattle.trio_core.specs.Steps.{ActedAt, GoesOn, HasChanged, IsApplied, IsNamed, IsTaskOf}
 use Rattle.trio_core.specs.declared.error.TrioError.{TrioError}
 use Rattle.trio_core.specs.declared.error.TrioError.TheVariants as error
@@ -35,6 +35,7 @@ core_on old new e is named goes plan_same inputs_is =
     let legal : IsLegal f es z.0 = legal_join f opening is.state z.0 is.events (e ∷ []) is.legal (record { there = (named_there f e named, tt); leads = z.1 }) in
     record {
       plan = subst IsTrioPlan (sym plan_same) is.plan;
+      times = subst AreTimely (sym inputs_is) is.times;
       events = es;
       state = z.0;
       legal = subst (λ P. IsLegal (trio_flow P (inputs_of new)) es z.0) (sym plan_same) (subst (λ I. IsLegal (trio_flow old.plan I) es z.0) (sym inputs_is) legal);
@@ -43,7 +44,7 @@ core_on old new e is named goes plan_same inputs_is =
 
 pub applied : (old new : CoreView) (t : Task) (e : TrioEvent) → IsCore old → IsNamed (flow_in old) e → IsTaskOf old e t → HasChanged (at_node e) t old new → IsCore new × IsApplied old new e
 applied old new t e is named task h =
-    let goes = goes_on old new t e is.plan named h task in
+    let goes = goes_on old new t e is.plan is.times named h task in
     let inputs = inputs_same (at_node e) t old new h in
     (core_on old new e is named goes h.plan inputs, record { steps = goes; others = h.others; plan = h.plan; inputs = inputs })
 
@@ -63,16 +64,16 @@ unfolding step
 refused_early core s e x h = refusal_on (acted (flow_in core) (at_node e) s) (λ r. refl) (act_of (flow_in core) s e) x h
 
 -- what the node refuses
-pub refused_there : (core : CoreView) (t : Task) (e : TrioEvent) (at : StationView) (x : TrioError) → IsTrioPlan core.plan → IsNamed (flow_in core) e → IsTaskOf core e t → found (at_node e) core.stations ≡ Some at
+pub refused_there : (core : CoreView) (t : Task) (e : TrioEvent) (at : StationView) (x : TrioError) → IsTrioPlan core.plan → AreTimely (inputs_of core) → IsNamed (flow_in core) e → IsTaskOf core e t → found (at_node e) core.stations ≡ Some at
     → IsRefusedSo t at.member x → (s : State) → StandsFor core s → IsSound (flow_in core) s → IsRefusal (step (flow_in core) s e) x
 unfolding step
-refused_there core t e at x is named task here refused s stands sound =
+refused_there core t e at x is times named task here refused s stands sound =
     let f = flow_in core in
     let n = at_node e in
     let z = task s stands in
     let has = at_there f e (named_there f e named) in
     let stood : StationStands core.plan (inputs_of core) n at s = subst (λ o. IsThere core.plan (inputs_of core) n o s) here (stands n has) in
-    let asked = asked_at core e t at is named here s stands sound z.0 z.1 z.2 in
+    let asked = asked_at core e t at is times named here s stands sound z.0 z.1 z.2 in
     let at_does : IsRefusal (does f n z.0 (s.nodes n)) x = subst (λ k. IsRefusal (does f k z.0 (s.nodes n)) x) stood.name (refused core.plan (inputs_of core) (s.nodes n) z.0 asked) in
     let at_after : IsRefusal (after n s (does f n z.0 (s.nodes n))) x = refusal_on (after n s) (λ r. refl) (does f n z.0 (s.nodes n)) x at_does in
     subst (λ a. IsRefusal (acted f n s a) x) (sym z.1) at_after
@@ -104,7 +105,7 @@ module _ (plan : PlanView) (xs : List StationView) (self : CoreView) (e : TrioEv
         inputs = inputs_of core;
         numbers = is.state.nodes (at_node e);
         act = z.0;
-        asked = asked_at core e t at is.plan named_inside (found_is (at_node e) xs i place ∙ here) is.state is.stands (is_sound core is) z.0 z.1 z.2;
+        asked = asked_at core e t at is.plan is.times named_inside (found_is (at_node e) xs i place ∙ here) is.state is.stands (is_sound core is) z.0 z.1 z.2;
       }
 
   did_act : (news : List StationView) → ActedAt t i xs news → IsCore (core_of plan news) × IsApplied self (core_of plan news) e
@@ -122,4 +123,4 @@ module _ (plan : PlanView) (xs : List StationView) (self : CoreView) (e : TrioEv
 
   pub refused_after : (at : StationView) (x : TrioError) → slice_get xs i ≡ Some at → IsRefusedSo t at.member x → (s : State) → StandsFor self s → IsSound (flow_in self) s → IsRefusal (step (flow_in self) s e) x
   refused_after at x here refused = subst (λ (k : CoreView). (s : State) → StandsFor k s → IsSound (flow_in k) s → IsRefusal (step (flow_in k) s e) x) same
-      (refused_there (core_of plan xs) t e at x is.plan named_inside task_inside (found_is (at_node e) xs i place ∙ here) refused)
+      (refused_there (core_of plan xs) t e at x is.plan is.times named_inside task_inside (found_is (at_node e) xs i place ∙ here) refused)

@@ -11,6 +11,7 @@ use Rattle.tuple_edge.specs.declared.node.NodeId.TheVariants as pairs
 use Rattle.trio_machine.specs.Flow.{trio_flow}
 use Rattle.trio_machine.specs.Links.{HasNode}
 use Rattle.trio_machine.specs.Machine.{State}
+use Rattle.trio_machine.specs.Numbers.{group_size}
 use Rattle.trio_machine.specs.declared.node.TrioNode.{TrioNode}
 use Rattle.trio_machine.specs.declared.node.TrioNode.TheVariants as node
 use Rattle.trio_control.specs.ControllerPackets as of_control
@@ -18,12 +19,15 @@ use Rattle.trio_control.specs.ControllerView.{ControllerView, node_of}
 use Rattle.trio_control.specs.Egress as of_egress
 use Rattle.trio_control.specs.Ingress as of_ingress
 use Rattle.trio_control.specs.IngressView.{IngressView, contents_in}
-use Rattle.trio_core.specs.CoreView.{CoreView, StationView, core_of, flow_in, found, inputs_of, name_of, place_of}
-use Rattle.trio_core.specs.Ends.{control_in, egress_in, ingress_in}
+use Rattle.trio_control.specs.Replica as of_replica
+use Rattle.trio_control.specs.ReplicaView as replica_view
+use Rattle.trio_control.specs.ReplicaView.{ReplicaView}
+use Rattle.trio_core.specs.CoreView.{CoreView, StationView, contents_of_replica, core_of, flow_in, found, inputs_of, name_of, place_of}
+use Rattle.trio_core.specs.Ends.{control_in, egress_in, ingress_in, replica_in}
 use Rattle.trio_core.specs.Stands.{IsCore, IsThere, MemberStands, StandsFor, StationStands}
 use Rattle.trio_core.specs.declared.member.Member.{Member}
 use Rattle.trio_core.specs.declared.member.Member.TheVariants as member
-use Rattle.trio_core.proofs.Contents.{ingress_from}
+use Rattle.trio_core.proofs.Contents.{ingress_from, replica_from}
 use Rattle.trio_core.proofs.Known.{is_there}
 use Rattle.trio_core.proofs.Lists.{get_at}
 use Rattle.trio_core.proofs.Placing.{found_is, stands_at}
@@ -51,6 +55,10 @@ pub control_there : (plan : PlanView) (inputs : List Input) (s p : ℕ) → has_
 unfolding flow_of
 control_there plan inputs s p h = let z = (nodes_named plan inputs (pairs.Control s p)).there h in record { first = z.0.0; last = z.0.1; part = z.1 }
 
+-- and so is a replica's
+pub replica_there : (plan : PlanView) (inputs : List Input) (s p c : ℕ) → has_pair plan s p ≡ true → c < group_size → HasNode (trio_flow plan inputs) (node.Replica s p c)
+replica_there plan inputs s p c h below = (control_there plan inputs s p h, below)
+
 module _ (core : CoreView) (n : TrioNode) (at : StationView) (here : found n core.stations ≡ Some at) where
   stands_here : (s : State) → StandsFor core s → HasNode (flow_in core) n → StationStands core.plan (inputs_of core) n at s
   stands_here s stands has = subst (λ (o : Option StationView). IsThere core.plan (inputs_of core) n o s) here (stands n has)
@@ -63,16 +71,25 @@ module _ (core : CoreView) (n : TrioNode) (at : StationView) (here : found n cor
 
 no_ingress : (m : Member) → name_of m ≡ node.Ingress → None ≡ ingress_in m → ⊥
 no_ingress (member.Ingress i) name h = cc h
+no_ingress (member.Replica r) name h = cc name
 no_ingress (member.Control c) name h = cc name
 no_ingress (member.Egress e) name h = cc name
 
 no_control : (s p : ℕ) (m : Member) → name_of m ≡ node.Control s p → None ≡ control_in m → ⊥
 no_control s p (member.Ingress i) name h = cc name
+no_control s p (member.Replica r) name h = cc name
 no_control s p (member.Control c) name h = cc h
 no_control s p (member.Egress e) name h = cc name
 
+no_replica : (s p c : ℕ) (m : Member) → name_of m ≡ node.Replica s p c → None ≡ replica_in m → ⊥
+no_replica s p c (member.Ingress i) name h = cc name
+no_replica s p c (member.Replica r) name h = cc h
+no_replica s p c (member.Control d) name h = cc name
+no_replica s p c (member.Egress e) name h = cc name
+
 no_egress : (m : Member) → name_of m ≡ node.Egress → None ≡ egress_in m → ⊥
 no_egress (member.Ingress i) name h = cc name
+no_egress (member.Replica r) name h = cc name
 no_egress (member.Control c) name h = cc name
 no_egress (member.Egress e) name h = cc h
 
@@ -83,6 +100,9 @@ module _ (core : CoreView) (at : StationView) where
   pub is_control : (s p : ℕ) → found (node.Control s p) core.stations ≡ Some at → IsCore core → has_pair core.plan s p ≡ true → None ≡ control_in at.member → ⊥
   is_control s p here is has h = no_control s p at.member (named_here core (node.Control s p) at here is (control_there core.plan (inputs_of core) s p has)) h
 
+  pub is_replica : (s p c : ℕ) → found (node.Replica s p c) core.stations ≡ Some at → IsCore core → has_pair core.plan s p ≡ true → c < group_size → None ≡ replica_in at.member → ⊥
+  is_replica s p c here is has below h = no_replica s p c at.member (named_here core (node.Replica s p c) at here is (replica_there core.plan (inputs_of core) s p c has below)) h
+
   pub is_egress : found node.Egress core.stations ≡ Some at → IsCore core → None ≡ egress_in at.member → ⊥
   is_egress here is h = no_egress at.member (named_here core node.Egress at here is tt) h
 
@@ -90,26 +110,44 @@ module _ (core : CoreView) (at : StationView) where
 
 control_named : (c : ControllerView) (n : TrioNode) (m : Member) → name_of m ≡ n → Some c ≡ control_in m → node_of c ≡ n
 control_named c n (member.Ingress i) name e = let z : ⊥ = cc e in absurd z
+control_named c n (member.Replica r) name e = let z : ⊥ = cc e in absurd z
 control_named c n (member.Control d) name e = let same : c ≡ d = ap (λ o. unwrap_or o c) e in ap node_of same ∙ name
 control_named c n (member.Egress g) name e = let z : ⊥ = cc e in absurd z
+
+replica_named : (r : ReplicaView) (n : TrioNode) (m : Member) → name_of m ≡ n → Some (contents_of_replica r) ≡ replica_in m → replica_view.node_of r.role ≡ n
+replica_named r n (member.Ingress i) name e = let z : ⊥ = cc e in absurd z
+replica_named r n (member.Replica k) name e = let same : contents_of_replica r ≡ k = ap (λ o. unwrap_or o k) e in ap (λ (v : ReplicaView). replica_view.node_of v.role) same ∙ name
+replica_named r n (member.Control d) name e = let z : ⊥ = cc e in absurd z
+replica_named r n (member.Egress g) name e = let z : ⊥ = cc e in absurd z
 
 module _ (plan : PlanView) (inputs : List Input) (s : State) where
   of_the_ingress : (i : IngressView) (m : Member) → MemberStands plan inputs m (s.nodes node.Ingress) → Some (contents_in i) ≡ ingress_in m → of_ingress.StandsFor plan inputs i (s.nodes node.Ingress)
   of_the_ingress i (member.Ingress j) h e =
       let same : contents_in i ≡ j = ap (λ o. unwrap_or o j) e in
       ingress_from plan inputs i (s.nodes node.Ingress) (subst (λ k. of_ingress.StandsFor plan inputs k (s.nodes node.Ingress)) (sym same) h)
+  of_the_ingress i (member.Replica r) h e = let z : ⊥ = cc e in absurd z
   of_the_ingress i (member.Control c) h e = let z : ⊥ = cc e in absurd z
   of_the_ingress i (member.Egress g) h e = let z : ⊥ = cc e in absurd z
 
   of_a_control : (n : TrioNode) (c : ControllerView) (m : Member) → MemberStands plan inputs m (s.nodes n) → Some c ≡ control_in m → of_control.StandsFor (trio_flow plan inputs) c (s.nodes n)
   of_a_control n c (member.Ingress i) h e = let z : ⊥ = cc e in absurd z
+  of_a_control n c (member.Replica r) h e = let z : ⊥ = cc e in absurd z
   of_a_control n c (member.Control d) h e =
       let same : c ≡ d = ap (λ o. unwrap_or o d) e in
       subst (λ k. of_control.StandsFor (trio_flow plan inputs) k (s.nodes n)) (sym same) h
   of_a_control n c (member.Egress g) h e = let z : ⊥ = cc e in absurd z
 
+  of_a_replica : (n : TrioNode) (r : ReplicaView) (m : Member) → MemberStands plan inputs m (s.nodes n) → Some (contents_of_replica r) ≡ replica_in m → of_replica.StandsFor plan inputs r (s.nodes n)
+  of_a_replica n r (member.Ingress i) h e = let z : ⊥ = cc e in absurd z
+  of_a_replica n r (member.Replica k) h e =
+      let same : contents_of_replica r ≡ k = ap (λ o. unwrap_or o k) e in
+      replica_from plan inputs r (s.nodes n) (subst (λ v. of_replica.StandsFor plan inputs v (s.nodes n)) (sym same) h)
+  of_a_replica n r (member.Control c) h e = let z : ⊥ = cc e in absurd z
+  of_a_replica n r (member.Egress g) h e = let z : ⊥ = cc e in absurd z
+
   of_the_egress : (g : EgressView) (m : Member) → MemberStands plan inputs m (s.nodes node.Egress) → Some g ≡ egress_in m → of_egress.StandsFor plan inputs g (s.nodes node.Egress)
   of_the_egress g (member.Ingress i) h e = let z : ⊥ = cc e in absurd z
+  of_the_egress g (member.Replica r) h e = let z : ⊥ = cc e in absurd z
   of_the_egress g (member.Control c) h e = let z : ⊥ = cc e in absurd z
   of_the_egress g (member.Egress k) h e =
       let same : g ≡ k = ap (λ o. unwrap_or o k) e in
@@ -127,6 +165,16 @@ module _ (core : CoreView) (at : StationView) where
       → (t : State) → StandsFor core t → of_control.StandsFor (flow_in core) c (t.nodes (node.Control s p))
   control_stands s p c here has e t stands =
       of_a_control core.plan (inputs_of core) t (node.Control s p) c at.member (stands_here core (node.Control s p) at here t stands (control_there core.plan (inputs_of core) s p has)).member e
+
+  pub replica_is_named : (s p c : ℕ) (r : ReplicaView) → found (node.Replica s p c) core.stations ≡ Some at → IsCore core → has_pair core.plan s p ≡ true → c < group_size → Some (contents_of_replica r) ≡ replica_in at.member
+      → replica_view.node_of r.role ≡ node.Replica s p c
+  replica_is_named s p c r here is has below e =
+      replica_named r (node.Replica s p c) at.member (named_here core (node.Replica s p c) at here is (replica_there core.plan (inputs_of core) s p c has below)) e
+
+  pub replica_stands : (s p c : ℕ) (r : ReplicaView) → found (node.Replica s p c) core.stations ≡ Some at → has_pair core.plan s p ≡ true → c < group_size → Some (contents_of_replica r) ≡ replica_in at.member
+      → (t : State) → StandsFor core t → of_replica.StandsFor core.plan (inputs_of core) r (t.nodes (node.Replica s p c))
+  replica_stands s p c r here has below e t stands =
+      of_a_replica core.plan (inputs_of core) t (node.Replica s p c) r at.member (stands_here core (node.Replica s p c) at here t stands (replica_there core.plan (inputs_of core) s p c has below)).member e
 
   pub egress_stands : (g : EgressView) → found node.Egress core.stations ≡ Some at → Some g ≡ egress_in at.member
       → (s : State) → StandsFor core s → of_egress.StandsFor core.plan (inputs_of core) g (s.nodes node.Egress)

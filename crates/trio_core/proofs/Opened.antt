@@ -1,13 +1,15 @@
 -- Stations that open, and the core that they are.
 use Rattle.std.proofs.Common.{◌≡◌, ◌∙◌, ◌<◌, ◌≤◌, ◌+◌, ◌-◌, ◌⊎◌, inl, inr, ℕ, zero, suc, Bool, true, false, IsTrue, List, [], ◌∷◌, ◌++◌, Option, None, Some, length, slice_get, refl, sym, ap, subst, true≢false, arith, if◌then◌else◌, ◌&&◌, nat_le, nat_lt, le-leb, lt-ltb}
 use Rattle.std.specs.Option.{option_and_then, option_or}
+use Rattle.std.proofs.lemmas.List.Elements.{All-weaker}
 use Rattle.std.proofs.lemmas.Option.{slice_get_within}
 use Rattle.tuple_edge.specs.Input.{Input, from_first}
 use Rattle.tuple_edge.specs.declared.row.Row.{Row}
+use Rattle.op_spec.specs.Times.{IsTime}
 use Rattle.plan_reader.specs.Nodes.{has_pair, sources_of}
 use Rattle.plan_reader.specs.PlanView.{IsPlan, PlanView}
-use Rattle.trade_text.specs.TradesView.{IsTrades, TradesView, inputs_in, paired}
-use Rattle.trade_text.proofs.Sources.{paired_first}
+use Rattle.trade_text.specs.TradesView.{IsInputRow, IsTrades, TradesView, inputs_in, paired}
+use Rattle.trade_text.proofs.Sources.{each_row, paired_first}
 use Rattle.pair_machine.specs.CountLaws.{IsOfStage}
 use Rattle.pair_machine.specs.Counts.{flow_of}
 use Rattle.pair_machine.specs.Drain.{partition}
@@ -32,7 +34,7 @@ use Rattle.trio_core.specs.Ends.{egress_in}
 use Rattle.trio_core.specs.Opening.{AreOpen, HasAll, HasGroup, HasStation, HaveMore, IsOpen, new_station}
 use Rattle.trio_core.specs.Promises.{emitted_by, rows_of}
 use Rattle.trio_core.specs.Sent.{bodies_to}
-use Rattle.trio_core.specs.Stands.{IsCore, IsThere, MemberStands, StandsFor}
+use Rattle.trio_core.specs.Stands.{AreTimely, IsCore, IsThere, MemberStands, StandsFor}
 use Rattle.trio_core.specs.declared.member.Member.{Member}
 use Rattle.trio_core.specs.declared.member.Member.TheVariants as member
 use Rattle.trio_core.proofs.Contents.{name_in, stands_in}
@@ -152,6 +154,7 @@ inputs_is plan inputs (Some at) h = go at.member h.name h.member
   where
     go : (m : Member) → name_of m ≡ node.Ingress → MemberStands plan inputs m (opening.nodes node.Ingress) → inputs_of_node m ≡ inputs
     go (member.Ingress i) name h = h.inputs_are
+    go (member.Replica r) name h = let z : ⊥ = cc name in absurd z
     go (member.Control c) name h = let z : ⊥ = cc name in absurd z
     go (member.Egress e) name h = let z : ⊥ = cc name in absurd z
 
@@ -161,6 +164,7 @@ no_rows core stands = of_station (found node.Egress core.stations) (stands node.
   where
     of_member : (m : Member) → MemberStands core.plan (inputs_of core) m (opening.nodes node.Egress) → rows_of (egress_in m) ≡ []
     of_member (member.Ingress i) h = refl
+    of_member (member.Replica r) h = refl
     of_member (member.Control c) h = refl
     of_member (member.Egress e) h = h.emitted
 
@@ -185,13 +189,13 @@ pub record Opens (core : CoreView) (inputs : List Input) : Type 0 where
   pub stands : StandsFor core opening
   pub inputs_are : inputs_of core ≡ inputs
 
-opens : (plan : PlanView) (inputs : List Input) (xs : List StationView) → IsTrioPlan plan → AreOpen plan inputs xs → HasAll plan xs → Opens (core_of plan xs) inputs
-opens plan inputs xs is all there =
+opens : (plan : PlanView) (inputs : List Input) (xs : List StationView) → IsTrioPlan plan → AreTimely inputs → AreOpen plan inputs xs → HasAll plan xs → Opens (core_of plan xs) inputs
+opens plan inputs xs is times all there =
     let at : (n : TrioNode) → HasNode (trio_flow plan inputs) n → IsThere plan inputs n (found n xs) opening = λ n has. opened_at plan inputs xs all n (all_nodes plan inputs xs there n has) in
     let same : inputs_of (core_of plan xs) ≡ inputs = inputs_is plan inputs (found node.Ingress xs) (at node.Ingress tt) in
     let stands : StandsFor (core_of plan xs) opening = subst (λ I. (n : TrioNode) → HasNode (trio_flow plan I) n → IsThere plan I n (found n xs) opening) (sym same) at in
     record {
-      is = record { plan = is; events = []; state = opening; legal = record { there = tt; leads = refl }; stands = stands };
+      is = record { plan = is; times = subst AreTimely (sym same) times; events = []; state = opening; legal = record { there = tt; leads = refl }; stands = stands };
       stands = stands;
       inputs_are = same;
     }
@@ -200,13 +204,21 @@ opens plan inputs xs is all there =
 unmerged_inputs : (trades : TradesView) → IsTrades trades → trades.merged ≡ false → from_first trades.rows ≡ inputs_in trades
 unmerged_inputs trades limits unmerged = sym (ap (paired trades.rows) (limits.unmerged unmerged) ∙ paired_first trades.rows)
 
+-- the times of trades are within their limits
+timely_row : (r : Row) → IsInputRow r → IsTime r.time
+timely_row r h = (h.time.low, h.time.high)
+
+timely_inputs : (trades : TradesView) → IsTrades trades → AreTimely (inputs_in trades)
+timely_inputs trades limits = each_row (λ r. IsTime r.time) trades.rows trades.sources (All-weaker IsInputRow (λ r. IsTime r.time) timely_row trades.rows limits.rows)
+
 -- the core of a plan's copy, over the inputs of trades alone
 pub core_opens : (copy plan : PlanView) (rows : List Row) (trades : TradesView) (xs : List StationView) → copy ≡ plan → IsPlan plan → plan.version ≡ 1 → rows ≡ trades.rows → IsTrades trades → trades.merged ≡ false
     → AreOpen plan (from_first rows) xs → HasAll plan xs → Opens (core_of copy xs) (inputs_in trades)
 core_opens copy plan rows trades xs same within version of_trades limits unmerged all there =
     let is : IsTrioPlan plan = record { within = within; one_source = version } in
     let inputs : from_first rows ≡ inputs_in trades = ap from_first of_trades ∙ unmerged_inputs trades limits unmerged in
-    subst (λ P. Opens (core_of P xs) (inputs_in trades)) (sym same) (subst (λ I. Opens (core_of plan xs) I) inputs (opens plan (from_first rows) xs is all there))
+    let here : Opens (core_of plan xs) (inputs_in trades) = opens plan (inputs_in trades) xs is (timely_inputs trades limits) (subst (λ I. AreOpen plan I xs) inputs all) there in
+    subst (λ P. Opens (core_of P xs) (inputs_in trades)) (sym same) here
 
 -- a new controller stands for its numbers at the start, in each flow of the plan
 pub control_opens : (plan : PlanView) (stage edges : ℕ) (c : ControllerView) → edges ≡ sources_of plan stage → ((f : Flow) → edges ≡ f.sources stage → control.StandsFor f c (new_node (control_view.node_of c)))

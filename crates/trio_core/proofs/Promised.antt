@@ -21,6 +21,7 @@ emits_a_front core is = at_egress (found node.Egress core.stations) (is.stands n
 
     of_member : (m : Member) → MemberStands core.plan (inputs_of core) m (is.state.nodes node.Egress) → IsFrontOf (rows_of (egress_in m)) (output core.plan (inputs_of core))
     of_member (member.Ingress i) h = refl
+    of_member (member.Replica r) h = refl
     of_member (member.Control c) h = refl
     of_member (member.Egress e) h = subst (λ rows. IsFrontOf rows (output core.plan (inputs_of core))) (sym h.emitted) (sym front.front)
 

@@ -14,20 +14,23 @@ use Rattle.node_edges.proofs.OutEdges.{held_is}
 use Rattle.node_edges.proofs.Producers.{producers_follow}
 use Rattle.plan_reader.specs.PlanView.{PlanView}
 use Rattle.pair_machine.specs.Boundary.{ingress_source}
-use Rattle.pair_machine.specs.Counts.{flow_of, items_on}
+use Rattle.pair_machine.specs.Counts.{flow_of, items_on, made_on}
 use Rattle.pair_machine.specs.Machine as pairs
 use Rattle.pair_machine.specs.Numbers.{Partition, Producer, in_edge, ingress_edge, out_edge}
 use Rattle.pair_machine.specs.Drain.{partition}
 use Rattle.trio_machine.specs.Boundary.{source_made}
 use Rattle.trio_machine.specs.Flow.{trio_flow}
 use Rattle.trio_machine.specs.Links.{HasEdge}
-use Rattle.trio_machine.specs.Machine.{State, act_of, buffer_of, ingress_in, pull_of}
+use Rattle.trio_machine.specs.Machine.{State, act_of, buffer_in, buffer_of, ingress_in, pull_of, replica_in}
 use Rattle.trio_machine.specs.Machine as machine
 use Rattle.trio_machine.specs.Messages.{Act, NotHeld, NotRunning, Pulls}
-use Rattle.trio_machine.specs.Numbers.{Node, part_of}
+use Rattle.trio_machine.specs.Numbers.{Gone, Node, Replica, Running, part_of}
 use Rattle.trio_machine.specs.declared.event.TrioEvent.TheVariants as event
 use Rattle.trio_machine.specs.declared.node.TrioNode.{TrioNode}
 use Rattle.trio_machine.specs.declared.node.TrioNode.TheVariants as node
+use Rattle.trio_control.specs.Replica.{RunningStands}
+use Rattle.trio_control.specs.ReplicaView as role
+use Rattle.trio_control.specs.declared.running.TrioRunning.{TrioRunning}
 use Rattle.trio_core.specs.Acts.{IsActOf, IsNextAt, merges_at}
 use Rattle.trio_core.specs.CoreView.{CoreView, StationView, flow_in, found, inputs_of, name_of}
 use Rattle.trio_core.specs.Ends.{consumer_in, producer_in}
@@ -70,31 +73,63 @@ module _ (plan : PlanView) (inputs : List Input) where
   edge_from (node.Control s p) t = ingress_edge 0 t
   edge_from node.Egress t = ingress_edge 0 t
 
+  buffered_run : (at : Partition) (r : Option TrioRunning) (y : Replica) (p : ProducerView) (t : ℕ) → RunningStands plan inputs at r y → option_map (λ z. z.producer) r ≡ Some (contents_of p) → t < length p.edges
+      → Buffered p t (buffer_in (trio_flow plan inputs) at t y) (out_edge at t)
+  unfolding flow_of
+  buffered_run at (Some r) (Running y) p t h e l =
+      let held : contents_of p ≡ r.producer = ap (λ o. unwrap_or o r.producer) (sym e) in
+      by_producer at (λ j. made_on plan inputs (out_edge at j) y.consumer.count) y.producer r.producer p t held h.producer l
+  buffered_run at (Some r) Gone p t h e l = absurd h
+  buffered_run at None y p t h e l = let z : ⊥ = cc e in absurd z
+
   buffered : (m : Member) (x : Node) (p : ProducerView) (t : ℕ) → MemberStands plan inputs m x → producer_in m ≡ Some (contents_of p) → t < length p.edges
       → Buffered p t (buffer_of (trio_flow plan inputs) t (name_of m) x) (edge_from (name_of m) t)
   buffered (member.Ingress i) x p t h e l =
       let held : contents_of p ≡ i.producer = ap (λ o. unwrap_or o i.producer) (sym e) in
       by_producer (ingress_source 0) (source_made (trio_flow plan inputs) (ingress_in x)) (ingress_in x).producer i.producer p t held h.producer l
+  buffered (member.Replica r) x p t h e l = buffered_run (role.partition_of r.role) r.running (replica_in x) p t h.running e l
   buffered (member.Control c) x p t h e l = let z : ⊥ = cc e in absurd z
   buffered (member.Egress g) x p t h e l = let z : ⊥ = cc e in absurd z
 
+  unbuffered_run : (at : Partition) (r : Option TrioRunning) (y : Replica) (t : ℕ) → RunningStands plan inputs at r y → option_map (λ z. z.producer) r ≡ None → buffer_in (trio_flow plan inputs) at t y ≡ None
+  unbuffered_run at None Gone t h e = refl
+  unbuffered_run at None (Running y) t h e = absurd h
+  unbuffered_run at (Some r) y t h e = let z : ⊥ = cc e in absurd z
+
   unbuffered : (m : Member) (x : Node) (t : ℕ) → MemberStands plan inputs m x → producer_in m ≡ None → buffer_of (trio_flow plan inputs) t (name_of m) x ≡ None
   unbuffered (member.Ingress i) x t h e = let z : ⊥ = cc e in absurd z
+  unbuffered (member.Replica r) x t h e = unbuffered_run (role.partition_of r.role) r.running (replica_in x) t h.running e
   unbuffered (member.Control c) x t h e = refl
   unbuffered (member.Egress g) x t h e = refl
 
   -- ---- the consumer's end
 
+  marked_run : (at : Partition) (r : Option TrioRunning) (y : Replica) (k : ConsumerView) (q : ℕ) → RunningStands plan inputs at r y → option_map (λ z. z.consumer) r ≡ Some k → q < length k.merge.marks
+      → machine.mark_in q y ≡ Some (mark_of k.merge q)
+  marked_run at (Some r) (Running y) k q h e l =
+      let same : r.consumer ≡ k = ap (λ o. unwrap_or o k) e in
+      let within = subst (λ m. q < m) h.consumer.edges (subst (λ z. q < length z.merge.marks) (sym same) l) in
+      ap Some (sym (h.consumer.marks q within) ∙ ap (λ z. mark_of z.merge q) same)
+  marked_run at (Some r) Gone k q h e l = absurd h
+  marked_run at None y k q h e l = let z : ⊥ = cc e in absurd z
+
   marked : (m : Member) (x : Node) (k : ConsumerView) (q : ℕ) → MemberStands plan inputs m x → consumer_in m ≡ Some k → q < length k.merge.marks → machine.mark_of q (name_of m) x ≡ Some (mark_of k.merge q)
   marked (member.Ingress i) x k q h e l = let z : ⊥ = cc e in absurd z
+  marked (member.Replica r) x k q h e l = marked_run (role.partition_of r.role) r.running (replica_in x) k q h.running e l
   marked (member.Control c) x k q h e l = let z : ⊥ = cc e in absurd z
   marked (member.Egress g) x k q h e l =
       let same : g.consumer ≡ k = ap (λ o. unwrap_or o k) e in
       let within = subst (λ m. q < m) h.consumer.edges (subst (λ z. q < length z.merge.marks) (sym same) l) in
       ap Some (sym (h.consumer.marks q within) ∙ ap (λ z. mark_of z.merge q) same)
 
+  unmarked_run : (at : Partition) (r : Option TrioRunning) (y : Replica) (q : ℕ) → RunningStands plan inputs at r y → option_map (λ z. z.consumer) r ≡ None → machine.mark_in q y ≡ None
+  unmarked_run at None Gone q h e = refl
+  unmarked_run at None (Running y) q h e = absurd h
+  unmarked_run at (Some r) y q h e = let z : ⊥ = cc e in absurd z
+
   unmarked : (m : Member) (x : Node) (q : ℕ) → MemberStands plan inputs m x → consumer_in m ≡ None → machine.mark_of q (name_of m) x ≡ None
   unmarked (member.Ingress i) x q h e = refl
+  unmarked (member.Replica r) x q h e = unmarked_run (role.partition_of r.role) r.running (replica_in x) q h.running e
   unmarked (member.Control c) x q h e = refl
   unmarked (member.Egress g) x q h e = let z : ⊥ = cc e in absurd z
 

@@ -24,7 +24,7 @@ use Rattle.trio_control.specs.Contents.{ArePacketsFor, BodyStands}
 use Rattle.trio_core.specs.Acts.{IsActOf, IsAsked, IsDone}
 use Rattle.trio_core.specs.CoreView.{CoreView, Log, StationView, flow_in, found, inputs_of, name_of}
 use Rattle.trio_core.specs.Sent.{bodies_to}
-use Rattle.trio_core.specs.Stands.{IsThere, MemberStands, StandsFor, StationStands}
+use Rattle.trio_core.specs.Stands.{AreTimely, IsThere, MemberStands, StandsFor, StationStands}
 use Rattle.trio_core.specs.Steps.{GoesOn, HasActed, HasChanged, IsNamed, IsTaskOf}
 use Rattle.trio_core.specs.declared.task.Task.{Task}
 use Rattle.trio_core.proofs.Placing.{inputs_same}
@@ -56,16 +56,17 @@ there_at plan inputs n None s h = absurd h
 there_at plan inputs n (Some at) s h = (at, refl, h)
 
 -- the station of an event's node may be asked what the event asks
-pub asked_at : (core : CoreView) (e : TrioEvent) (t : Task) (at : StationView) → IsTrioPlan core.plan → IsNamed (flow_in core) e → found (at_node e) core.stations ≡ Some at
+pub asked_at : (core : CoreView) (e : TrioEvent) (t : Task) (at : StationView) → IsTrioPlan core.plan → AreTimely (inputs_of core) → IsNamed (flow_in core) e → found (at_node e) core.stations ≡ Some at
     → (s : State) → StandsFor core s → IsSound (flow_in core) s → (a : Act) → act_of (flow_in core) s e ≡ Ok a → IsActOf core.plan (inputs_of core) (at_node e) t (s.nodes (at_node e)) a
     → IsAsked core.plan (inputs_of core) t at.member (s.nodes (at_node e)) a
-asked_at core e t at is named here s stands sound a done act =
+asked_at core e t at is times named here s stands sound a done act =
     let f = flow_in core in
     let n = at_node e in
     let there = named_there f e named in
     let h : StationStands core.plan (inputs_of core) n at s = subst (λ o. IsThere core.plan (inputs_of core) n o s) here (stands n (at_there f e there)) in
     record {
       plan_is = is;
+      times = times;
       act = subst (λ k. IsActOf core.plan (inputs_of core) k t (s.nodes n) a) (sym h.name) act;
       stands = h.member;
       asks = subst (λ k. Asks f k (s.nodes n) a) (sym h.name) (asks_of f s e a there sound done);
@@ -94,9 +95,9 @@ elsewhere_after plan inputs m n s x out (Some at) apart h = record {
 }
 
 -- the core goes on as the machine does
-pub goes_on : (old new : CoreView) (t : Task) (e : TrioEvent) → IsTrioPlan old.plan → IsNamed (flow_in old) e → HasChanged (at_node e) t old new → IsTaskOf old e t → GoesOn old new e
+pub goes_on : (old new : CoreView) (t : Task) (e : TrioEvent) → IsTrioPlan old.plan → AreTimely (inputs_of old) → IsNamed (flow_in old) e → HasChanged (at_node e) t old new → IsTaskOf old e t → GoesOn old new e
 unfolding step
-goes_on old new t e is named h task s stands sound =
+goes_on old new t e is times named h task s stands sound =
     let n = at_node e in
     let plan = old.plan in
     let inputs = inputs_of old in
@@ -104,7 +105,7 @@ goes_on old new t e is named h task s stands sound =
     let z = task s stands in
     let has = at_there f e (named_there f e named) in
     let stood : StationStands plan inputs n h.before s = subst (λ o. IsThere plan inputs n o s) h.was (stands n has) in
-    let asked = asked_at old e t h.before is named h.was s stands sound z.0 z.1 z.2 in
+    let asked = asked_at old e t h.before is times named h.was s stands sound z.0 z.1 z.2 in
     let d : IsDone plan inputs h.after.member h.acted.sent (s.nodes n) z.0 (name_of h.before.member) = h.acted.acts plan inputs (s.nodes n) z.0 asked in
     let u : State = put n s d.done.0 d.done.1 in
     let does_so : does f n z.0 (s.nodes n) ≡ Ok d.done = subst (λ k. does f k z.0 (s.nodes n) ≡ Ok d.done) stood.name d.does in

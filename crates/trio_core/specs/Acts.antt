@@ -20,7 +20,7 @@ use Rattle.trio_machine.specs.declared.node.TrioNode.TheVariants as node
 use Rattle.trio_control.specs.Contents.{ArePacketsFor, BodyStands}
 use Rattle.trio_core.specs.CoreView.{Log, name_of}
 use Rattle.trio_core.specs.Refusals.{IsRefusal}
-use Rattle.trio_core.specs.Stands.{MemberStands}
+use Rattle.trio_core.specs.Stands.{AreTimely, MemberStands}
 use Rattle.trio_core.specs.declared.error.TrioError.{TrioError}
 use Rattle.trio_core.specs.declared.member.Member.{Member}
 use Rattle.trio_core.specs.declared.task.Task.{Task}
@@ -49,6 +49,7 @@ IsActOf plan inputs n (task.Pull q i) x a = (a ≡ Pulls q) × IsNextAt plan inp
 -- A node stands for numbers at which the act that a task stands for may be asked of it.
 pub record IsAsked (plan : PlanView) (inputs : List Input) (t : Task) (m : Member) (x : Node) (a : Act) : Type 0 where
   pub plan_is : IsTrioPlan plan
+  pub times : AreTimely inputs
   pub act : IsActOf plan inputs (name_of m) t x a
   pub stands : MemberStands plan inputs m x
   pub asks : Asks (trio_flow plan inputs) (name_of m) x a

@@ -12,6 +12,8 @@ use Rattle.trio_machine.specs.declared.node.TrioNode.{TrioNode}
 use Rattle.trio_machine.specs.declared.node.TrioNode.TheVariants as node
 use Rattle.trio_control.specs.ControllerView as control
 use Rattle.trio_control.specs.IngressView as ingress
+use Rattle.trio_control.specs.ReplicaView as replica
+use Rattle.trio_control.specs.ReplicaView.{ReplicaView}
 use Rattle.trio_core.specs.declared.member.Member.{Member}
 use Rattle.trio_core.specs.declared.member.Member.TheVariants as member
 
@@ -50,6 +52,7 @@ found n stations = option_and_then (slice_get stations) (place_of n stations)
 -- the name that a node has in its plan
 abbrev pub name_of : Member → TrioNode
 name_of (member.Ingress i) = node.Ingress
+name_of (member.Replica r) = replica.node_of r.role
 name_of (member.Control c) = control.node_of c
 name_of (member.Egress e) = node.Egress
 
@@ -58,6 +61,7 @@ name_of (member.Egress e) = node.Egress
 -- the inputs that a node makes into items: those of ingress
 abbrev pub inputs_in : Member → List Input
 inputs_in (member.Ingress i) = i.inputs
+inputs_in (member.Replica r) = []
 inputs_in (member.Control c) = []
 inputs_in (member.Egress e) = []
 
@@ -74,7 +78,11 @@ flow_in core = trio_flow core.plan (inputs_of core)
 
 -- ---- the room of edges left aside
 
+abbrev pub contents_of_replica : ReplicaView → ReplicaView
+contents_of_replica r = record r { running = replica.contents_if r.running }
+
 abbrev pub contents_of : Member → Member
 contents_of (member.Ingress i) = member.Ingress (ingress.contents_in i)
+contents_of (member.Replica r) = member.Replica (contents_of_replica r)
 contents_of (member.Control c) = member.Control c
 contents_of (member.Egress e) = member.Egress e

@@ -4,7 +4,7 @@ ghost use Rattle.trio_control.specs.Contents.{appended};
 ghost use Rattle.trio_control.specs.ControllerView.{node_of};
 ghost use Rattle.trio_control.specs.IngressView.{contents_in};
 ghost use Rattle.trio_core.specs.Acts.{ActsSo, Fits, IsRefusedSo, MayBeAsked};
-ghost use Rattle.trio_core.specs.CoreView.{contents_of, inputs_in, name_of};
+ghost use Rattle.trio_core.specs.CoreView.{contents_of, contents_of_replica, inputs_in, name_of};
 ghost use Rattle.trio_core.specs.declared.error.TrioError.TheVariants as error;
 ghost use Rattle.trio_core.specs.declared.member.Member.TheVariants as member;
 ghost use Rattle.trio_core.specs.declared.task.Task.TheVariants as task;
@@ -12,7 +12,9 @@ ghost use Rattle.trio_core.specs.declared.task.Task.TheVariants as task;
 use crate::error::TrioError;
 use crate::member::Member;
 use crate::task::Task;
-use trio_control::{TrioBody, TrioControl, TrioEgress, TrioIngress, TrioMade, TrioNode, TrioOutbox};
+use trio_control::{
+    TrioBody, TrioControl, TrioEgress, TrioIngress, TrioMade, TrioNode, TrioOutbox, TrioReplica,
+};
 use tuple_edge::{Item, NUMBER_LIMIT, Worked};
 
 // A node does what an event asks of it, whichever kind it is.
@@ -32,6 +34,7 @@ pub(crate) fn member_acts(
 {
     match member {
         Member::Ingress(ingress) => ingress_acts(ingress, task, out),
+        Member::Replica(replica) => replica_acts(replica, task, out),
         Member::Control(control) => control_acts(control, task, out),
         Member::Egress(egress) => egress_acts(egress, task, out),
     }
@@ -112,6 +115,96 @@ fn ingress_makes(node: &mut TrioIngress) -> Result<(), TrioError>
         TrioMade::Did => Ok(()),
         TrioMade::NoMoreRows => Err(TrioError::NoMoreRows),
     }
+}
+
+// A replica takes a packet, works, fails or pulls.
+fn replica_acts(
+    node: &mut TrioReplica,
+    task: &Task,
+    out: &mut TrioOutbox,
+) -> Result<(), TrioError>
+    requires asked { MayBeAsked task.now (member.Replica node.old) }
+    requires room { 25 ≤ out.old.spare }
+    ensures acts { OnOk result (ActsSo task.now (member.Replica node.old) (member.Replica node.new) (appended out.old.packets out.new.packets)) }
+    ensures packets { out.new.packets ≡ out.old.packets ++ appended out.old.packets out.new.packets }
+    ensures refused { IfErr result (IsRefusedSo task.now (member.Replica node.old)) }
+    ensures unchanged { OnErr result ((contents_of_replica node.new ≡ contents_of_replica node.old) × (out.new.packets ≡ out.old.packets)) }
+    ensures role { node.new.role ≡ node.old.role }
+{
+    match *task {
+        Task::Take { from, body } => replica_takes(node, from, &body),
+        Task::Work => replica_works(node, out),
+        Task::Make => Err(TrioError::NothingDue),
+        Task::Kill => replica_dies(node, out),
+        Task::Pull { edge, item } => replica_pulls(node, edge, item),
+    }
+}
+
+// A replica takes a packet, where its number is within its limit.
+fn replica_takes(
+    node: &mut TrioReplica,
+    from: TrioNode,
+    body: &TrioBody,
+) -> Result<(), TrioError>
+    requires asked { MayBeAsked (task.Take from body.now) (member.Replica node.old) }
+    ensures acts { OnOk result (ActsSo (task.Take from body.now) (member.Replica node.old) (member.Replica node.new) []) }
+    ensures refused { IfErr result (λ e. e ≡ error.OutOfMemory) }
+    ensures unchanged { OnErr result (node.new ≡ node.old) }
+    ensures role { node.new.role ≡ node.old.role }
+{
+    if !fits(body) {
+        return Err(TrioError::OutOfMemory);
+    }
+    node.on(from, body)?;
+    Ok(())
+}
+
+// A replica works, where no number would pass its limit.
+fn replica_works(node: &mut TrioReplica, out: &mut TrioOutbox) -> Result<(), TrioError>
+    ensures acts { OnOk result (ActsSo task.Work (member.Replica node.old) (member.Replica node.new) (appended out.old.packets out.new.packets)) }
+    ensures packets { out.new.packets ≡ out.old.packets ++ appended out.old.packets out.new.packets }
+    ensures refused { IfErr result (IsRefusedSo task.Work (member.Replica node.old)) }
+    ensures unchanged { OnErr result ((contents_of_replica node.new ≡ contents_of_replica node.old) × (out.new.packets ≡ out.old.packets)) }
+    ensures role { node.new.role ≡ node.old.role }
+{
+    if !node.may_work() {
+        return Err(TrioError::OutOfMemory);
+    }
+    match node.work(out)? {
+        Worked::Did => Ok(()),
+        Worked::Idle => Err(TrioError::NothingDue),
+    }
+}
+
+// A replica that runs fails.
+fn replica_dies(node: &mut TrioReplica, out: &mut TrioOutbox) -> Result<(), TrioError>
+    requires room { 1 ≤ out.old.spare }
+    ensures acts { OnOk result (ActsSo task.Kill (member.Replica node.old) (member.Replica node.new) (appended out.old.packets out.new.packets)) }
+    ensures packets { out.new.packets ≡ out.old.packets ++ appended out.old.packets out.new.packets }
+    ensures refused { IfErr result (IsRefusedSo task.Kill (member.Replica node.old)) }
+    ensures unchanged { OnErr result ((node.new ≡ node.old) × (out.new.packets ≡ out.old.packets)) }
+    ensures role { node.new.role ≡ node.old.role }
+{
+    if !node.running() {
+        return Err(TrioError::NotRunning);
+    }
+    node.kill(out);
+    Ok(())
+}
+
+// A replica takes the next item of an edge, where no number would pass its limit.
+fn replica_pulls(node: &mut TrioReplica, edge: u32, item: Item) -> Result<(), TrioError>
+    requires asked { MayBeAsked (task.Pull edge item) (member.Replica node.old) }
+    ensures acts { OnOk result (ActsSo (task.Pull edge item) (member.Replica node.old) (member.Replica node.new) []) }
+    ensures refused { IfErr result (λ e. e ≡ error.OutOfMemory) }
+    ensures unchanged { OnErr result (node.new ≡ node.old) }
+    ensures role { node.new.role ≡ node.old.role }
+{
+    if !node.may_pull(edge) {
+        return Err(TrioError::OutOfMemory);
+    }
+    node.pull(edge, item)?;
+    Ok(())
 }
 
 // A controller takes a packet; it has no work.

@@ -3,24 +3,27 @@ ghost use Rattle.ingress_egress.specs.EgressView.{IsFrontOf};
 ghost use Rattle.pair_machine.specs.Output.{output};
 ghost use Rattle.plan_reader.specs.Nodes.{has_pair};
 ghost use Rattle.std.specs.Option.{option_and_then};
-ghost use Rattle.std.specs.Prelude.{◌≡◌, IsTrue, Some};
+ghost use Rattle.std.specs.Prelude.{◌≡◌, ◌<◌, IsTrue, Some};
 ghost use Rattle.trio_control.specs.ControllerPackets as of_control;
 ghost use Rattle.trio_control.specs.ControllerView.{node_of};
 ghost use Rattle.trio_control.specs.Egress as of_egress;
 ghost use Rattle.trio_control.specs.Ingress as of_ingress;
 ghost use Rattle.trio_control.specs.IngressView.{contents_in};
-ghost use Rattle.trio_core.specs.CoreView.{StationView, flow_in, found, inputs_of};
-ghost use Rattle.trio_core.specs.Ends.{control_in, egress_in, ingress_in};
+ghost use Rattle.trio_control.specs.Replica as of_replica;
+ghost use Rattle.trio_control.specs.ReplicaView as replica_view;
+ghost use Rattle.trio_core.specs.CoreView.{StationView, contents_of_replica, flow_in, found, inputs_of};
+ghost use Rattle.trio_core.specs.Ends.{control_in, egress_in, ingress_in, replica_in};
 ghost use Rattle.trio_core.specs.Promises.{emitted_by};
 ghost use Rattle.trio_core.specs.Stands.{IsCore, StandsFor};
 ghost use Rattle.trio_machine.specs.Links.{HasNode};
 ghost use Rattle.trio_machine.specs.Machine.{State};
+ghost use Rattle.trio_machine.specs.Numbers.{group_size};
 ghost use Rattle.trio_machine.specs.declared.node.TrioNode.TheVariants as node;
 
 use crate::station::{Station, place_of};
 use plan_reader::Plan;
 use std::marker::Model;
-use trio_control::{TrioControl, TrioEgress, TrioIngress, TrioNode};
+use trio_control::{TrioControl, TrioEgress, TrioIngress, TrioNode, TrioReplica};
 use tuple_edge::Row;
 
 /// All nodes of a plan of one source, each partition as a group of three, and every packet that any of them
@@ -76,6 +79,23 @@ impl TrioCore {
     {
         match self.station(TrioNode::Ingress).ingress() {
             Some(ingress) => ingress,
+            None => unreachable!(),
+        }
+    }
+
+    /// One of the three replicas of a group of the plan.
+    pub fn replica(&self, stage: u32, part: u32, copy: u32) -> &TrioReplica
+        requires there { IsTrue (has_pair self.now.plan stage part) }
+        requires copy { copy < group_size }
+        ensures value { option_and_then (λ (at : StationView). replica_in at.member) (found (node.Replica stage part copy) self.now.stations)
+            ≡ Some (contents_of_replica result.now) }
+        ensures named { replica_view.node_of result.now.role ≡ node.Replica stage part copy }
+        // Whatever state the core stands for, it stands for the numbers of that.
+        ensures stands { (s : State) → StandsFor self.now s
+            → of_replica.StandsFor self.now.plan (inputs_of self.now) result.now (s.nodes (node.Replica stage part copy)) }
+    {
+        match self.station(TrioNode::Replica { stage, part, copy }).replica() {
+            Some(replica) => replica,
             None => unreachable!(),
         }
     }

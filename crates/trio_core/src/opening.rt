@@ -52,9 +52,8 @@ fn add_replica(
     ensures there { OnOk result (HasStation (node.Replica stage part copy) stations.new.items) }
 {
     let replica = TrioReplica::new(alloc, plan, stage, part, copy)?;
-    let _name = replica.id();
-    let _stations = stations;
-    Err(OutOfMemory)
+    let name = replica.id();
+    add(stations, alloc, name, Member::Replica(replica))
 }
 
 // The three replicas of a group join the others, as they open.

@@ -4,8 +4,8 @@ ghost use Rattle.std.specs.Option.{option_map};
 ghost use Rattle.std.specs.Prelude.{◌≡◌, ◌<◌, IfErr, IsSome, OnErr, OnOk, Some, length, slice_get};
 ghost use Rattle.trio_control.specs.IngressView.{contents_in};
 ghost use Rattle.trio_core.specs.Acts.{IsRefusedSo, MayBeAsked};
-ghost use Rattle.trio_core.specs.CoreView.{StationView, found, is_at, place_of};
-ghost use Rattle.trio_core.specs.Ends.{consumer_in, control_in, egress_in, ingress_in, producer_in};
+ghost use Rattle.trio_core.specs.CoreView.{StationView, contents_of_replica, found, is_at, place_of};
+ghost use Rattle.trio_core.specs.Ends.{consumer_in, control_in, egress_in, ingress_in, producer_in, replica_in};
 ghost use Rattle.trio_core.specs.Steps.{ActedAt, HasActed};
 
 use crate::acts::member_acts;
@@ -15,7 +15,7 @@ use crate::task::Task;
 use flux_consumer::Consumer;
 use flux_producer::Producer;
 use std::marker::Model;
-use trio_control::{TrioControl, TrioEgress, TrioIngress, TrioNode, TrioOutbox};
+use trio_control::{TrioControl, TrioEgress, TrioIngress, TrioNode, TrioOutbox, TrioReplica};
 
 // How many packets an event may make a node send; the most are a controller's 25.
 const MOST_PACKETS: usize = 25;
@@ -55,6 +55,16 @@ impl Station {
         }
     }
 
+    // One of the replicas of a group, where it is this node.
+    pub(crate) fn replica(&self) -> Option<&TrioReplica>
+        ensures { option_map (λ r. contents_of_replica r.now) result ≡ replica_in self.now.member }
+    {
+        match &self.member {
+            Member::Replica(replica) => Some(replica),
+            _ => None,
+        }
+    }
+
     // The controller of a group, where it is this node.
     pub(crate) fn control(&self) -> Option<&TrioControl>
         ensures { option_map (λ c. c.now) result ≡ control_in self.now.member }
@@ -81,6 +91,7 @@ impl Station {
     {
         match &self.member {
             Member::Ingress(ingress) => Some(ingress.producer()),
+            Member::Replica(replica) => replica.producer(),
             _ => None,
         }
     }
@@ -90,6 +101,7 @@ impl Station {
         ensures { option_map (λ c. c.now) result ≡ consumer_in self.now.member }
     {
         match &self.member {
+            Member::Replica(replica) => replica.consumer(),
             Member::Egress(egress) => Some(egress.consumer()),
             _ => None,
         }
