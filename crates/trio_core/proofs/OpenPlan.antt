@@ -1,5 +1,5 @@
 -- The stages of a plan, the partitions that each of them has, and how many edges lead into one.
-use Rattle.std.proofs.Common.{◌≡◌, ◌<◌, ◌≤◌, ◌+◌, ◌-◌, ◌&&◌, ℕ, zero, suc, Bool, true, false, IsTrue, List, [], Some, get_or, length, slice_get, nat_le, nat_lt, le-leb, lt-ltb, sym, subst, arith}
+use Rattle.std.proofs.Common.{◌≡◌, ◌<◌, ◌≤◌, ◌+◌, ◌-◌, ℕ, zero, suc, true, IsTrue, List, [], Some, get_or, length, slice_get, sym, subst, arith}
 use Rattle.std.proofs.lemmas.Option.{get_or_from_slice_get, slice_get-get_or}
 use Rattle.tuple_edge.specs.Input.{Input}
 use Rattle.tuple_edge.specs.declared.node.NodeId.TheVariants as pairs_node

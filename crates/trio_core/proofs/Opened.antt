@@ -1,18 +1,16 @@
 -- Stations that open, and the core that they are.
-use Rattle.std.proofs.Common.{◌≡◌, ◌∙◌, ◌<◌, ◌≤◌, ◌+◌, ◌-◌, ◌⊎◌, inl, inr, ℕ, zero, suc, Bool, true, false, IsTrue, List, [], ◌∷◌, ◌++◌, Option, None, Some, length, slice_get, refl, sym, ap, subst, true≢false, arith, if◌then◌else◌, ◌&&◌, nat_le, nat_lt, le-leb, lt-ltb}
+use Rattle.std.proofs.Common.{◌≡◌, ◌∙◌, ◌<◌, ◌+◌, ◌⊎◌, inl, inr, ℕ, zero, suc, Bool, true, false, List, [], ◌∷◌, ◌++◌, Option, None, Some, length, slice_get, refl, sym, ap, subst, true≢false, arith, if◌then◌else◌}
 use Rattle.std.specs.Option.{option_and_then, option_or}
 use Rattle.std.proofs.lemmas.List.Elements.{All-weaker}
 use Rattle.std.proofs.lemmas.Option.{slice_get_within}
 use Rattle.tuple_edge.specs.Input.{Input, from_first}
 use Rattle.tuple_edge.specs.declared.row.Row.{Row}
 use Rattle.op_spec.specs.Times.{IsTime}
-use Rattle.plan_reader.specs.Nodes.{has_pair, sources_of}
+use Rattle.plan_reader.specs.Nodes.{sources_of}
 use Rattle.plan_reader.specs.PlanView.{IsPlan, PlanView}
 use Rattle.trade_text.specs.TradesView.{IsInputRow, IsTrades, TradesView, inputs_in, paired}
 use Rattle.trade_text.proofs.Sources.{each_row, paired_first}
-use Rattle.pair_machine.specs.CountLaws.{IsOfStage}
 use Rattle.pair_machine.specs.Counts.{flow_of}
-use Rattle.pair_machine.specs.Drain.{partition}
 use Rattle.pair_machine.specs.Consumers.{first_below}
 use Rattle.pair_machine.specs.Courses.{Pairwise}
 use Rattle.pair_machine.specs.Lists.{Each}
@@ -20,7 +18,7 @@ use Rattle.pair_machine.proofs.Lists.{each_append}
 use Rattle.trio_machine.specs.Flow.{IsTrioPlan, trio_flow}
 use Rattle.trio_machine.specs.Links.{HasNode}
 use Rattle.trio_machine.specs.Machine.{new_node, opening}
-use Rattle.trio_machine.specs.Numbers.{group_size, is_node}
+use Rattle.trio_machine.specs.Numbers.{is_node}
 use Rattle.trio_machine.specs.declared.node.TrioNode.{TrioNode}
 use Rattle.trio_machine.specs.declared.node.TrioNode.TheVariants as node
 use Rattle.trio_machine.proofs.Names.{node_self}

@@ -1,8 +1,4 @@
-use Rattle.std.proofs.Common.{◌≤◌, ◌≡◌, sym, subst, ap}
-use Rattle.tuple_edge.specs.Input.{Input}
-use Rattle.pair_machine.specs.Counts.{flow_of}
-use Rattle.plan_reader.specs.PlanView.{PlanView}
-use Rattle.trio_machine.specs.Flow.{trio_flow}
+use Rattle.std.proofs.Common.{◌≤◌, sym, subst, ap}
 use Rattle.trio_machine.specs.declared.node.TrioNode.TheVariants as node
 use Rattle.trio_control.specs.ControllerView.{node_of}
 use Rattle.trio_core.specs.declared.member.Member.TheVariants as member
