@@ -1,12 +1,14 @@
-//! The drain of a core of groups of three.
+//! The drain of a core of groups of three: from whatever state it stands for, the caller alone brings all of the
+//! output, or names the first group that is lost.
+//!
+//! It stands on trio_core, whose events it applies one by one, and on the law of trio_machine that the drain is
+//! whole where no group is lost.
 #![tactic(auto)]
-ghost use Rattle.trio_drain.specs.Order.{Start, MayBegin, IsTurnOf};
-ghost use Rattle.trio_drain.specs.Order.{IsBlock, makes_left};
-ghost use Rattle.std.specs.Prelude.{[]};
-ghost use Rattle.trio_machine.specs.declared.event.TrioEvent.TheVariants as event;
 
-/// Probe.
-#[tactic(auto, using(crate::proofs::Blocks::makes_block))]
-pub fn probe()
-    ensures { (b : Start) → MayBegin b → IsBlock b [] event.Make (makes_left b) }
-{}
+mod draining;
+mod next;
+mod serving;
+mod turn;
+
+pub use draining::drain;
+pub use tuple_edge::Drained;
