@@ -2,6 +2,7 @@
 use Rattle.std.proofs.Common.{◌≡◌, ◌≤◌, ◌<◌, ◌+◌, ◌-◌, ◌++◌, ◌∙◌, ℕ, true, List, length, refl, sym, ap, subst, arith}
 use Rattle.plan_reader.specs.Nodes.{has_pair, parts_of, sources_of}
 use Rattle.plan_reader.specs.PlanView.{PlanView}
+use Rattle.plan_reader.specs.declared.stage.Stage.{Stage}
 use Rattle.pair_machine.specs.CountLaws.{IsOfStage}
 use Rattle.pair_machine.specs.Drain.{partition}
 use Rattle.pair_machine.specs.Flow.{Flow}
@@ -33,6 +34,9 @@ stage_on old new k to stage at = subst (λ f. (partition_in f to).stage ≡ stag
 
 pub last_on : (core : CoreView) (to : TrioNode) (stage : ℕ) → HasNode (flow_in core) to → (partition_in (flow_in core) to).stage ≡ stage → stage ≤ length core.plan.stages + 1
 last_on core to stage has at = stage_most core.plan (inputs_of core) to stage has at
+
+pub shown_last : (core : CoreView) (shown : PlanView) (to : TrioNode) (stage : ℕ) → shown ≡ core.plan → HasNode (flow_in core) to → (partition_in (flow_in core) to).stage ≡ stage → stage ≤ length shown.stages + 1
+shown_last core shown to stage sees has at = subst (λ p. stage ≤ length p.stages + 1) (sym sees) (last_on core to stage has at)
 
 pub source_on : (old new : CoreView) → Keeps old new → (shown : PlanView) (stage part n : ℕ) → shown ≡ old.plan → n ≡ sources_of shown stage → part < n → part < sources_of new.plan stage
 source_on old new k shown stage part n sees all few =
@@ -83,8 +87,10 @@ pub stages_at : (b : Start) (core : CoreView) (done : List TrioEvent) → IsAfte
 stages_at b core done a = stages_in core.plan (inputs_of core) ∙ ap (λ (f : Flow). f.stages) (flow_same b core done a)
 
 -- egress is of the stage after the last
-pub egress_stage : (core : CoreView) → (partition_in (flow_in core) node.Egress).stage ≡ length core.plan.stages + 1
-egress_stage core = ap (λ n. n + 1) (sym (stages_in core.plan (inputs_of core)))
+pub egress_stage : (old shown : PlanView) (core : CoreView) (stages : List Stage) → core.plan ≡ old → shown ≡ old → stages ≡ shown.stages → (partition_in (flow_in core) node.Egress).stage ≡ length stages + 1
+egress_stage old shown core stages same sees all =
+    let e : length core.plan.stages ≡ length stages = ap length (ap (λ (p : PlanView). p.stages) (same ∙ sym sees) ∙ sym all) in
+    ap (λ n. n + 1) (sym (stages_in core.plan (inputs_of core)) ∙ e)
 
 -- ---- a replica that is a node of the plan
 
@@ -92,3 +98,7 @@ pub replica_named : (core : CoreView) (n : TrioNode) (stage part copy : ℕ) →
 replica_named core n stage part copy at has =
     let z : HasNode (flow_in core) (node.Replica stage part copy) = subst (HasNode (flow_in core)) at has in
     (group_named core.plan (inputs_of core) stage part z.0, z.1)
+
+-- a stage that is not the first is a later one
+pub later : (stage : ℕ) → 1 ≤ stage → (stage ≡ 1 → ⊥) → 2 ≤ stage
+later stage low apart = omega arith

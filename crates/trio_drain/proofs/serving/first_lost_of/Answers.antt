@@ -9,8 +9,8 @@ use Rattle.trio_drain.proofs.serving.first_lost_of.Goals as goal
 pub loop-part-init : goal.loop-part-init
 loop-part-init c = λ s stands. refl
 
-pub is_lost-requires-clause-there : goal.is_lost-requires-clause-there
-is_lost-requires-clause-there c = pair_of c.args.core.now.plan c.args.stage c.loop-part.part c.requires.first c.requires.last (let few = c.loop-part-test.true in let all = c.parts-parts.ensures in omega arith)
+pub is_lost-requires : goal.is_lost-requires
+is_lost-requires c = record { there = pair_of c.args.core.now.plan c.args.stage c.loop-part.part c.requires.first c.requires.last (let few = c.loop-part-test.true in let all = c.parts-parts.ensures in omega arith) }
 
 pub loop-part-preserved : goal.loop-part-preserved
 loop-part-preserved c = λ s stands. part_next s c.args.stage c.loop-part.part c.is_lost.result (c.is_lost.ensures s stands) c.if-is_lost.false (c.loop-part.invariant s stands)

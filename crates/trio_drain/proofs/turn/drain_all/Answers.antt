@@ -9,6 +9,9 @@ use Rattle.trio_drain.proofs.Loops.{egress_stage, stages_at}
 use Rattle.trio_drain.proofs.Turns.{makes_next}
 use Rattle.trio_drain.proofs.turn.drain_all.Goals as goal
 
+pub drain_into-requires-clause-stage : goal.drain_into-requires-clause-stage
+drain_into-requires-clause-stage c = egress_stage c.args.core.now.plan c.plan.result.now c.drain_stages.new.core c.stages.result.now (c.drain_stages.ensures.keeps.plan ∙ c.repeat.ensures.keeps.plan) c.plan.ensures c.stages.ensures.value
+
 pub returns-in_err-repeat-clause-within : goal.returns-in_err-repeat-clause-within
 returns-in_err-repeat-clause-within c = on_err c.from_residual.result (λ b m a. (let z = makes_next b m in c.in_err-repeat.ensures.within b [] z.count m a z.block))
 

@@ -1,7 +1,7 @@
 use Rattle.std.proofs.Common.{◌≡◌, ◌++◌, ◌∙◌, ◌+◌, arith, sym}
 use Rattle.trio_drain.specs.Order.{before_turn, pulls_of, pulls_up_to}
 use Rattle.trio_drain.proofs.Along.{flow_same, keeps_none, keeps_on, listed_on, on_err}
-use Rattle.trio_drain.proofs.Loops.{has_on, last_on, pull_at, pulls_end, source_on, stage_on}
+use Rattle.trio_drain.proofs.Loops.{has_on, last_on, pull_at, pulls_end, shown_last, source_on, stage_on}
 use Rattle.trio_drain.proofs.Turns.{pulls_begin}
 use Rattle.trio_drain.proofs.turn.pull_all.Goals as goal
 
@@ -11,13 +11,16 @@ loop-part-init c = record {
   after = λ b m h a. listed_on b c.args.core.now (before_turn b c.args.to) (before_turn b c.args.to ++ pulls_up_to b c.args.to 0) (pulls_begin b m c.args.to h) a;
 }
 
-pub feeder-requires-clause-last : goal.feeder-requires-clause-last
-feeder-requires-clause-last c =
+pub sources-sources-requires-clause-high : goal.sources-sources-requires-clause-high
+sources-sources-requires-clause-high c = shown_last c.args.core.now c.plan.result.now c.args.to c.args.stage c.plan.ensures c.requires.there c.requires.stage
+
+pub feeder-from-requires-clause-last : goal.feeder-from-requires-clause-last
+feeder-from-requires-clause-last c =
     let keeps = c.loop-part.invariant.keeps in
     last_on c.loop-part.core c.args.to c.args.stage (has_on c.args.core.now c.loop-part.core keeps c.args.to c.requires.there) (stage_on c.args.core.now c.loop-part.core keeps c.args.to c.args.stage c.requires.stage)
 
-pub feeder-requires-clause-source : goal.feeder-requires-clause-source
-feeder-requires-clause-source c = source_on c.args.core.now c.loop-part.core c.loop-part.invariant.keeps c.plan.result.now c.args.stage c.loop-part.part c.sources-sources.result c.plan.ensures c.sources-sources.ensures c.loop-part-test.true
+pub feeder-from-requires-clause-source : goal.feeder-from-requires-clause-source
+feeder-from-requires-clause-source c = source_on c.args.core.now c.loop-part.core c.loop-part.invariant.keeps c.plan.result.now c.args.stage c.loop-part.part c.sources-sources.result c.plan.ensures c.sources-sources.ensures c.loop-part-test.true
 
 pub repeat-requires : goal.repeat-requires
 repeat-requires c =
