@@ -1,5 +1,5 @@
 -- From a node's clauses to its part of the machine's step.
-use Rattle.std.proofs.Common.{◌≡◌, ◌∙◌, ◌++◌, ◌+◌, ℕ, Bool, false, List, [], Option, None, Some, Result, Ok, Err, OnOk, OnErr, IfErr, drop, length, refl, sym, ap, subst}
+use Rattle.std.proofs.Common.{◌≡◌, ◌∙◌, ◌++◌, ◌+◌, ℕ, Bool, false, List, [], Option, None, Some, Result, Ok, Err, OnOk, OnErr, IfErr, IfOk, drop, length, refl, sym, ap, subst}
 use Rattle.std.proofs.lemmas.List.{append-nil, drop_at}
 use Rattle.tuple_edge.specs.Input.{Input}
 use Rattle.tuple_edge.specs.declared.item.Item.{Item}
@@ -138,3 +138,7 @@ on_ok-map (Err e) P Q g h = h
 pub if_err-map : {X E : Type 0} (r : Result X E) (P Q : E → Type 0) → ((e : E) → P e → Q e) → IfErr r P → IfErr r Q
 if_err-map (Ok x) P Q g h = h
 if_err-map (Err e) P Q g h = g e h
+
+pub if_ok-map : {X E : Type 0} (r : Result X E) (P Q : X → Type 0) → ((x : X) → P x → Q x) → IfOk r P → IfOk r Q
+if_ok-map (Ok x) P Q g h = g x h
+if_ok-map (Err e) P Q g h = h

@@ -5,6 +5,7 @@ pub mod Known
 pub mod Lists
 pub mod NamedNodes
 pub mod OnLinks
+pub mod OpenPlan
 pub mod Opened
 pub mod Placing
 pub mod Promised

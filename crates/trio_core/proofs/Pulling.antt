@@ -1,5 +1,5 @@
 -- What a Pull asks of its node is the next item of the edge, which the producer keeps.
-use Rattle.std.proofs.Common.{◌≡◌, ◌∙◌, ◌⊎◌, inl, inr, ◌≤◌, ◌<◌, ◌+◌, ◌-◌, ◌&&◌, ℕ, Bool, true, false, List, Option, None, Some, Ok, Err, length, unwrap_or, refl, sym, ap, subst, arith, nat_le, nat_lt, leb-true, ltb-true, le-leb, lt-ltb, if◌then◌else◌}
+use Rattle.std.proofs.Common.{◌≡◌, ◌∙◌, ◌⊎◌, inl, inr, ◌≤◌, ◌<◌, ◌+◌, ◌-◌, ◌&&◌, ℕ, Bool, true, false, List, Option, None, Some, Result, Ok, Err, IfErr, IfOk, length, unwrap_or, refl, sym, ap, subst, arith, nat_le, nat_lt, leb-true, ltb-true, le-leb, lt-ltb, if◌then◌else◌}
 use Rattle.std.specs.Option.{option_map}
 use Rattle.tuple_edge.specs.Input.{Input}
 use Rattle.tuple_edge.specs.declared.item.Item.{Item}
@@ -263,3 +263,18 @@ module _ (core : CoreView) (from to : TrioNode) (named : IsNamed (flow_in core) 
       let a = sender_stands s stands in
       let b = receiver_stands s stands in
       pull_refused core.plan (inputs_of core) s from to sender.member receiver.member a.name b.name a.member b.member named.2 op oc ep ec x h
+
+  -- the same of what was found, under other names for the edge's ends
+  pub pull_asked_so : (op : Option ProducerView) (oc : Option ConsumerView) → option_map contents_of op ≡ producer_in sender.member → oc ≡ consumer_in receiver.member → (t q : ℕ) → t ≡ part_of to → q ≡ part_of from
+      → (r : Result Task TrioError) → IfOk r (IsPullOf op t oc q) → IfOk r (IsTaskOf core (event.Pull from to))
+  pull_asked_so op oc ep ec t q et eq (Ok k) h = pull_found op oc ep ec k (subst (λ n. IsPullOf op n oc (part_of from) k) et (subst (λ n. IsPullOf op t oc n k) eq h))
+  pull_asked_so op oc ep ec t q et eq (Err x) h = h
+
+  pub pull_refused_so : (op : Option ProducerView) (oc : Option ConsumerView) → option_map contents_of op ≡ producer_in sender.member → oc ≡ consumer_in receiver.member → (t q : ℕ) → t ≡ part_of to → q ≡ part_of from
+      → (r : Result Task TrioError) → IfErr r (IsNoPull op t oc q) → IfErr r (λ x. (s : State) → StandsFor core s → IsRefusal (act_of (flow_in core) s (event.Pull from to)) x)
+  pull_refused_so op oc ep ec t q et eq (Ok k) h = h
+  pull_refused_so op oc ep ec t q et eq (Err x) h = pull_missing op oc ep ec x (subst (λ n. IsNoPull op n oc (part_of from) x) et (subst (λ n. IsNoPull op t oc n x) eq h))
+
+pub mapped_twice : {X Y Z : Type 0} (f : Y → Z) (g : X → Y) (o : Option X) → option_map f (option_map g o) ≡ option_map (λ x. f (g x)) o
+mapped_twice f g None = refl
+mapped_twice f g (Some x) = refl

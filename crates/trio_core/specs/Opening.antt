@@ -1,6 +1,7 @@
 -- How a core opens: each node of the plan in its numbers at the start, under its name, and nothing sent.
-use Rattle.std.specs.Prelude.{◌≡◌, ◌<◌, ℕ, List, [], Some, slice_get}
+use Rattle.std.specs.Prelude.{◌≡◌, ◌<◌, ℕ, IsTrue, List, [], Some, slice_get}
 use Rattle.tuple_edge.specs.Input.{Input}
+use Rattle.plan_reader.specs.Nodes.{has_pair}
 use Rattle.plan_reader.specs.PlanView.{PlanView}
 use Rattle.pair_machine.specs.Lists.{Each}
 use Rattle.trio_machine.specs.Machine.{new_node}
@@ -36,7 +37,13 @@ pub record HasGroup (stations : List StationView) (stage part : ℕ) : Type 0 wh
   pub replica : (c : ℕ) → c < group_size → HasStation (node.Replica stage part c) stations
   pub control : HasStation (node.Control stage part) stations
 
--- stations that open joined others, which stay
+-- every node of a plan is there
+pub record HasAll (plan : PlanView) (stations : List StationView) : Type 0 where
+  pub ingress : HasStation node.Ingress stations
+  pub groups : (stage part : ℕ) → IsTrue (has_pair plan stage part) → HasGroup stations stage part
+  pub egress : HasStation node.Egress stations
+
+-- stations as they open joined others, which stay
 pub record HaveMore (plan : PlanView) (before after : List StationView) : Type 0 where
-  pub open : (inputs : List Input) → AreOpen plan inputs before → AreOpen plan inputs after
-  pub stay : (n : TrioNode) → HasStation n before → HasStation n after
+  pub opens : (inputs : List Input) → AreOpen plan inputs before → AreOpen plan inputs after
+  pub stays : (n : TrioNode) → HasStation n before → HasStation n after

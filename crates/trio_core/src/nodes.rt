@@ -77,6 +77,7 @@ impl TrioCore {
         // Whatever state the core stands for, it stands for the numbers of that.
         ensures stands { (s : State) → StandsFor self.now s → of_ingress.StandsFor self.now.plan (inputs_of self.now) result.now (s.nodes node.Ingress) }
     {
+        self.known();
         match self.station(TrioNode::Ingress).ingress() {
             Some(ingress) => ingress,
             None => unreachable!(),
@@ -94,6 +95,7 @@ impl TrioCore {
         ensures stands { (s : State) → StandsFor self.now s
             → of_replica.StandsFor self.now.plan (inputs_of self.now) result.now (s.nodes (node.Replica stage part copy)) }
     {
+        self.known();
         match self.station(TrioNode::Replica { stage, part, copy }).replica() {
             Some(replica) => replica,
             None => unreachable!(),
@@ -108,6 +110,7 @@ impl TrioCore {
         // Whatever state the core stands for, it stands for the numbers of that.
         ensures stands { (s : State) → StandsFor self.now s → of_control.StandsFor (flow_in self.now) result.now (s.nodes (node.Control stage part)) }
     {
+        self.known();
         match self.station(TrioNode::Control { stage, part }).control() {
             Some(control) => control,
             None => unreachable!(),
@@ -120,6 +123,7 @@ impl TrioCore {
         // Whatever state the core stands for, it stands for the numbers of that.
         ensures stands { (s : State) → StandsFor self.now s → of_egress.StandsFor self.now.plan (inputs_of self.now) result.now (s.nodes node.Egress) }
     {
+        self.known();
         match self.station(TrioNode::Egress).egress() {
             Some(egress) => egress,
             None => unreachable!(),
@@ -131,6 +135,7 @@ impl TrioCore {
         ensures value { result.now ≡ emitted_by self.now }
         ensures front { IsFrontOf result.now (output self.now.plan (inputs_of self.now)) }
     {
+        self.known();
         self.egress().emitted()
     }
 }
