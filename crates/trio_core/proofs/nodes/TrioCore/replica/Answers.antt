@@ -3,7 +3,7 @@ use Rattle.trio_core.proofs.NamedNodes.{is_replica, replica_is_named, replica_st
 use Rattle.trio_core.proofs.nodes.TrioCore.replica.Goals as goal
 
 pub station-requires : goal.station-requires
-station-requires c = replica_there c.args.self.now.plan (inputs_of c.args.self.now) c.args.stage c.args.part c.args.copy c.requires.there c.requires.copy
+station-requires c = record { there = replica_there c.args.self.now.plan (inputs_of c.args.self.now) c.args.stage c.args.part c.args.copy c.requires.there c.requires.copy }
 
 pub unreachable-requires : goal.unreachable-requires
 unreachable-requires c = is_replica c.args.self.now c.station.result.now c.args.stage c.args.part c.args.copy c.station.ensures c.known.ensures c.requires.there c.requires.copy c.in-None.ensures
