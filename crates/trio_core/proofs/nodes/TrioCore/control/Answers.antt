@@ -3,7 +3,7 @@ use Rattle.trio_core.proofs.NamedNodes.{control_is_named, control_stands, contro
 use Rattle.trio_core.proofs.nodes.TrioCore.control.Goals as goal
 
 pub station-requires : goal.station-requires
-station-requires c = control_there c.args.self.now.plan (inputs_of c.args.self.now) c.args.stage c.args.part c.requires.there
+station-requires c = record { there = control_there c.args.self.now.plan (inputs_of c.args.self.now) c.args.stage c.args.part c.requires.there }
 
 pub unreachable-requires : goal.unreachable-requires
 unreachable-requires c = is_control c.args.self.now c.station.result.now c.args.stage c.args.part c.station.ensures c.known.ensures c.requires.there c.in-None.ensures
