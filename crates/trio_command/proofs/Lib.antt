@@ -1,4 +1,3 @@
-pub mod Endings
 pub mod EventFaults
 pub mod Following
 pub mod Telling

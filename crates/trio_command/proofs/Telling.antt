@@ -1,5 +1,5 @@
 -- The pieces of the text, put together.
-use Rattle.std.proofs.Common.{◌≡◌, ◌≢◌, ◌∙◌, ℕ, List, ◌++◌, sym, ap, append_assoc}
+use Rattle.std.proofs.Common.{◌≡◌, ◌≢◌, ◌∙◌, ℕ, List, ◌++◌, sym, ap}
 use Rattle.std.specs.List.{flat_map}
 use Rattle.tuple_edge.specs.declared.event.Drained.{Drained}
 use Rattle.tuple_edge.specs.declared.row.Row.{Row}
@@ -16,35 +16,25 @@ use Rattle.trio_machine.specs.Sound.{IsSound}
 use Rattle.trio_machine.proofs.Laws.{the_opening_is_sound}
 use Rattle.trio_text.specs.declared.lined.TrioLined.{TrioLined}
 use Rattle.trio_core.specs.CoreView.{CoreView, flow_in, inputs_of}
-use Rattle.trio_core.specs.Promises.{emitted_by}
 use Rattle.trio_core.specs.Stands.{StandsFor}
 use Rattle.trio_core.specs.declared.error.TrioError.TheVariants as error
-use Rattle.trio_drain.specs.Drained.{IsDrained}
-use Rattle.trio_state.specs.Groups.{groups_text}
+use Rattle.trio_drain.specs.Ending.{ending, rows_at_end}
+use Rattle.trio_state.specs.GroupsText.{groups_text}
 use Rattle.trio_command.specs.Courses.{goes_along, writes_text}
 use Rattle.trio_command.specs.Follows.{IsFollowed, IsStopped, StandsSound}
 use Rattle.trio_command.specs.Replaying.{error_text}
-use Rattle.trio_command.specs.Text.{emitted_after, emitted_line, end_text, ended_line, first_line, trio_text}
+use Rattle.trio_command.specs.Text.{emitted_line, ended_line, first_line, trio_text}
 use Rattle.trio_command.specs.declared.follow.Stopped.{Stopped}
-use Rattle.trio_command.proofs.Endings.{ends_so}
 
 opening_sound : (core : CoreView) → IsTrioPlan core.plan → StandsFor core opening → StandsSound core opening
 opening_sound core is opens = record { stands = opens; sound = the_opening_is_sound core.plan (inputs_of core) is }
 
 -- the groups, the line of the drain and the lines of the rows are the text
-pub text_is : (old new : CoreView) (s : State) (d : Drained) (symbols : List (List ℕ)) (groups with_line whole : List ℕ) (rows : List Row) → StandsSound old s → IsDrained old new d
-    → groups ≡ first_line ++ groups_text (flow_in old) s → with_line ≡ groups ++ ended_line d → rows ≡ emitted_by new → whole ≡ with_line ++ flat_map (emitted_line symbols) rows
-    → whole ≡ trio_text old.plan (inputs_of old) symbols s
-text_is old new s d symbols groups with_line whole rows h is groups_are line_is rows_are whole_is =
-    let z = ends_so old new s d h is in
-    let lines : List Row → List ℕ = flat_map (emitted_line symbols) in
-    let plan = old.plan in
-    let inputs = inputs_of old in
-    whole_is
-    ∙ ap (λ t. t ++ lines rows) (line_is ∙ ap (λ t. t ++ ended_line d) groups_are)
-    ∙ ap (λ r. ((first_line ++ groups_text (flow_in old) s) ++ ended_line d) ++ lines r) (rows_are ∙ z.rows)
-    ∙ append_assoc (first_line ++ groups_text (flow_in old) s) (ended_line d) (lines (emitted_after plan inputs s d))
-    ∙ ap (λ e. first_line ++ groups_text (flow_in old) s ++ end_text plan inputs symbols s e) (sym z.ends)
+pub text_is : (core : CoreView) (s : State) (d : Drained) (symbols : List (List ℕ)) (groups with_line whole : List ℕ) (rows : List Row) → groups ≡ first_line ++ groups_text (flow_in core) s
+    → with_line ≡ groups ++ ended_line d → d ≡ ending (flow_in core) s → rows ≡ rows_at_end core.plan (inputs_of core) s → whole ≡ with_line ++ flat_map (emitted_line symbols) rows
+    → whole ≡ trio_text core.plan (inputs_of core) symbols s
+text_is core s d symbols groups with_line whole rows groups_are line_is ends rows_are whole_is =
+    whole_is ∙ (λ j. (line_is ∙ (λ i. groups_are i ++ ended_line (ends i))) j ++ flat_map (emitted_line symbols) (rows_are j))
 
 -- ---- the whole command
 

@@ -1,14 +1,12 @@
 // The text of `trio`.
-ghost use Rattle.pair_machine.specs.Drain.{partition};
 ghost use Rattle.std.specs.List.{flat_map};
-ghost use Rattle.std.specs.Prelude.{◌≡◌, ◌++◌, IfOk, OnOk, codes};
-ghost use Rattle.trade_text.specs.TradesView.{TradesView};
+ghost use Rattle.std.specs.Prelude.{◌≡◌, ◌++◌, IfOk, OnOk, string_bytes};
 ghost use Rattle.trio_command.specs.Text.{emitted_line, ended_line, first_line, trio_text};
 ghost use Rattle.trio_core.specs.CoreView.{flow_in, inputs_of};
 ghost use Rattle.trio_core.specs.Stands.{StandsFor};
 ghost use Rattle.trio_machine.specs.Machine.{State};
 ghost use Rattle.trio_machine.specs.Sound.{IsSound};
-ghost use Rattle.trio_state.specs.Groups.{groups_text};
+ghost use Rattle.trio_state.specs.GroupsText.{groups_text};
 
 use std::alloc::Global;
 use trade_text::Trades;
