@@ -2,6 +2,7 @@
 ghost use Rattle.trio_drain.specs.WorkedRows.{WorkedRows};
 
 /// After these lists of events on small plans the drain ends so.
+#[tactic(auto, using(crate::proofs::WorkedRows::worked_rows))]
 pub fn worked_rows()
     ensures { WorkedRows }
 {}
