@@ -1,5 +1,6 @@
 pub mod Along
 pub mod Blocks
+pub mod Ending
 pub mod Found
 pub mod Fronts
 pub mod Groups
@@ -9,3 +10,4 @@ pub mod Steps
 pub mod Trying
 pub mod Turns
 pub mod Whole
+pub mod WorkedRows

@@ -2,6 +2,7 @@
 use Rattle.std.proofs.Common.{◌≡◌, ◌↔◌, ◌++◌, inl, inr, Bool, true, false, List, [], Option, None, Some, refl, sym, ap, ◌∙◌, subst}
 use Rattle.std.specs.Option.{option_and_then}
 use Rattle.tuple_edge.specs.Input.{Input}
+use Rattle.tuple_edge.specs.declared.event.Drained.TheVariants as drained
 use Rattle.plan_reader.specs.PlanView.{IsPlan, PlanView}
 use Rattle.pair_machine.specs.Boundary.{egress_partition}
 use Rattle.pair_machine.specs.CountLaws.{output_first}
@@ -30,10 +31,12 @@ use Rattle.trio_core.specs.Stands.{IsCore, IsThere, MemberStands, StandsFor}
 use Rattle.trio_core.specs.declared.member.Member.{Member}
 use Rattle.trio_core.specs.declared.member.Member.TheVariants as member
 use Rattle.trio_drain.specs.Drained.{IsCutShort, IsCutShortFrom, IsDrainedFrom, IsLost, IsWhole}
+use Rattle.trio_drain.specs.Ending.{ending, ending_by, rows_at_end, rows_by}
 use Rattle.trio_drain.specs.Order.{IsEachServed, MayBegin, Start, flow_at}
 use Rattle.trio_drain.specs.Progress.{IsAfter, IsWithin}
 use Rattle.trio_drain.proofs.Along.{along_at}
 use Rattle.trio_drain.proofs.Blocks.{done_events, undone_events}
+use Rattle.trio_drain.proofs.Ending.{ending_done, ending_undone}
 
 -- ---- where the drain begins
 
@@ -167,12 +170,28 @@ module _ (core : CoreView) (is : IsCore core) (e : EgressView) (same : egress_of
     rows = ap rows_of same ∙ rows core.plan (inputs_of core) (is.state.nodes node.Egress) is.plan.within (stood is.state is.stands) ends;
   }
 
+  pub ends_already : done ≡ true → (s : State) → StandsFor core s → drained.Whole ≡ ending (flow_in core) s
+  ends_already ends s stands = sym (ending_done (flow_in core) s ((done_at s stands).0 ends))
+
+  pub rows_already : done ≡ true → RowsSo e done → (s : State) → StandsFor core s → emitted_by core ≡ rows_at_end core.plan (inputs_of core) s
+  rows_already ends rows s stands =
+      let all = rows core.plan (inputs_of core) (s.nodes node.Egress) is.plan.within (stood s stands) ends in
+      ap rows_of same ∙ all ∙ ap (rows_by core.plan (inputs_of core) s) (ends_already ends s stands)
+
   -- the first lost group that code finds
   pub lost_so : done ≡ false → (p : Partition) → ((s : State) → StandsFor core s → Some p ≡ first_lost s (pairs_up_to (flow_in core) (flow_in core).stages)) → IsLost core core p
   lost_so stops p found = record {
     lost = λ s stands. (let z = finds_lost (flow_in core) s in let here = sym (found s stands) in record { there = z.there p here; first = z.first p here; undone = undone_at stops s stands });
     unchanged = refl;
   }
+
+  pub ends_lost : done ≡ false → (p : Partition) → ((s : State) → StandsFor core s → Some p ≡ first_lost s (pairs_up_to (flow_in core) (flow_in core).stages)) → (s : State) → StandsFor core s
+      → drained.Lost p.stage p.part ≡ ending (flow_in core) s
+  ends_lost stops p found s stands = sym (ending_undone (flow_in core) s (undone_at stops s stands) ∙ ap ending_by (sym (found s stands)))
+
+  pub rows_lost : done ≡ false → (p : Partition) → ((s : State) → StandsFor core s → Some p ≡ first_lost s (pairs_up_to (flow_in core) (flow_in core).stages)) → (s : State) → StandsFor core s
+      → emitted_by core ≡ rows_at_end core.plan (inputs_of core) s
+  rows_lost stops p found s stands = emitted_first core s stands ∙ ap (rows_by core.plan (inputs_of core) s) (ends_lost stops p found s stands)
 
   module _ (stops : done ≡ false) (none : (s : State) → StandsFor core s → None ≡ first_lost s (pairs_up_to (flow_in core) (flow_in core).stages)) (new : CoreView) where
     served_at : (s : State) → StandsFor core s → IsEachServed (flow_in core) s
@@ -190,3 +209,9 @@ module _ (core : CoreView) (is : IsCore core) (e : EgressView) (same : egress_of
 
     pub cut_short : ((b : Start) → MayBegin b → IsAfter b core [] → IsWithin b new) → IsCutShort core new
     cut_short some s stands g = cut_short_from core new s is.plan g (undone_at stops s stands) (served_at s stands) (some (start_of core s) (begins s stands g) (after_none core s stands))
+
+    pub ends_whole : (s : State) → StandsFor core s → drained.Whole ≡ ending (flow_in core) s
+    ends_whole s stands = sym (ending_undone (flow_in core) s (undone_at stops s stands) ∙ ap ending_by (sym (none s stands)))
+
+    pub rows_whole : ((b : Start) → MayBegin b → IsAfter b core [] → IsAfter b new (drain_events (flow_at b) b.state)) → (s : State) → StandsFor core s → emitted_by new ≡ rows_at_end core.plan (inputs_of core) s
+    rows_whole all s stands = (whole_after all).rows ∙ ap (rows_by core.plan (inputs_of core) s) (ends_whole s stands)

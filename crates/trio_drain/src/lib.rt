@@ -9,6 +9,8 @@ mod draining;
 mod next;
 mod serving;
 mod turn;
+mod worked;
 
 pub use draining::drain;
 pub use tuple_edge::Drained;
+pub use worked::worked_rows;

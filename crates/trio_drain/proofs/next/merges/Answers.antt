@@ -7,8 +7,8 @@ use Rattle.trio_drain.proofs.next.merges.Goals as goal
 pub replica-requires-clause-there : goal.replica-requires-clause-there
 replica-requires-clause-there c = (replica_named c.args.core.now c.args.node c.in-Replica.stage c.in-Replica.part c.in-Replica.copy c.in-Replica.is c.requires.there).0
 
-pub replica-requires-clause-few : goal.replica-requires-clause-few
-replica-requires-clause-few c = (replica_named c.args.core.now c.args.node c.in-Replica.stage c.in-Replica.part c.in-Replica.copy c.in-Replica.is c.requires.there).1
+pub replica-requires-clause-copy : goal.replica-requires-clause-copy
+replica-requires-clause-copy c = (replica_named c.args.core.now c.args.node c.in-Replica.stage c.in-Replica.part c.in-Replica.copy c.in-Replica.is c.requires.there).1
 
 pub returns-in-Some : goal.returns-in-Some
 returns-in-Some c = λ s stands. merges_found c.args.core.now.plan (inputs_of c.args.core.now) s c.args.node c.in-Replica.stage c.in-Replica.part c.in-Replica.copy c.in-Replica.is c.replica.result.now c.replica.ensures.named (c.replica.ensures.stands s stands)
