@@ -12,6 +12,7 @@ mod opening;
 mod pulls;
 mod error;
 mod member;
+mod sent;
 mod station;
 mod taking;
 mod task;
@@ -20,6 +21,8 @@ pub use nodes::TrioCore;
 pub use error::TrioError;
 #[doc(hidden)]
 pub use member::Member;
+#[doc(hidden)]
+pub use sent::{Link, Sent};
 #[doc(hidden)]
 pub use station::Station;
 #[doc(hidden)]
