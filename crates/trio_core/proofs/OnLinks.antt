@@ -1,5 +1,5 @@
 -- What a Take asks of its node is the packet that was sent at its place.
-use Rattle.std.proofs.Common.{◌≡◌, ◌∙◌, ◌<◌, ◌≤◌, ◌+◌, ℕ, zero, suc, Bool, true, false, List, [], ◌∷◌, ◌++◌, Option, None, Some, Err, drop, length, take, slice_get, refl, sym, ap, subst, unwrap_or, arith, if◌then◌else◌}
+use Rattle.std.proofs.Common.{◌≡◌, ◌∙◌, ◌<◌, ◌≤◌, ◌+◌, ℕ, zero, suc, Bool, true, false, List, [], ◌∷◌, Option, None, Some, Err, length, take, slice_get, refl, sym, ap, subst, arith, if◌then◌else◌}
 use Rattle.pair_machine.specs.Machine.{nth_from_one}
 use Rattle.trio_machine.specs.Links.{HasNode}
 use Rattle.trio_machine.specs.Machine.{State, act_of, taking_of}

@@ -10,9 +10,9 @@ ghost use Rattle.trio_machine.specs.Machine.{State, act_of, at_node, step};
 ghost use Rattle.trio_machine.specs.Sound.{IsSound};
 ghost use Rattle.trio_machine.specs.declared.event.TrioEvent.TheVariants as event;
 
+use crate::error::TrioError;
 use crate::nodes::TrioCore;
 use crate::pulls::{part_of, pull_between};
-use crate::error::TrioError;
 use crate::station::{acts_at, place_of};
 use crate::task::Task;
 use trio_control::TrioNode;

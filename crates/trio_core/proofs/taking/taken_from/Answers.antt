@@ -1,4 +1,4 @@
-use Rattle.std.proofs.Common.{◌≡◌, ◌∙◌, ◌+◌, ◌<◌, None, Some, length, refl, subst, sym, arith}
+use Rattle.std.proofs.Common.{◌≡◌, ◌∙◌, ◌+◌, ◌<◌, length, refl, subst, sym, arith}
 use Rattle.trio_core.specs.Sent.{Counted}
 use Rattle.trio_core.proofs.OnLinks.{counted_none, counted_some, found_here, none_there}
 use Rattle.trio_core.proofs.taking.taken_from.Goals as goal
@@ -14,11 +14,11 @@ loop-nth-preserved c =
     let log = c.args.log.now.packets in
     let within : c.loop-nth.nth < length log = omega (arith, c.loop-nth-test.true, c.loop-nth.auto.nth-end, c.len-nth-end.ensures, c.requires.within) in
     elim c.match-body_at.branch [
-      in-Some-2 w ↦ record {
+      | in-Some-2 w ↦ record {
         counted = subst (Counted c.args.to log (c.loop-nth.nth + 1)) (sym w.sent-is) (counted_some c.args.to log c.loop-nth.nth c.loop-nth.sent _ within c.loop-nth.invariant.counted (sym c.body_at.ensures ∙ w.in-Some-2.is));
         below = λ one. let b = c.loop-nth.invariant.below one in omega (arith, b, w.sent-is, w.if-sent-index);
       }
-    | in-None w ↦ record {
+      | in-None w ↦ record {
         counted = subst (Counted c.args.to log (c.loop-nth.nth + 1)) (sym w.sent-is) (counted_none c.args.to log c.loop-nth.nth c.loop-nth.sent within c.loop-nth.invariant.counted (sym c.body_at.ensures ∙ w.in-None.is));
         below = λ one. let b = c.loop-nth.invariant.below one in omega (arith, b, w.sent-is);
       }
