@@ -1,6 +1,5 @@
 pub mod Acts
 pub mod CoreView
-pub mod Drained
 pub mod Ends
 pub mod Opening
 pub mod Promises
