@@ -16,8 +16,7 @@ use Rattle.ingress_egress.specs.EgressView.{EgressView}
 use Rattle.trio_machine.specs.Drain.{MergeIsReady, ReplicaIsReady, is_running, is_serving}
 use Rattle.trio_machine.specs.Flow.{trio_flow}
 use Rattle.trio_machine.specs.Machine.{State, controller_in, egress_in, replica_in}
-use Rattle.trio_machine.specs.Numbers.{Gone, Node, Replica, Running, control_at, replica_at}
-use Rattle.trio_machine.specs.Reports.{replicas_of}
+use Rattle.trio_machine.specs.Numbers.{Gone, Replica, Running}
 use Rattle.trio_machine.specs.declared.node.TrioNode.{TrioNode}
 use Rattle.trio_machine.specs.declared.node.TrioNode.TheVariants as node
 use Rattle.trio_control.specs.ControllerPackets as control

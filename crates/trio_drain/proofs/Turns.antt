@@ -1,5 +1,5 @@
 -- What each call of the code's loops does is the next block of the machine's drain, and each event of it names what the plan has.
-use Rattle.std.proofs.Common.{◌≡◌, ◌<◌, ◌≤◌, ◌+◌, ◌-◌, ◌==◌, ◌&&◌, ◌∙◌, ℕ, zero, suc, Bool, true, false, List, [], ◌∷◌, ◌++◌, length, nat_le, nat_lt, replicate, refl, sym, ap, subst, arith, append_assoc}
+use Rattle.std.proofs.Common.{◌≡◌, ◌<◌, ◌≤◌, ◌+◌, ◌-◌, ◌&&◌, ◌∙◌, ℕ, zero, suc, Bool, true, false, List, [], ◌∷◌, ◌++◌, length, nat_le, nat_lt, replicate, refl, sym, ap, subst, arith, append_assoc}
 use Rattle.std.proofs.lemmas.Bool.{le-leb, lt-ltb}
 use Rattle.std.proofs.lemmas.List.{append-nil}
 use Rattle.tuple_edge.specs.Input.{Input}
@@ -16,7 +16,7 @@ use Rattle.tuple_edge.specs.declared.node.NodeId.TheVariants as pair_node
 use Rattle.trio_machine.specs.Drain.{consumer_in, drain_events, drain_group, drain_groups, drain_into, feeder, server}
 use Rattle.trio_machine.specs.Flow.{trio_flow}
 use Rattle.trio_machine.specs.Links.{HasNode, IsThere}
-use Rattle.trio_machine.specs.Machine.{State, replica_in}
+use Rattle.trio_machine.specs.Machine.{replica_in}
 use Rattle.trio_machine.specs.Numbers.{group_size}
 use Rattle.trio_machine.specs.declared.event.TrioEvent.{TrioEvent}
 use Rattle.trio_machine.specs.declared.event.TrioEvent.TheVariants as event
