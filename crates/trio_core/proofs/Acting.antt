@@ -1,5 +1,5 @@
 -- From a node's clauses to its part of the machine's step.
-use Rattle.std.proofs.Common.{◌≡◌, ◌∙◌, ◌++◌, ◌+◌, ℕ, Bool, false, List, [], Option, None, Some, Result, Ok, Err, OnOk, OnErr, IfErr, IfOk, drop, length, refl, sym, ap, subst}
+use Rattle.std.proofs.Common.{◌≡◌, ◌∙◌, ◌++◌, ◌+◌, ℕ, List, [], Option, None, Some, Result, Ok, Err, OnOk, IfErr, IfOk, drop, length, refl, sym, ap, subst}
 use Rattle.std.proofs.lemmas.List.{append-nil, drop_at}
 use Rattle.tuple_edge.specs.Input.{Input}
 use Rattle.tuple_edge.specs.declared.item.Item.{Item}
@@ -30,7 +30,6 @@ use Rattle.trio_core.specs.Acts.{ActsSo, IsActOf, IsAsked, IsDone, IsNextAt}
 use Rattle.trio_core.specs.CoreView.{Log, StationView, contents_of, inputs_in, name_of}
 use Rattle.trio_core.specs.Stands.{MemberStands}
 use Rattle.trio_core.specs.Steps.{HasActed}
-use Rattle.trio_core.specs.declared.error.TrioError.{TrioError}
 use Rattle.trio_core.specs.declared.member.Member.{Member}
 use Rattle.trio_core.specs.declared.member.Member.TheVariants as member
 use Rattle.trio_core.specs.declared.task.Task.{Task}

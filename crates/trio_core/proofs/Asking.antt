@@ -1,5 +1,5 @@
 -- A packet that a node may be asked to take is one that its call admits.
-use Rattle.std.proofs.Common.{All, ◌≡◌, ◌∙◌, ◌<◌, ◌≤◌, ◌+◌, ◌-◌, ℕ, zero, suc, List, [], ◌∷◌, Option, None, Some, length, refl, sym, ap, subst, arith}
+use Rattle.std.proofs.Common.{All, ◌≡◌, ◌∙◌, ◌<◌, ◌≤◌, ◌+◌, ◌-◌, ℕ, zero, suc, List, [], ◌∷◌, Option, None, Some, length, sym, ap, subst, arith}
 use Rattle.std.specs.Prelude.{slice_get}
 use Rattle.std.proofs.lemmas.List.Elements.{All-head, All-tail}
 use Rattle.tuple_edge.specs.Input.{Input}
@@ -22,7 +22,6 @@ use Rattle.trio_machine.specs.Asked.{ActAsks, TakenAsks}
 use Rattle.trio_machine.specs.Flow.{IsTrioPlan, trio_flow}
 use Rattle.trio_machine.specs.Links.{Acknowledges, HasNode, IsCarried, IsProducer}
 use Rattle.trio_machine.specs.Machine.{mark_of}
-use Rattle.trio_machine.specs.Messages.{Takes}
 use Rattle.trio_machine.specs.Numbers.{Node}
 use Rattle.trio_machine.specs.declared.body.TrioBody.{TrioBody}
 use Rattle.trio_machine.specs.declared.body.TrioBody.TheVariants as body

@@ -1,5 +1,5 @@
 -- The nodes of a core: each name of the plan has its station, of the kind that the name says, which stands for its part of the state.
-use Rattle.std.proofs.Common.{◌≡◌, ◌∙◌, ◌<◌, ℕ, List, Option, None, Some, IsSome, length, slice_index_or, refl, sym, ap, subst, true, unwrap_or}
+use Rattle.std.proofs.Common.{◌≡◌, ◌∙◌, ◌<◌, ℕ, List, Option, None, Some, IsSome, length, slice_index_or, sym, ap, subst, true, unwrap_or}
 use Rattle.std.specs.Option.{option_and_then}
 use Rattle.tuple_edge.specs.Input.{Input}
 use Rattle.ingress_egress.specs.EgressView.{EgressView}

@@ -1,5 +1,5 @@
 -- What holds of a core after any events.
-use Rattle.std.proofs.Common.{◌≡◌, Option, None, Some, refl, subst, sym}
+use Rattle.std.proofs.Common.{Option, None, Some, refl, subst, sym}
 use Rattle.std.specs.Option.{option_and_then}
 use Rattle.ingress_egress.specs.EgressView.{IsFrontOf}
 use Rattle.pair_machine.specs.Output.{output}

@@ -22,7 +22,7 @@ use Rattle.trio_machine.proofs.Names.{is_node-true, node_self}
 use Rattle.trio_machine.proofs.Steps.{ActSent, WasSent, act_sent, at_there}
 use Rattle.trio_control.specs.Contents.{ArePacketsFor, BodyStands}
 use Rattle.trio_core.specs.Acts.{IsActOf, IsAsked, IsDone}
-use Rattle.trio_core.specs.CoreView.{CoreView, Log, StationView, flow_in, found, inputs_of, name_of}
+use Rattle.trio_core.specs.CoreView.{CoreView, StationView, flow_in, found, inputs_of, name_of}
 use Rattle.trio_core.specs.Sent.{bodies_to}
 use Rattle.trio_core.specs.Stands.{AreTimely, IsThere, MemberStands, StandsFor, StationStands}
 use Rattle.trio_core.specs.Steps.{GoesOn, HasActed, HasChanged, IsNamed, IsTaskOf}

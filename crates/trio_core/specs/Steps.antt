@@ -1,5 +1,5 @@
 -- What a core does at an event: it finds what the event asks of its node, the node acts, and no other node changes.
-use Rattle.std.specs.Prelude.{◌≡◌, ◌≢◌, ◌++◌, ℕ, List, Ok, Option, Some, slice_get, slice_set}
+use Rattle.std.specs.Prelude.{◌≡◌, ◌≢◌, ◌++◌, ℕ, List, Ok, Some, slice_get, slice_set}
 use Rattle.pair_machine.specs.Flow.{Flow}
 use Rattle.trio_machine.specs.Links as links
 use Rattle.trio_machine.specs.Links.{HasNode}

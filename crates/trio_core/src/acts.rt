@@ -51,11 +51,7 @@ fn fits(body: &TrioBody) -> bool
 }
 
 // Ingress takes a packet, works or makes.
-fn ingress_acts(
-    node: &mut TrioIngress,
-    task: &Task,
-    out: &mut TrioOutbox,
-) -> Result<(), TrioError>
+fn ingress_acts(node: &mut TrioIngress, task: &Task, out: &mut TrioOutbox) -> Result<(), TrioError>
     requires asked { MayBeAsked task.now (member.Ingress node.old) }
     ensures acts { OnOk result (ActsSo task.now (member.Ingress node.old) (member.Ingress node.new) (appended out.old.packets out.new.packets)) }
     ensures packets { out.new.packets ≡ out.old.packets ++ appended out.old.packets out.new.packets }
@@ -72,11 +68,7 @@ fn ingress_acts(
 }
 
 // Ingress takes a packet, where its number is within its limit.
-fn ingress_takes(
-    node: &mut TrioIngress,
-    from: TrioNode,
-    body: &TrioBody,
-) -> Result<(), TrioError>
+fn ingress_takes(node: &mut TrioIngress, from: TrioNode, body: &TrioBody) -> Result<(), TrioError>
     requires asked { MayBeAsked (task.Take from body.now) (member.Ingress node.old) }
     ensures acts { OnOk result (ActsSo (task.Take from body.now) (member.Ingress node.old) (member.Ingress node.new) []) }
     ensures refused { IfErr result (λ e. e ≡ error.OutOfMemory) }
@@ -118,11 +110,7 @@ fn ingress_makes(node: &mut TrioIngress) -> Result<(), TrioError>
 }
 
 // A replica takes a packet, works, fails or pulls.
-fn replica_acts(
-    node: &mut TrioReplica,
-    task: &Task,
-    out: &mut TrioOutbox,
-) -> Result<(), TrioError>
+fn replica_acts(node: &mut TrioReplica, task: &Task, out: &mut TrioOutbox) -> Result<(), TrioError>
     requires asked { MayBeAsked task.now (member.Replica node.old) }
     requires room { 25 ≤ out.old.spare }
     ensures acts { OnOk result (ActsSo task.now (member.Replica node.old) (member.Replica node.new) (appended out.old.packets out.new.packets)) }
@@ -141,11 +129,7 @@ fn replica_acts(
 }
 
 // A replica takes a packet, where its number is within its limit.
-fn replica_takes(
-    node: &mut TrioReplica,
-    from: TrioNode,
-    body: &TrioBody,
-) -> Result<(), TrioError>
+fn replica_takes(node: &mut TrioReplica, from: TrioNode, body: &TrioBody) -> Result<(), TrioError>
     requires asked { MayBeAsked (task.Take from body.now) (member.Replica node.old) }
     ensures acts { OnOk result (ActsSo (task.Take from body.now) (member.Replica node.old) (member.Replica node.new) []) }
     ensures refused { IfErr result (λ e. e ≡ error.OutOfMemory) }
@@ -208,11 +192,7 @@ fn replica_pulls(node: &mut TrioReplica, edge: u32, item: Item) -> Result<(), Tr
 }
 
 // A controller takes a packet; it has no work.
-fn control_acts(
-    node: &mut TrioControl,
-    task: &Task,
-    out: &mut TrioOutbox,
-) -> Result<(), TrioError>
+fn control_acts(node: &mut TrioControl, task: &Task, out: &mut TrioOutbox) -> Result<(), TrioError>
     requires asked { MayBeAsked task.now (member.Control node.old) }
     requires room { 25 ≤ out.old.spare }
     ensures acts { OnOk result (ActsSo task.now (member.Control node.old) (member.Control node.new) (appended out.old.packets out.new.packets)) }
@@ -252,11 +232,7 @@ fn control_takes(
 }
 
 // Egress takes a packet, works or pulls.
-fn egress_acts(
-    node: &mut TrioEgress,
-    task: &Task,
-    out: &mut TrioOutbox,
-) -> Result<(), TrioError>
+fn egress_acts(node: &mut TrioEgress, task: &Task, out: &mut TrioOutbox) -> Result<(), TrioError>
     requires asked { MayBeAsked task.now (member.Egress node.old) }
     ensures acts { OnOk result (ActsSo task.now (member.Egress node.old) (member.Egress node.new) (appended out.old.packets out.new.packets)) }
     ensures packets { out.new.packets ≡ out.old.packets ++ appended out.old.packets out.new.packets }
@@ -273,11 +249,7 @@ fn egress_acts(
 }
 
 // Egress takes a packet.
-fn egress_takes(
-    node: &mut TrioEgress,
-    from: TrioNode,
-    body: &TrioBody,
-) -> Result<(), TrioError>
+fn egress_takes(node: &mut TrioEgress, from: TrioNode, body: &TrioBody) -> Result<(), TrioError>
     requires asked { MayBeAsked (task.Take from body.now) (member.Egress node.old) }
     ensures acts { OnOk result (ActsSo (task.Take from body.now) (member.Egress node.old) (member.Egress node.new) []) }
     ensures refused { IfErr result (λ e. e ≡ error.OutOfMemory) }

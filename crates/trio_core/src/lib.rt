@@ -7,19 +7,22 @@
 
 mod acts;
 mod apply;
+mod error;
+mod member;
 mod nodes;
 mod opening;
 mod pulls;
-mod error;
-mod member;
+mod sent;
 mod station;
 mod taking;
 mod task;
 
-pub use nodes::TrioCore;
 pub use error::TrioError;
 #[doc(hidden)]
 pub use member::Member;
+pub use nodes::TrioCore;
+#[doc(hidden)]
+pub use sent::{Link, Sent};
 #[doc(hidden)]
 pub use station::Station;
 #[doc(hidden)]

@@ -96,7 +96,10 @@ impl TrioCore {
             → of_replica.StandsFor self.now.plan (inputs_of self.now) result.now (s.nodes (node.Replica stage part copy)) }
     {
         self.known();
-        match self.station(TrioNode::Replica { stage, part, copy }).replica() {
+        match self
+            .station(TrioNode::Replica { stage, part, copy })
+            .replica()
+        {
             Some(replica) => replica,
             None => unreachable!(),
         }

@@ -15,12 +15,13 @@ ghost use Rattle.tuple_edge.specs.Input.{from_first};
 
 use crate::member::Member;
 use crate::nodes::TrioCore;
+use crate::sent::Sent;
 use crate::station::Station;
 use plan_reader::Plan;
 use std::alloc::Global;
 use trade_text::Trades;
 use trio_control::{
-    GROUP_SIZE, TrioControl, TrioEgress, TrioIngress, TrioNode, TrioOutbox, TrioReplica,
+    GROUP_SIZE, TrioControl, TrioEgress, TrioIngress, TrioNode, TrioReplica,
 };
 use tuple_edge::{OutOfMemory, Row};
 
@@ -33,7 +34,7 @@ fn add(
 ) -> Result<(), OutOfMemory>
     ensures { OnOk result (stations.new.items ≡ stations.old.items ++ new_station name member ∷ []) }
 {
-    let sent = TrioOutbox::new(alloc);
+    let sent = Sent::new(alloc);
     stations.push(Station { name, member, sent })?;
     Ok(())
 }

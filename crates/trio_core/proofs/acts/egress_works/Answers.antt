@@ -1,4 +1,4 @@
-use Rattle.std.proofs.Common.{refl, subst, sym}
+use Rattle.std.proofs.Common.{subst, sym}
 use Rattle.trio_machine.specs.Messages.{NothingDue, Works}
 use Rattle.trio_control.specs.Egress.{IsWorked, working}
 use Rattle.trio_core.specs.Acts.{ActsSo}

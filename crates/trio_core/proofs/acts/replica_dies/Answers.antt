@@ -1,10 +1,10 @@
 use Rattle.std.proofs.Common.{subst, sym}
-use Rattle.trio_machine.specs.Messages.{Dies, NotRunning}
+use Rattle.trio_machine.specs.Messages.{Dies}
 use Rattle.trio_control.specs.ReplicaView.{down_sent}
 use Rattle.trio_core.specs.Acts.{ActsSo}
 use Rattle.trio_core.specs.declared.member.Member.TheVariants as member
 use Rattle.trio_core.specs.declared.task.Task.TheVariants as task
-use Rattle.trio_core.proofs.Acting.{appended_is, did, gone_dies, refuses}
+use Rattle.trio_core.proofs.Acting.{appended_is, did}
 use Rattle.trio_core.proofs.acts.replica_dies.Goals as goal
 
 pub returns-clause-acts : goal.returns-clause-acts
