@@ -19,7 +19,7 @@ DISK=4
 MEMORY=4
 HOW_LONG="from nothing that took 23 minutes on four processors, 58 processor minutes"
 # As the program says it; .ci/run compares them.
-usage='flux: usage: eval PLAN TRADES [--cash C] | run PLAN TRADES [options] | replay PLAN TRADES EVENTS [--cash C] | make START COUNT | trial PLAN START COUNT [options] | move PLAN TRADES MOVES'
+usage='flux: usage: eval PLAN TRADES [--cash C] | run PLAN TRADES [options] | replay PLAN TRADES EVENTS [--cash C] | make START COUNT | trial PLAN START COUNT [options] | move PLAN TRADES MOVES | trio PLAN TRADES EVENTS'
 
 help() {
   cat <<'TEXT'
@@ -32,6 +32,7 @@ flux: a parallel stream dataflow over trades that survives failures, and whose e
   flux make START COUNT               writes trades that are made from a number
   flux trial PLAN START COUNT         runs a plan over made trades, and writes a summary
   flux move PLAN TRADES MOVES         writes the rows of a stage whose buckets move between partitions
+  flux trio PLAN TRADES EVENTS        writes the groups of three replicas that events reach, and the rows
   flux COMMAND --help                 says more of a command; so do flux help COMMAND and flux COMMAND -h
   flux --help                         writes this; so do flux help and flux -h
   flux --version                      writes the commit; so does flux -V
@@ -141,6 +142,27 @@ Try it, in this repository:
 TEXT
 }
 
+help_trio() {
+  cat <<'TEXT'
+flux trio PLAN TRADES EVENTS
+
+Applies events to the nodes of a plan as they open, each partition as a group of three replicas, and writes
+the groups that they reach, whether all rows can still be had, and the rows that were emitted at the end.
+
+  PLAN        the file with the plan, of at most 65,536 bytes: of version 1
+  TRADES      the file with the trades, CSV of at most 16,777,216 bytes and 100,000 trades
+  EVENTS      the file with the events, of at most 536,870,912 bytes and 20,000,000 events; its first line is
+              trio 1
+
+A group survives where one of its replicas does. An event that is no step of the nodes is refused, with its
+line and the reason.
+
+Try it, in this repository:
+
+  ./flux trio examples/trio/plan.txt examples/trio/trades.csv examples/trio/leaders.txt
+TEXT
+}
+
 help_eval() {
   cat <<'TEXT'
 flux eval PLAN TRADES [--cash C]
@@ -187,7 +209,7 @@ version() {
 
 answer() { "$1" 2>/dev/null || { echo "flux: cannot write" >&2; exit 5; }; exit 0; }
 stop() { echo "flux: $1" >&2; exit 70; }
-is_command() { case ${1-} in run | eval | replay | make | trial | move) ;; *) return 1 ;; esac; }
+is_command() { case ${1-} in run | eval | replay | make | trial | move | trio) ;; *) return 1 ;; esac; }
 
 # Ends with 2, and says which help to ask for: that of the command where the first word is one.
 end_with_2() {

@@ -20,6 +20,7 @@ pub data Request : Type 0 where
   Make : (start count : ℕ) → Request
   Trial : (plan : Text) (start count : ℕ) (options : Options) → Request
   Move : (plan trades moves : Text) → Request
+  Trio : (plan trades events : Text) → Request
 
 -- ---- numbers
 
@@ -158,6 +159,10 @@ trial_form parts =
 unfoldable pub move_form : Parts → Option Request
 move_form parts = if has_no_option parts then option_map (λ names. Move names.0 names.1 names.2) (three_of parts) else None
 
+-- `trio PLAN TRADES EVENTS`
+unfoldable pub trio_form : Parts → Option Request
+trio_form parts = if has_no_option parts then option_map (λ names. Trio names.0 names.1 names.2) (three_of parts) else None
+
 -- what a command of this name asks for with these parts
 unfoldable pub request : Text → Parts → Option Request
 request command parts =
@@ -167,6 +172,7 @@ request command parts =
     else if bytes_eq command (codes "make") then make_form parts
     else if bytes_eq command (codes "trial") then trial_form parts
     else if bytes_eq command (codes "move") then move_form parts
+    else if bytes_eq command (codes "trio") then trio_form parts
     else None
 
 -- What words ask for, if they have a form: the first word is the command.

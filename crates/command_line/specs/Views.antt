@@ -1,7 +1,7 @@
 -- What the code's values stand for.
 use Rattle.std.specs.Prelude.{◌≤◌, Option, option_map}
 use Rattle.std.specs.Borrow.{Bor}
-use Rattle.command_line.specs.Forms.{Eval, Make, Move, Options, Parts, Replay, Request, Run, Trial, max_count, max_start, max_threads, max_turns, min_threads}
+use Rattle.command_line.specs.Forms.{Eval, Make, Move, Options, Parts, Replay, Request, Run, Trial, Trio, max_count, max_start, max_threads, max_turns, min_threads}
 use Rattle.command_line.specs.Words.{Text}
 use Rattle.command_line.specs.declared.command.Command.{Command}
 use Rattle.command_line.specs.declared.command.Command.TheVariants as command
@@ -29,6 +29,7 @@ request_of (command.Replay plan trades events cash) = Replay plan.now trades.now
 request_of (command.Make start count) = Make start count
 request_of (command.Trial plan start count options) = Trial plan.now start count (options_in options)
 request_of (command.Move plan trades moves) = Move plan.now trades.now moves.now
+request_of (command.Trio plan trades events) = Trio plan.now trades.now events.now
 
 -- the numbers of options and of a command are within their ranges
 abbrev pub AreInRange : RunOptions → Type 0
@@ -41,6 +42,7 @@ IsInRange (command.Replay plan trades events cash) = Unit {0}
 IsInRange (command.Make start count) = (start ≤ max_start) × (count ≤ max_count)
 IsInRange (command.Trial plan start count options) = (start ≤ max_start) × (count ≤ max_count) × AreInRange options
 IsInRange (command.Move plan trades moves) = Unit {0}
+IsInRange (command.Trio plan trades events) = Unit {0}
 
 -- the parts that the code found
 abbrev pub parts_of : FoundParts → Parts

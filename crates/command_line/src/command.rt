@@ -40,6 +40,12 @@ pub enum Command<'a> {
         trades: &'a str,
         moves: &'a str,
     },
+    /// Writes the groups of three that events lead to, and what the drain emits.
+    Trio {
+        plan: &'a str,
+        trades: &'a str,
+        events: &'a str,
+    },
 }
 
 /// The options of `run` and `trial`, with their defaults where they are not given.

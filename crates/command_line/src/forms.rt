@@ -1,6 +1,6 @@
 // The form of each command.
 ghost use Rattle.std.specs.Prelude.{◌≡◌, ◌≤◌, IfSome, option_map};
-ghost use Rattle.command_line.specs.Forms.{eval_form, has_cash_alone, has_no_option, made_of, make_form, max_count, max_start, move_form, options_of, replay_form, request, run_form, three_of, trial_form, two_of};
+ghost use Rattle.command_line.specs.Forms.{eval_form, has_cash_alone, has_no_option, made_of, make_form, max_count, max_start, move_form, options_of, replay_form, request, run_form, three_of, trial_form, trio_form, two_of};
 ghost use Rattle.command_line.specs.Views.{AreInRange, IsInRange, options_in, parts_of, request_of};
 
 use crate::numbers::{number_or, number_within};
@@ -178,6 +178,22 @@ fn move_of<'a>(parts: &Parts<'a>) -> Option<Command<'a>>
     })
 }
 
+#[tactic(auto, unfolding(crate::specs::Forms::trio_form))]
+fn trio_of<'a>(parts: &Parts<'a>) -> Option<Command<'a>>
+    ensures form { option_map request_of result ≡ trio_form (parts_of parts.now) }
+    ensures within { IfSome result IsInRange }
+{
+    if !has_no_option(parts) {
+        return None;
+    }
+    let (plan, trades, events) = three_of(parts)?;
+    Some(Command::Trio {
+        plan,
+        trades,
+        events,
+    })
+}
+
 /// What a command of this name asks for with these parts.
 #[tactic(auto, unfolding(crate::specs::Forms::request))]
 pub(crate) fn request<'a>(command: &str, parts: &Parts<'a>) -> Option<Command<'a>>
@@ -191,6 +207,7 @@ pub(crate) fn request<'a>(command: &str, parts: &Parts<'a>) -> Option<Command<'a
         "make" => make_of(parts),
         "trial" => trial_of(parts),
         "move" => move_of(parts),
+        "trio" => trio_of(parts),
         _ => None,
     }
 }

@@ -1,6 +1,6 @@
 -- What each command does with its files.
 use Rattle.std.specs.Prelude.{ℕ, ◌≡◌, List, Option, Some, option_map}
-use Rattle.command_line.specs.Forms.{Eval, Make, Move, Replay, Request, Run, Trial, form}
+use Rattle.command_line.specs.Forms.{Eval, Make, Move, Replay, Request, Run, Trial, Trio, form}
 use Rattle.trade_text.specs.Text.{text}
 use Rattle.pair_machine.specs.Output.{output}
 use Rattle.trade_maker.specs.MadeText.{made_text}
@@ -13,6 +13,7 @@ use Rattle.replay_command.specs.Courses.{replay_course}
 use Rattle.run_command.specs.Courses.{run_course, trial_course}
 use Rattle.run_command.specs.Endings.{ending_of}
 use Rattle.run_command.specs.declared.outcome.Outcome.{Outcome}
+use Rattle.trio_command.specs.Courses.{trio_course}
 use Rattle.flux_top.specs.Ends.{EndsBy}
 
 -- the text of the output of a plan
@@ -31,6 +32,7 @@ course_of (Replay plan trades events cash) = replay_course plan trades events ca
 course_of (Make start count) = Writes (made_text start count)
 course_of (Trial plan start count options) = trial_course plan start count options
 course_of (Move plan trades moves) = move_course plan trades moves
+course_of (Trio plan trades events) = trio_course plan trades events
 
 -- the course that words ask for, if they have a form
 abbrev pub asked : List (List ℕ) → Option Course

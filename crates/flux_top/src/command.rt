@@ -22,10 +22,11 @@ use replay_command::replay_text;
 use run_command::{Outcome, run_outcome, trial_outcome};
 use std::alloc::Global;
 use std::thread::Threads;
+use trio_command::text_of_trio;
 use tuple_edge::Drained;
 
 /// Does what the words after the program's name ask for, and gives the status: 0 where it is done, 2 where
-/// the words have no form, 3 where an input or an event of `replay` is refused, 4 where a file can't
+/// the words have no form, 3 where an input or an event of `replay` or `trio` is refused, 4 where a file can't
 /// be read, 5 where the journal can't be saved or `out` took not all, 6 where a pair was lost before all was
 /// emitted, 8 where no memory was to be had. One line goes to `err` for each status but 0. The gate is called
 /// at each turn of a run's workers; no call waits.
@@ -128,7 +129,7 @@ pub fn flux<R: Threads + Sync, F: Files, S: Sink, E: Sink, G: Gate>(
 
 /// What is said of words without a form.
 const USAGE: &str =
-    "flux: usage: eval PLAN TRADES [--cash C] | run PLAN TRADES [options] | replay PLAN TRADES EVENTS [--cash C] | make START COUNT | trial PLAN START COUNT [options] | move PLAN TRADES MOVES\n";
+    "flux: usage: eval PLAN TRADES [--cash C] | run PLAN TRADES [options] | replay PLAN TRADES EVENTS [--cash C] | make START COUNT | trial PLAN START COUNT [options] | move PLAN TRADES MOVES | trio PLAN TRADES EVENTS\n";
 
 // Says a line. A fault of the sink changes nothing.
 fn say<E: Sink>(err: &mut E, line: &str)
@@ -223,6 +224,14 @@ fn outcome_of<'a, R: Threads + Sync, F: Files, G: Gate>(
             events,
             cash,
         } => match replay_text(alloc, files, plan, trades, events, cash) {
+            Ok(text) => Ok(alone(text)),
+            Err(stop) => Err(stop),
+        },
+        Command::Trio {
+            plan,
+            trades,
+            events,
+        } => match text_of_trio(alloc, files, plan, trades, events) {
             Ok(text) => Ok(alone(text)),
             Err(stop) => Err(stop),
         },

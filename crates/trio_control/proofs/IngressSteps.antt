@@ -1,6 +1,6 @@
 -- Each event of ingress in code is a step of the machine's ingress.
 use Rattle.std.proofs.Common.{◌≡◌, ◌<◌, ◌≤◌, ◌+◌, ◌++◌, ◌∙◌, ℕ, Bool, true, false, List, [], ◌∷◌, Option, None, Some, Result, Ok, Err, length, refl, sym, ap, subst, arith}
-use Rattle.std.specs.Prelude.{IfOk, OnOk, if◌then◌else◌, slice_get, take}
+use Rattle.std.specs.Prelude.{IfOk, OnErr, OnOk, if◌then◌else◌, slice_get, take}
 use Rattle.std.proofs.lemmas.Bool.{lt-ltb}
 use Rattle.tuple_edge.specs.Input.{Input}
 use Rattle.tuple_edge.specs.declared.event.Worked.{Worked}
@@ -39,7 +39,7 @@ use Rattle.trio_machine.specs.declared.node.TrioNode.{TrioNode}
 use Rattle.trio_machine.specs.declared.node.TrioNode.TheVariants as node
 use Rattle.trio_control.specs.Contents.{ArePacketsFor, GoOverLinks}
 use Rattle.trio_control.specs.Ingress.{IsMadeIn, IsOfPlan, IsWorked, StandsFor}
-use Rattle.trio_control.specs.IngressView.{HasMadeNext, IngressView, IsAdmitted, IsIngress, IsMade, made_next, new_producer, sending, taking, tuples_of, working}
+use Rattle.trio_control.specs.IngressView.{HasMadeNext, IngressView, IsAdmitted, IsIngress, IsMade, contents_in, made_next, new_producer, sending, taking, tuples_of, working}
 use Rattle.trio_control.specs.Steps.{IsRefused, IsStep, IsTaken}
 use Rattle.trio_control.specs.declared.ingress.TrioMade.{TrioMade}
 use Rattle.trio_control.specs.declared.ingress.TrioMade.TheVariants as made
@@ -233,3 +233,22 @@ works_linked plan i is here = go (due_of i.producer) refl
     go : (o : Option Sending) → due_of i.producer ≡ o → GoOverLinks plan node.Ingress (sending i o).sent
     go None found = tt
     go (Some d) found = item d (due_waits i.producer d found) (buffer.item_at (buffer_at i.producer d.to) d.number)
+
+-- ---- the inputs stay
+
+pub taking_inputs : (i : IngressView) (b : TrioBody) → (taking i b).inputs ≡ i.inputs
+taking_inputs i (body.Ack edge upto) = refl
+taking_inputs i b = refl
+
+sending_inputs : (i : IngressView) (o : Option Sending) → (sending i o).after.inputs ≡ i.inputs
+sending_inputs i None = refl
+sending_inputs i (Some d) = refl
+
+pub work_inputs : (r : Result Worked OutOfMemory) (old new : IngressView) (Also : Type 0) → OnOk r (new ≡ (working old).after) → OnErr r ((new ≡ old) × Also) → new.inputs ≡ old.inputs
+work_inputs (Ok w) old new Also h k = ap (λ (i : IngressView). i.inputs) h ∙ sending_inputs old (due_of old.producer)
+work_inputs (Err e) old new Also h k = ap (λ (i : IngressView). i.inputs) k.0
+
+pub make_inputs : (r : Result TrioMade OutOfMemory) (old new : IngressView) → IfOk r (IsMade old new) → OnErr r (contents_in new ≡ contents_in old) → new.inputs ≡ old.inputs
+make_inputs (Ok made.Did) old new h k = h.1.inputs
+make_inputs (Ok made.NoMoreRows) old new h k = ap (λ (i : IngressView). i.inputs) h.1
+make_inputs (Err e) old new h k = ap (λ (i : IngressView). i.inputs) k

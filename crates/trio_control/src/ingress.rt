@@ -96,6 +96,7 @@ impl TrioIngress {
     pub fn on(&mut self, from: TrioNode, body: &TrioBody)
         requires admitted { IsAdmitted self.old from body.now }
         ensures taken { self.new ≡ taking self.old body.now }
+        ensures inputs { self.new.inputs ≡ self.old.inputs }
         ensures of_plan { (plan : PlanView) → IsOfPlan plan self.old → IsOfPlan plan self.new }
         // In each plan it is the machine's step, whatever message the body stands for.
         ensures step { (plan : PlanView) (inputs : List Input) → IsTaken plan inputs node.Ingress
@@ -122,6 +123,7 @@ impl TrioIngress {
     pub fn make(&mut self) -> Result<TrioMade, OutOfMemory>
         ensures made { IfOk result (IsMade self.old self.new) }
         ensures unchanged { OnErr result (contents_in self.new ≡ contents_in self.old) }
+        ensures inputs { self.new.inputs ≡ self.old.inputs }
         ensures of_plan { (plan : PlanView) → IsOfPlan plan self.old → IsOfPlan plan self.new }
         // In each plan it is the machine's step.
         ensures step { IfOk result (λ m. (plan : PlanView) (inputs : List Input) → IsTrioPlan plan → IsMadeIn plan inputs self.old self.new m) }
@@ -155,6 +157,7 @@ impl TrioIngress {
         // It sends over links of its plan alone.
         ensures linked { (plan : PlanView) → IsOfPlan plan self.old
             → GoOverLinks plan node.Ingress (appended out.old.packets out.new.packets) }
+        ensures inputs { self.new.inputs ≡ self.old.inputs }
         ensures of_plan { (plan : PlanView) → IsOfPlan plan self.old → IsOfPlan plan self.new }
         // In each plan it is the machine's step.
         ensures step { IfOk result (λ w. (plan : PlanView) (inputs : List Input) → IsTrioPlan plan

@@ -5,7 +5,7 @@ use Rattle.trio_machine.specs.declared.node.TrioNode.TheVariants as node
 use Rattle.trio_control.specs.IngressView.{working}
 use Rattle.trio_control.specs.Outbox.{TrioOutboxView}
 use Rattle.trio_control.proofs.EgressSteps.{sent_linked}
-use Rattle.trio_control.proofs.IngressSteps.{work_done, works_linked}
+use Rattle.trio_control.proofs.IngressSteps.{work_done, work_inputs, works_linked}
 use Rattle.trio_control.proofs.ingress.TrioIngress.work.Goals as goal
 
 pub returns-clause-linked : goal.returns-clause-linked
@@ -16,3 +16,6 @@ returns-clause-linked c = either c.send.result _ _ _
 
 pub returns-clause-step : goal.returns-clause-step
 returns-clause-step c = work_done c.send.result c.args.self.now c.send.new.self c.send.ensures.worked c.send.ensures.after
+
+pub returns-clause-inputs : goal.returns-clause-inputs
+returns-clause-inputs c = work_inputs c.send.result c.args.self.now c.send.new.self _ c.send.ensures.after c.send.ensures.unchanged

@@ -1,0 +1,4 @@
+pub mod EventFaults
+pub mod Following
+pub mod Telling
+pub mod Ways

@@ -1,0 +1,4 @@
+pub mod Courses
+pub mod Follows
+pub mod Replaying
+pub mod Text

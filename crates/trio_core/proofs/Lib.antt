@@ -1,0 +1,16 @@
+pub mod Acting
+pub mod Asking
+pub mod Contents
+pub mod Known
+pub mod Linked
+pub mod Listed
+pub mod Lists
+pub mod NamedNodes
+pub mod OnLinks
+pub mod OpenPlan
+pub mod Opened
+pub mod Placing
+pub mod Promised
+pub mod Pulling
+pub mod Sending
+pub mod Stepping

@@ -1,0 +1,11 @@
+pub mod Acts
+pub mod CoreView
+pub mod Ends
+pub mod Opening
+pub mod Promises
+pub mod Pulls
+pub mod Refusals
+pub mod Sent
+pub mod Stands
+pub mod Steps
+pub mod Taken

@@ -1,0 +1,13 @@
+-- Why an event is no step of a core: want of memory is free, and each other reason is the machine's, with its numbers.
+use Rattle.std.specs.Prelude.{◌≡◌, Err, Result}
+use Rattle.trio_machine.specs.Messages.{NoMoreRows, NotHeld, NotRunning, NotSent, NothingDue, Refusal}
+use Rattle.trio_core.specs.declared.error.TrioError.{TrioError}
+use Rattle.trio_core.specs.declared.error.TrioError.TheVariants as error
+
+abbrev pub IsRefusal : {X : Type 0} → Result X Refusal → TrioError → Type 0
+IsRefusal r (error.NotSent index sent) = r ≡ Err (NotSent index sent)
+IsRefusal r error.NothingDue = r ≡ Err NothingDue
+IsRefusal r error.NotRunning = r ≡ Err NotRunning
+IsRefusal r error.NoMoreRows = r ≡ Err NoMoreRows
+IsRefusal r (error.NotHeld low mark produced) = r ≡ Err (NotHeld low mark produced)
+IsRefusal r error.OutOfMemory = Unit {0}

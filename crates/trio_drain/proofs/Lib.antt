@@ -1,0 +1,13 @@
+pub mod Along
+pub mod Blocks
+pub mod Ending
+pub mod Found
+pub mod Fronts
+pub mod Groups
+pub mod Loops
+pub mod Over
+pub mod Steps
+pub mod Trying
+pub mod Turns
+pub mod Whole
+pub mod WorkedRows

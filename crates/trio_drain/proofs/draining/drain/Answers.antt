@@ -1,0 +1,59 @@
+use Rattle.pair_machine.specs.Drain.{partition}
+use Rattle.trio_drain.proofs.Along.{on_err}
+use Rattle.trio_drain.proofs.Whole.{cut_short, emits_a_front, ends_already, ends_lost, ends_whole, holds_what_is_owed, lost_so, rows_already, rows_lost, rows_whole, whole_after, whole_already}
+use Rattle.trio_drain.proofs.draining.drain.Goals as goal
+
+pub returns-then-done-clause-drained : goal.returns-then-done-clause-drained
+returns-then-done-clause-drained c = whole_already c.args.core.now c.known.ensures c.egress.result.now c.egress.ensures.value c.egress.ensures.stands c.done.result c.done.ensures.whole c.if-done.true c.done.ensures.output
+
+pub returns-then-done-clause-ends : goal.returns-then-done-clause-ends
+returns-then-done-clause-ends c = ends_already c.args.core.now c.known.ensures c.egress.result.now c.egress.ensures.value c.egress.ensures.stands c.done.result c.done.ensures.whole c.if-done.true
+
+pub returns-then-done-clause-rows : goal.returns-then-done-clause-rows
+returns-then-done-clause-rows c = rows_already c.args.core.now c.known.ensures c.egress.result.now c.egress.ensures.value c.egress.ensures.stands c.done.result c.done.ensures.whole c.if-done.true c.done.ensures.output
+
+pub returns-then-done-clause-emitted : goal.returns-then-done-clause-emitted
+returns-then-done-clause-emitted c = emits_a_front c.args.core.now c.known.ensures
+
+pub returns-then-done-clause-owed : goal.returns-then-done-clause-owed
+returns-then-done-clause-owed c = holds_what_is_owed c.args.core.now c.known.ensures
+
+pub returns-in-Some-clause-drained : goal.returns-in-Some-clause-drained
+returns-in-Some-clause-drained c = lost_so c.args.core.now c.known.ensures c.egress.result.now c.egress.ensures.value c.egress.ensures.stands c.done.result c.done.ensures.whole c.if-done.false (partition c.in-Some.stage c.in-Some.part) c.in-Some.ensures
+
+pub returns-in-Some-clause-ends : goal.returns-in-Some-clause-ends
+returns-in-Some-clause-ends c = ends_lost c.args.core.now c.known.ensures c.egress.result.now c.egress.ensures.value c.egress.ensures.stands c.done.result c.done.ensures.whole c.if-done.false (partition c.in-Some.stage c.in-Some.part) c.in-Some.ensures
+
+pub returns-in-Some-clause-rows : goal.returns-in-Some-clause-rows
+returns-in-Some-clause-rows c = rows_lost c.args.core.now c.known.ensures c.egress.result.now c.egress.ensures.value c.egress.ensures.stands c.done.result c.done.ensures.whole c.if-done.false (partition c.in-Some.stage c.in-Some.part) c.in-Some.ensures
+
+pub returns-in-Some-clause-emitted : goal.returns-in-Some-clause-emitted
+returns-in-Some-clause-emitted c = emits_a_front c.args.core.now c.known.ensures
+
+pub returns-in-Some-clause-owed : goal.returns-in-Some-clause-owed
+returns-in-Some-clause-owed c = holds_what_is_owed c.args.core.now c.known.ensures
+
+pub returns-in_err-drain_all-clause-cut_short : goal.returns-in_err-drain_all-clause-cut_short
+returns-in_err-drain_all-clause-cut_short c = on_err c.from_residual.result
+    (cut_short c.args.core.now c.known.ensures c.egress.result.now c.egress.ensures.value c.egress.ensures.stands c.done.result c.done.ensures.whole c.if-done.false c.in_default.ensures c.drain_all.new.core c.in_err-drain_all.ensures.within)
+
+pub returns-in_err-drain_all-clause-emitted : goal.returns-in_err-drain_all-clause-emitted
+returns-in_err-drain_all-clause-emitted c = emits_a_front c.drain_all.new.core c.drain_all.ensures.keeps.core
+
+pub returns-in_err-drain_all-clause-owed : goal.returns-in_err-drain_all-clause-owed
+returns-in_err-drain_all-clause-owed c = holds_what_is_owed c.drain_all.new.core c.drain_all.ensures.keeps.core
+
+pub returns-clause-drained : goal.returns-clause-drained
+returns-clause-drained c = whole_after c.args.core.now c.known.ensures c.egress.result.now c.egress.ensures.value c.egress.ensures.stands c.done.result c.done.ensures.whole c.if-done.false c.in_default.ensures c.drain_all.new.core c.in_ok-drain_all.ensures.done
+
+pub returns-clause-ends : goal.returns-clause-ends
+returns-clause-ends c = ends_whole c.args.core.now c.known.ensures c.egress.result.now c.egress.ensures.value c.egress.ensures.stands c.done.result c.done.ensures.whole c.if-done.false c.in_default.ensures c.drain_all.new.core
+
+pub returns-clause-rows : goal.returns-clause-rows
+returns-clause-rows c = rows_whole c.args.core.now c.known.ensures c.egress.result.now c.egress.ensures.value c.egress.ensures.stands c.done.result c.done.ensures.whole c.if-done.false c.in_default.ensures c.drain_all.new.core c.in_ok-drain_all.ensures.done
+
+pub returns-clause-emitted : goal.returns-clause-emitted
+returns-clause-emitted c = emits_a_front c.drain_all.new.core c.drain_all.ensures.keeps.core
+
+pub returns-clause-owed : goal.returns-clause-owed
+returns-clause-owed c = holds_what_is_owed c.drain_all.new.core c.drain_all.ensures.keeps.core

@@ -1,0 +1,44 @@
+use Rattle.trio_drain.proofs.Along.{keeps_none, keeps_on, left_ends, left_next, left_none, left_within, named_on, next_of, none_of, on_err, there_at, within_same}
+use Rattle.trio_drain.proofs.next.repeat.Goals as goal
+
+pub loop-turn-init : goal.loop-turn-init
+loop-turn-init c = record {
+  keeps = keeps_none c.args.core.now c.known.ensures;
+  left = λ b done n m a block. left_none b done c.args.event n c.args.core.now a;
+}
+
+pub apply_next-requires : goal.apply_next-requires
+apply_next-requires c = record { named = named_on c.args.core.now c.loop-turn.core c.args.event c.loop-turn.invariant.keeps c.requires.named }
+
+pub returns-in_err-apply_next-clause-within : goal.returns-in_err-apply_next-clause-within
+returns-in_err-apply_next-clause-within c = on_err c.from_residual.result (λ b done n m a block.
+    (let l = c.loop-turn.invariant.left b done n m a block in
+    within_same b c.loop-turn.core c.apply_next.new.core c.in_err-apply_next.ensures.unchanged (left_within b m done c.args.event n block c.loop-turn.core l)))
+
+pub returns-in_err-apply_next-clause-keeps : goal.returns-in_err-apply_next-clause-keeps
+returns-in_err-apply_next-clause-keeps c = keeps_on c.args.core.now c.loop-turn.core c.apply_next.new.core c.loop-turn.invariant.keeps c.apply_next.ensures.keeps
+
+pub returns-then-not-branch-clause-done : goal.returns-then-not-branch-clause-done
+returns-then-not-branch-clause-done c = λ b done n m a block.
+    (let l = c.loop-turn.invariant.left b done n m a block in
+    let none = none_of c.loop-turn.core c.apply_next.new.core c.args.event c.in_ok-apply_next.field-0 c.in_ok-apply_next.ensures.tried c.if-not-branch.true in
+    left_ends b m done c.args.event n block c.loop-turn.core l c.apply_next.new.core none)
+
+pub returns-then-not-branch-clause-keeps : goal.returns-then-not-branch-clause-keeps
+returns-then-not-branch-clause-keeps c = keeps_on c.args.core.now c.loop-turn.core c.apply_next.new.core c.loop-turn.invariant.keeps c.apply_next.ensures.keeps
+
+pub loop-turn-preserved : goal.loop-turn-preserved
+loop-turn-preserved c = record {
+  keeps = keeps_on c.args.core.now c.loop-turn.core c.apply_next.new.core c.loop-turn.invariant.keeps c.apply_next.ensures.keeps;
+  left = λ b done n m a block.
+      (let l = c.loop-turn.invariant.left b done n m a block in
+      let next = next_of c.loop-turn.core c.apply_next.new.core c.args.event c.in_ok-apply_next.field-0 c.in_ok-apply_next.ensures.tried c.if-not-branch.false in
+      let there = there_at b c.args.core.now done a c.args.event c.requires.named in
+      left_next b m done c.args.event n block c.loop-turn.core l c.apply_next.new.core there c.apply_next.ensures.keeps next);
+}
+
+pub returns-clause-within : goal.returns-clause-within
+returns-clause-within c = λ b done n m a block. left_within b m done c.args.event n block c.loop-turn.core (c.loop-turn.invariant.left b done n m a block)
+
+pub returns-clause-keeps : goal.returns-clause-keeps
+returns-clause-keeps c = c.loop-turn.invariant.keeps

@@ -1,0 +1,9 @@
+use Rattle.std.proofs.Common.{◌≡◌, None}
+use Rattle.pair_machine.specs.Drain.{parts_below}
+use Rattle.trio_machine.specs.Drain.{first_lost}
+use Rattle.trio_machine.specs.Machine.{State}
+use Rattle.trio_core.specs.Stands.{StandsFor}
+use Rattle.trio_drain.proofs.serving.first_lost_of.Given as goal
+
+abbrev pub invariant-loop-part : goal.invariant-loop-part
+invariant-loop-part l = (s : State) → StandsFor l.core s → first_lost s (parts_below l.stage l.part) ≡ None

@@ -1,0 +1,21 @@
+use Rattle.std.proofs.Common.{◌++◌}
+use Rattle.trio_drain.specs.Order.{before_turn, pulls_of, turn_of}
+use Rattle.trio_drain.proofs.Along.{listed_on, on_err_map, on_ok_map}
+use Rattle.trio_drain.proofs.Loops.{has_on}
+use Rattle.trio_drain.proofs.Turns.{work_next}
+use Rattle.trio_drain.proofs.turn.drain_into.Goals as goal
+
+pub repeat-requires : goal.repeat-requires
+repeat-requires c = record { named = has_on c.args.core.now c.pull_all.new.core c.pull_all.ensures.keeps c.args.to c.requires.there }
+
+pub returns-clause-done : goal.returns-clause-done
+returns-clause-done c = on_ok_map c.repeat.result (λ done b m h a.
+    (let x = c.in_ok-pull_all.ensures.done b m h a in
+    let z = work_next b m c.args.to h in
+    listed_on b c.repeat.new.core _ (before_turn b c.args.to ++ turn_of b c.args.to) z.listed (done b (before_turn b c.args.to ++ pulls_of b c.args.to) z.count m x z.block))) c.repeat.ensures.done
+
+pub returns-clause-within : goal.returns-clause-within
+returns-clause-within c = on_err_map c.repeat.result (λ within b m h a.
+    (let x = c.in_ok-pull_all.ensures.done b m h a in
+    let z = work_next b m c.args.to h in
+    within b (before_turn b c.args.to ++ pulls_of b c.args.to) z.count m x z.block)) c.repeat.ensures.within

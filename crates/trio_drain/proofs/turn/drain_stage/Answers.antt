@@ -1,0 +1,38 @@
+use Rattle.std.proofs.Common.{◌≡◌, ◌∙◌, ◌+◌, true, arith, subst, sym}
+use Rattle.plan_reader.specs.Nodes.{has_pair}
+use Rattle.trio_drain.specs.Order.{done_before}
+use Rattle.trio_drain.proofs.Along.{keeps_none, keeps_on, listed_on, on_err}
+use Rattle.trio_drain.proofs.Loops.{parts_at}
+use Rattle.trio_drain.proofs.Turns.{pair_of, stage_listed}
+use Rattle.trio_drain.proofs.turn.drain_stage.Goals as goal
+
+pub loop-part-init : goal.loop-part-init
+loop-part-init c = record { keeps = keeps_none c.args.core.now c.known.ensures; after = λ b m a. a }
+
+pub drain_group-requires : goal.drain_group-requires
+drain_group-requires c = record {
+  there = subst (λ p. has_pair p c.args.stage c.loop-part.part ≡ true) (sym c.loop-part.invariant.keeps.plan)
+      (pair_of c.args.core.now.plan c.args.stage c.loop-part.part c.requires.first c.requires.last (let few = c.loop-part-test.true in let all = c.parts-parts.ensures in omega arith));
+}
+
+pub returns-in_err-drain_group-clause-within : goal.returns-in_err-drain_group-clause-within
+returns-in_err-drain_group-clause-within c = on_err c.from_residual.result (λ b m a. c.in_err-drain_group.ensures.within b m (c.loop-part.invariant.after b m a))
+
+pub returns-in_err-drain_group-clause-keeps : goal.returns-in_err-drain_group-clause-keeps
+returns-in_err-drain_group-clause-keeps c = keeps_on c.args.core.now c.loop-part.core c.drain_group.new.core c.loop-part.invariant.keeps c.drain_group.ensures.keeps
+
+pub loop-part-preserved : goal.loop-part-preserved
+loop-part-preserved c = record {
+  keeps = keeps_on c.args.core.now c.loop-part.core c.drain_group.new.core c.loop-part.invariant.keeps c.drain_group.ensures.keeps;
+  after = λ b m a. c.in_ok-drain_group.ensures.done b m (c.loop-part.invariant.after b m a);
+}
+
+pub returns-clause-done : goal.returns-clause-done
+returns-clause-done c = λ b m a.
+    (let x = c.loop-part.invariant.after b m a in
+    let all : c.loop-part.part ≡ c.parts-parts.result = omega (arith, c.loop-part-test.false, c.loop-part.auto.part-end) in
+    let count = all ∙ (c.parts-parts.ensures ∙ parts_at b c.args.core.now (done_before b c.args.stage 0) a c.args.stage) in
+    listed_on b c.loop-part.core (done_before b c.args.stage c.loop-part.part) (done_before b (c.args.stage + 1) 0) (stage_listed b c.args.stage c.loop-part.part c.requires.first count) x)
+
+pub returns-clause-keeps : goal.returns-clause-keeps
+returns-clause-keeps c = c.loop-part.invariant.keeps

@@ -1,0 +1,9 @@
+use Rattle.trio_drain.specs.Order.{MayBegin, Start, done_before}
+use Rattle.trio_drain.specs.Progress.{IsAfter, Keeps}
+use Rattle.trio_drain.proofs.turn.drain_stage.Given as goal
+
+abbrev pub invariant-loop-part : goal.invariant-loop-part
+invariant-loop-part l = record {
+  keeps : Keeps l.fn.core l.core;
+  after : (b : Start) → MayBegin b → IsAfter b l.fn.core (done_before b l.stage 0) → IsAfter b l.core (done_before b l.stage l.part);
+}

@@ -1,0 +1,10 @@
+use Rattle.std.proofs.Common.{◌+◌}
+use Rattle.trio_drain.specs.Order.{MayBegin, Start, done_before}
+use Rattle.trio_drain.specs.Progress.{IsAfter, Keeps}
+use Rattle.trio_drain.proofs.turn.drain_stages.Given as goal
+
+abbrev pub invariant-loop-before : goal.invariant-loop-before
+invariant-loop-before l = record {
+  keeps : Keeps l.fn.core l.core;
+  after : (b : Start) → MayBegin b → IsAfter b l.fn.core (done_before b 1 0) → IsAfter b l.core (done_before b (l.before + 1) 0);
+}

@@ -1,0 +1,2 @@
+mod GroupLines
+mod Worked

@@ -1,0 +1,12 @@
+use Rattle.std.proofs.Common.{◌≡◌, ◌++◌}
+use Rattle.std.specs.Prelude.{string_bytes}
+use Rattle.std.specs.List.{flat_map}
+use Rattle.pair_machine.specs.Drain.{pairs_up_to}
+use Rattle.trio_machine.specs.Machine.{State}
+use Rattle.trio_core.specs.CoreView.{flow_in}
+use Rattle.trio_core.specs.Stands.{StandsFor}
+use Rattle.trio_state.specs.GroupsText.{group_text}
+use Rattle.trio_state.proofs.groups.push_groups.Given as goal
+
+abbrev pub invariant-loop-stage : goal.invariant-loop-stage
+invariant-loop-stage l = (s : State) → StandsFor l.core s → string_bytes l.text ≡ string_bytes l.initial.text ++ flat_map (group_text s) (pairs_up_to (flow_in l.core) l.stage)

@@ -1,0 +1,30 @@
+use Rattle.std.proofs.Common.{◌≡◌, ◌∙◌, ◌+◌, ◌++◌, ap, append-nil, append_assoc, arith, string_bytes, sym}
+use Rattle.std.specs.List.{flat_map}
+use Rattle.pair_machine.specs.Drain.{partition, parts_below}
+use Rattle.trio_core.specs.CoreView.{flow_in, inputs_of}
+use Rattle.trio_state.specs.GroupsText.{group_text}
+use Rattle.trio_state.proofs.GroupLines.{group_named, parts_next, sources_in}
+use Rattle.trio_state.proofs.groups.push_stage.Goals as goal
+
+pub loop-part-init : goal.loop-part-init
+loop-part-init c s stands = sym (append-nil (string_bytes c.args.text.now))
+
+pub loop-part-preserved : goal.loop-part-preserved
+loop-part-preserved c s stands =
+    let f = group_text s in
+    let old = string_bytes c.args.text.now in
+    c.in_ok-push_group.ensures s stands
+    ∙ ap (λ t. t ++ f (partition c.args.stage c.loop-part.part)) (c.loop-part.invariant s stands)
+    ∙ append_assoc old (flat_map f (parts_below c.args.stage c.loop-part.part)) (f (partition c.args.stage c.loop-part.part))
+    ∙ ap (λ t. old ++ t) (sym (parts_next f c.args.stage c.loop-part.part))
+
+pub push_group-requires : goal.push_group-requires
+push_group-requires c =
+    group_named c.args.core.now.plan (inputs_of c.args.core.now) c.args.stage c.loop-part.part c.requires.low c.requires.high (omega (arith, c.loop-part-test.true, c.parts_of-parts.ensures))
+
+pub returns : goal.returns
+returns c s stands =
+    let all : c.loop-part.part ≡ (flow_in c.args.core.now).sources (c.args.stage + 1) =
+    omega (arith, c.loop-part-test.false, c.loop-part.auto.part-end, c.parts_of-parts.ensures, sources_in c.args.core.now (c.args.stage + 1)) in
+    c.loop-part.invariant s stands
+    ∙ ap (λ n. string_bytes c.args.text.now ++ flat_map (group_text s) (parts_below c.args.stage n)) all

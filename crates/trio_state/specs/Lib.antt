@@ -1,0 +1,3 @@
+pub mod GroupsText
+pub mod Shown
+pub mod WorkedTexts
