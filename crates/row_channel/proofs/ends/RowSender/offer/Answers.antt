@@ -1,4 +1,4 @@
-use Rattle.std.proofs.Common.{◌≡◌, sym, subst, ap, ◌∙◌, List, length, take}
+use Rattle.std.proofs.Common.{◌≡◌, sym, subst, ap, ◌∙◌, List, take}
 use mathlib.Core.List.{IsPrefix}
 use Rattle.crossbeam_channel.specs.Claims.{view}
 use Rattle.tuple_edge.specs.declared.row.Row.{Row}

@@ -1,5 +1,4 @@
-use Rattle.std.proofs.Common.{ap, ◌∙◌}
-use Rattle.row_channel.proofs.Rules.{merges, totals}
+use Rattle.row_channel.proofs.Rules.{merges}
 use Rattle.row_channel.proofs.ends.RowSender.settle.Goals as goal
 
 pub absorb-requires-clause-rule : goal.absorb-requires-clause-rule
