@@ -15,6 +15,7 @@ use Rattle.pair_machine.specs.declared.order.Order.{Order}
 use Rattle.trade_text.specs.Text.{count_line, part_text, text}
 use Rattle.flux_outside.specs.Outside.{Rose, TakesPart}
 use Rattle.drained_run.specs.Ended.{EndsSo}
+use Rattle.drained_run.proofs.Fronts.{take_prefix}
 use Rattle.row_wire.specs.Lines.{lines_of}
 use Rattle.row_wire.specs.Written.{IsWritten, TakesFront, TakesSo, Told, WritesOn}
 use Rattle.row_wire.specs.declared.written.Written.{Written}
@@ -24,7 +25,6 @@ use Rattle.live_feed.specs.Answers.{answered, ends_whole}
 use Rattle.live_feed.specs.Lives.{AnswersSo, LivesSo, output_text}
 use Rattle.live_feed.specs.declared.answer.Live.{Live}
 use Rattle.live_feed.specs.declared.answer.Live.TheVariants as live
-use Rattle.live_feed.proofs.Fronts.{prefix_self, take_prefix}
 
 -- the text of all rows, or of the first, without its last line
 abbrev pub text_so : Bool → List (List ℕ) → List Row → List ℕ
@@ -73,16 +73,16 @@ module _ (plan : PlanView) (inputs : List Input) (script : List Order) (symbols 
   pub lives_short : (rows : List Row) (how : Written) → IsPrefix rows (output plan inputs) → IsWritten start after (part_text symbols rows) how → LivesSo plan inputs script symbols start after live.OutOfMemory
   lives_short rows how p w =
       let begins = part_begins symbols rows (output plan inputs) p in
-      record { answers = tt; front = front_of_more start after (part_text symbols rows) begins.0 (output_text plan inputs script symbols) how begins.2 w.takes; later = w.later }
+      record { answers = tt; front = front_of_more start after (part_text symbols rows) begins.0 (output_text plan inputs symbols) how begins.2 w.takes; later = w.later }
 
   -- the run was whole
   whole_lives : (events : List Event) (rows : List Row) (how : Written) → EndsSo plan inputs script events rows drained.Whole → IsWritten start after (text symbols rows) how → LivesSo plan inputs script symbols start after (answered how drained.Whole)
   whole_lives events rows how ends w = go how (subst (λ (l : List Row). IsWritten start after (text symbols l) how) ends.output w)
     where
-      front : (how : Written) → IsWritten start after (output_text plan inputs script symbols) how → TakesFront start.taken after.taken (output_text plan inputs script symbols)
-      front how w = front_of_more start after (output_text plan inputs script symbols) [] (output_text plan inputs script symbols) how (append-nil (output_text plan inputs script symbols)) w.takes
+      front : (how : Written) → IsWritten start after (output_text plan inputs symbols) how → TakesFront start.taken after.taken (output_text plan inputs symbols)
+      front how w = front_of_more start after (output_text plan inputs symbols) [] (output_text plan inputs symbols) how (append-nil (output_text plan inputs symbols)) w.takes
 
-      go : (how : Written) → IsWritten start after (output_text plan inputs script symbols) how → LivesSo plan inputs script symbols start after (answered how drained.Whole)
+      go : (how : Written) → IsWritten start after (output_text plan inputs symbols) how → LivesSo plan inputs script symbols start after (answered how drained.Whole)
       go written.Whole w = record { answers = w.takes; front = front written.Whole w; later = w.later }
       go written.Broken w = record { answers = w.takes; front = front written.Broken w; later = w.later }
       go written.Short w = record { answers = tt; front = front written.Short w; later = w.later }
@@ -92,15 +92,15 @@ module _ (plan : PlanView) (inputs : List Input) (script : List Order) (symbols 
       → LivesSo plan inputs script symbols start after (answered how (drained.Lost stage part))
   lost_lives events rows stage part how ends w = go how w
     where
-      begins : (rest : List ℕ) × (0 < length rest) × (part_text symbols rows ++ rest ≡ output_text plan inputs script symbols)
+      begins : (rest : List ℕ) × (0 < length rest) × (part_text symbols rows ++ rest ≡ output_text plan inputs symbols)
       begins = part_begins symbols rows (output plan inputs) (take_prefix rows (output plan inputs) ends.front)
 
-      front : (how : Written) → IsWritten start after (part_text symbols rows) how → TakesFront start.taken after.taken (output_text plan inputs script symbols)
-      front how w = front_of_more start after (part_text symbols rows) begins.0 (output_text plan inputs script symbols) how begins.2 w.takes
+      front : (how : Written) → IsWritten start after (part_text symbols rows) how → TakesFront start.taken after.taken (output_text plan inputs symbols)
+      front how w = front_of_more start after (part_text symbols rows) begins.0 (output_text plan inputs symbols) how begins.2 w.takes
 
       go : (how : Written) → IsWritten start after (part_text symbols rows) how → LivesSo plan inputs script symbols start after (answered how (drained.Lost stage part))
       go written.Whole w = record { answers = record { events = events; rows = rows; lost = ends; put = w.takes }; front = front written.Whole w; later = w.later }
-      go written.Broken w = record { answers = (part_of_more start after (part_text symbols rows) begins.0 (output_text plan inputs script symbols) begins.2 w.takes.0, w.takes.1); front = front written.Broken w; later = w.later }
+      go written.Broken w = record { answers = (part_of_more start after (part_text symbols rows) begins.0 (output_text plan inputs symbols) begins.2 w.takes.0, w.takes.1); front = front written.Broken w; later = w.later }
       go written.Short w = record { answers = tt; front = front written.Short w; later = w.later }
 
   pub lives : (events : List Event) (rows : List Row) (how : Written) (d : Drained) → EndsSo plan inputs script events rows d → IsWritten start after (text_so (ends_whole d) symbols rows) how → LivesSo plan inputs script symbols start after (answered how d)
@@ -116,4 +116,4 @@ module _ (plan : PlanView) (inputs : List Input) (script : List Order) (symbols 
 
 -- nothing was put, for want of memory
 pub lives_unstarted : (plan : PlanView) (inputs : List Input) (script : List Order) (symbols : List (List ℕ)) (told : Told) → LivesSo plan inputs script symbols told told live.OutOfMemory
-lives_unstarted plan inputs script symbols told = record { answers = tt; front = record { front = []; left = output_text plan inputs script symbols; whole = refl; taken = takes_nothing told.taken }; later = omega arith }
+lives_unstarted plan inputs script symbols told = record { answers = tt; front = record { front = []; left = output_text plan inputs symbols; whole = refl; taken = takes_nothing told.taken }; later = omega arith }

@@ -1,4 +1,3 @@
 pub mod Answers
-pub mod Ends
 pub mod Lives
 pub mod Sides

@@ -1,9 +1,9 @@
 // A run and its writer side by side.
-ghost use Rattle.live_feed.specs.Ends.{EndsWith};
 ghost use Rattle.live_feed.specs.Answers.{answered, ends_whole};
 ghost use Rattle.live_feed.specs.Lives.{AnswersSo, LivesSo, output_text};
 ghost use Rattle.live_feed.specs.Sides.{HasRun};
 ghost use Rattle.live_feed.specs.declared.answer.Live.TheVariants as live;
+ghost use Rattle.drained_run.specs.Ended.{IsEnded};
 ghost use Rattle.flux_outside.specs.Outside.{Rose};
 ghost use Rattle.pair_machine.specs.Scripts.{IsSafe};
 ghost use Rattle.row_channel.specs.Ends.{receives_from, rows_got, rows_sent, sends_to};
@@ -13,8 +13,9 @@ ghost use Rattle.trade_text.specs.Text.{part_text};
 ghost use Rattle.trade_text.specs.TradesView.{inputs_in};
 
 use crate::answer::Live;
-use crate::end::{RunEnd, ended_of};
+use crate::end::end_of;
 use crate::tap::RowTap;
+use drained_run::Ended;
 use failure_script::Script;
 use partition_runner::{Gate, RunNames, Tapped, ready_tapped, run_tapped};
 use plan_reader::Plan;
@@ -30,7 +31,7 @@ use tuple_edge::{Drained, OutOfMemory};
 // What the side leaves that runs.
 #[derive(Drop)]
 struct RunSide {
-    end: Result<RunEnd, OutOfMemory>,
+    end: Result<Ended, OutOfMemory>,
     sender: RowSender,
 }
 
@@ -56,7 +57,7 @@ fn run_side<N: RunNames, R: Threads + Wait + Sync, C: ChannelNames, G: Gate>(
         unreachable!()
     };
     let (ran, tap) = run_tapped(rt, alloc, plan, trades, script, turns, gate, ready);
-    let end = ended_of(alloc, plan, trades, script, ran);
+    let end = end_of(alloc, plan, trades, script, ran);
     let RowTap { mut sender, .. } = tap;
     sender.stop(rt);
     RunSide { end, sender }
@@ -87,22 +88,22 @@ fn is_whole(drained: Drained) -> bool
 fn finish<N: RunNames, W: Wire>(
     alloc: Global,
     trades: &Trades,
-    end: &RunEnd,
+    ended: &Ended,
     first: usize,
     written: Written,
     out: &mut W,
 ) -> Live
-    requires ends { EndsWith N.plan N.inputs N.script end.now.core.egress.emitted end.now.drained }
-    requires first { first ≤ length end.now.core.egress.emitted }
-    ensures { (start : Told) → IsWritten start (record { taken = W.taken out.old; faults = W.faults out.old }) (part_text trades.now.symbols (take first end.now.core.egress.emitted)) written
+    requires ended { IsEnded N.plan N.inputs N.script ended.now }
+    requires first { first ≤ length ended.now.rows }
+    ensures { (start : Told) → IsWritten start (record { taken = W.taken out.old; faults = W.faults out.old }) (part_text trades.now.symbols (take first ended.now.rows)) written
         → LivesSo N.plan N.inputs N.script trades.now.symbols start (record { taken = W.taken out.new; faults = W.faults out.new }) result }
 {
-    let drained = end.drained;
+    let drained = ended.drained();
     let whole = is_whole(drained);
     let written = write_rest(
         out,
         alloc,
-        end.core.emitted(),
+        ended.rows(),
         first,
         trades,
         whole,
@@ -128,7 +129,7 @@ fn close<N: RunNames, W: Wire>(
     let RunSide { end, mut sender } = side;
     let first = sender.settle(receiver);
     match end {
-        Ok(end) => finish::<N, W>(alloc, trades, &end, first, written, out),
+        Ok(ended) => finish::<N, W>(alloc, trades, &ended, first, written, out),
         Err(OutOfMemory) => Live::OutOfMemory,
     }
 }
@@ -262,7 +263,7 @@ pub fn live<R: Threads + Wait + Sync, W: Wire + Send, G: Gate>(
     // reaches, and just that state's rows were put; WriteFault where the wire's count of faults rose and a proper front of the text was put.
     ensures answers { AnswersSo plan.now (inputs_in trades.now) script.now trades.now.symbols (record { taken = W.taken out.old; faults = W.faults out.old }) (record { taken = W.taken out.new; faults = W.faults out.new }) result }
     // Whatever the answer, what was put is a front of the text of the output.
-    ensures front { TakesFront (W.taken out.old) (W.taken out.new) (output_text plan.now (inputs_in trades.now) script.now trades.now.symbols) }
+    ensures front { TakesFront (W.taken out.old) (W.taken out.new) (output_text plan.now (inputs_in trades.now) trades.now.symbols) }
     ensures later { W.faults out.old ≤ W.faults out.new }
     // Under a safe script no pair is lost, so where no fault of the wire was counted, all is put, or no memory was to be had.
     ensures complete { IsSafe script.now → (Rose (W.faults out.old) (W.faults out.new) → ⊥) → (result ≡ live.Done) ⊎ (result ≡ live.OutOfMemory) }

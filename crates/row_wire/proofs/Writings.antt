@@ -1,6 +1,5 @@
 -- Texts that are written one behind another.
-use Rattle.std.proofs.Common.{ℕ, ◌≡◌, ◌≤◌, ◌<◌, ◌+◌, ◌-◌, ◌^◌, Bool, true, false, List, [], ◌∷◌, ◌++◌, length, length-append, drop, min, refl, sym, ap, subst, ◌∙◌, append_assoc, append-nil, arith, Option, None, Some}
-use Rattle.std.specs.List.{flat_map}
+use Rattle.std.proofs.Common.{ℕ, ◌≡◌, ◌≤◌, List, [], ◌∷◌, ◌++◌, length-append, refl, sym, ap, subst, ◌∙◌, append_assoc, append-nil, arith, Option, None, Some}
 use Rattle.flux_outside.specs.Outside.{Rose, Takes, TakesPart}
 use Rattle.flux_outside.proofs.Sinks.{takes_more, takes_part_more}
 use Rattle.trade_text.specs.Text.{column_names, part_text, row_line}

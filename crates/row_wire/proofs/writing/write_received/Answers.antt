@@ -1,7 +1,6 @@
 use Rattle.std.proofs.Common.{refl, sym, subst, List, [], ◌∙◌}
 use Rattle.trade_text.specs.Text.{part_text}
 use Rattle.tuple_edge.specs.declared.row.Row.{Row}
-use Rattle.row_channel.specs.Ends.{rows_got}
 use Rattle.row_wire.specs.Written.{IsWritten}
 use Rattle.row_wire.proofs.Writings.{nothing_yet}
 use Rattle.row_wire.proofs.writing.write_received.Goals as goal
