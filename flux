@@ -1,14 +1,22 @@
 #!/usr/bin/env bash
-# Runs flux with the words as given, in the caller's folder, and ends with its status. Where the program isn't built, or
-# was built from other sources, it is proved and built first, crates side by side, and standard error tells how far that is;
-# a build that fails ends with status 70. Words that need no program are answered here.
+# Runs flux with the words as given, in the caller's folder, and ends with its status; by its second name, flux_live, it runs that
+# program. Where the program isn't built, or was built from other sources, it is proved and built first, crates side by side, and
+# standard error tells how far that is; a build that fails ends with status 70. Words that need no program are answered here.
 set -u
 top=${BASH_SOURCE[0]}
-[ ! -L "$top" ] || top=$(readlink -f "$top")
-[[ $top == */* ]] || top=./$top
+name=flux
+while :; do
+  [ "${top##*/}" != flux_live ] || name=flux_live
+  [[ $top == */* ]] || top=./$top
+  [ -L "$top" ] || break
+  link=$(readlink "$top")
+  [[ $link == /* ]] || link=${top%/*}/$link
+  top=$link
+done
 top=$(CDPATH='' cd -P -- "${top%/*}/" && pwd)
 main=$top/crates/flux_main
 program=$main/out/flux_main
+[ "$name" = flux ] || main=$top/crates/live_main program=$top/crates/live_main/out/live_main
 # The sums of all that the program is made from, and of the program.
 stamp=$main/out/launcher.sum
 # The files and folders that the sum goes over; its time is that from which on a change would not be in the sum.
@@ -18,8 +26,10 @@ log=$main/out/launcher.log
 DISK=4
 MEMORY=4
 HOW_LONG="from nothing that took 23 minutes on four processors, 58 processor minutes"
+[ "$name" = flux ] || HOW_LONG="where flux is built that takes a few minutes, and from nothing some more than flux, which took 23 on four processors"
 # As the program says it; .ci/run compares them.
 usage='flux: usage: eval PLAN TRADES [--cash C] | run PLAN TRADES [options] | replay PLAN TRADES EVENTS [--cash C] | make START COUNT | trial PLAN START COUNT [options] | move PLAN TRADES MOVES'
+[ "$name" = flux ] || usage='flux_live: usage: PLAN TRADES [SCRIPT]'
 
 help() {
   cat <<'TEXT'
@@ -35,6 +45,8 @@ flux: a parallel stream dataflow over trades that survives failures, and whose e
   flux COMMAND --help                 says more of a command; so do flux help COMMAND and flux COMMAND -h
   flux --help                         writes this; so do flux help and flux -h
   flux --version                      writes the commit; so does flux -V
+
+A second program, flux_live, writes the rows while a run goes on: ./flux_live --help.
 
 Try it, in this repository:
 
@@ -179,21 +191,47 @@ Try it, in this repository:
 TEXT
 }
 
+help_live() {
+  cat <<'TEXT'
+flux_live PLAN TRADES [SCRIPT]
+
+Runs a plan over trades by pairs of replicas on threads, as flux run does, and writes its rows while it
+goes on: the column names at once, each row as soon as the output takes it, and at last the count of rows.
+The workers never wait for the output.
+
+  PLAN        the file with the plan, of at most 65,536 bytes
+  TRADES      the file with the trades, CSV of at most 16,777,216 bytes and 100,000 trades
+  SCRIPT      the file with the failure script, of at most 65,536 bytes; without it nothing fails
+
+A name isn't empty and doesn't begin with "-". There are 4 threads, of at most 200,000 turns each. A plan of
+version 2 has no cash movements here.
+
+What is written is the first part of the text that flux eval writes, whatever happens, each row once and in
+order. The exit status is 0 where that is the whole text, 2 for words that have no form, 3 for an input that
+is refused, 4 for a file that can't be read, 5 for an output that took not all, 6 where a pair was lost, 8
+for want of memory, and 70 where the program could not be built.
+
+Try it, in this repository:
+
+  ./flux_live examples/failures/large.txt examples/failures/blotter.csv examples/failures/script.txt
+TEXT
+}
+
 version() {
   local commit
   commit=$([ -e "$top/.git" ] && git -C "$top" describe --tags --always --dirty 2>/dev/null) || commit="of a commit that isn't known"
-  cat <<<"flux $commit"
+  cat <<<"$name $commit"
 }
 
-answer() { "$1" 2>/dev/null || { echo "flux: cannot write" >&2; exit 5; }; exit 0; }
-stop() { echo "flux: $1" >&2; exit 70; }
-is_command() { case ${1-} in run | eval | replay | make | trial | move) ;; *) return 1 ;; esac; }
+answer() { "$1" 2>/dev/null || { echo "$name: cannot write" >&2; exit 5; }; exit 0; }
+stop() { echo "$name: $1" >&2; exit 70; }
+is_command() { [ "$name" = flux ] && case ${1-} in run | eval | replay | make | trial | move) ;; *) return 1 ;; esac; }
 
 # Ends with 2, and says which help to ask for: that of the command where the first word is one.
 end_with_2() {
   local command=''
   ! is_command "${1-}" || command="$1 "
-  echo "flux: see ./flux $command--help" >&2
+  echo "$name: see ./$name $command--help" >&2
   exit 2
 }
 
@@ -222,7 +260,7 @@ check_journal() {
   done
 }
 
-# Fills `crates` with flux_main, after those crates of the repository that it stands on.
+# Fills `crates` with the program, after those crates of the repository that it stands on.
 declare -A below
 crates=()
 add() {
@@ -232,10 +270,10 @@ add() {
   crates+=("$1")
 }
 list_crates() {
-  local name list
+  local crate list
   [ ${#crates[@]} -eq 0 ] || return 0
-  while IFS=: read -r name list; do [[ $name != [a-z]* ]] || below[$name]=$list; done <"$top/crates.txt"
-  add flux_main
+  while IFS=: read -r crate list; do [[ $crate != [a-z]* ]] || below[$crate]=$list; done <"$top/crates.txt"
+  add "${main##*/}"
 }
 
 # Lists the files and folders of the sources, which are about to be summed up. What changes behind the list has a later time than it,
@@ -311,7 +349,7 @@ check_space() {
 tell() {
   local front='' end=$'\n'
   [ ! -t 2 ] || { front=$'\r\e[K' end=''; }
-  printf '%sflux: proved %s of %s crates in %s minutes%s' "$front" "$1" "${#crates[@]}" $((SECONDS / 60)) "$end" >&2
+  printf '%s%s: proved %s of %s crates in %s minutes%s' "$front" "$name" "$1" "${#crates[@]}" $((SECONDS / 60)) "$end" >&2
 }
 
 # Reads what `rt ci` says, and hands it on to the log. At the first crate that isn't proved it ends `rt ci`, which would go on with
@@ -358,8 +396,8 @@ build() {
   trap '[ -z "$said" ] || { kill "$said"; wait "$said"; } 2>/dev/null; [ -z "$room" ] || rm -rf "$room"; rm -f "$looked.$$"*' EXIT
   trap 'exit 70' INT TERM HUP
   make_room || stop "not built: there can be no folder for it in ${TMPDIR:-/tmp}"
-  echo "flux: proving and building the program; $HOW_LONG" >&2
-  echo "flux: the log is $log" >&2
+  echo "$name: proving and building the program; $HOW_LONG" >&2
+  echo "$name: the log is $log" >&2
   look
   from=$(sources)
   copy_sources "$room" || stop "not built: its sources can't be copied to $room"
@@ -370,8 +408,8 @@ build() {
   status=$?
   said=''
   exec 8<&-
-  if [ -n "$failed" ] || [ "$status" -ne 0 ] || ! cp "$room/crates/flux_main/out/flux_main" "$program"; then
-    echo "flux: the build failed${failed:+ at $failed}; $log has all that was said, and last:" >&2
+  if [ -n "$failed" ] || [ "$status" -ne 0 ] || ! cp "$room/${program#"$top/"}" "$program"; then
+    echo "$name: the build failed${failed:+ at $failed}; $log has all that was said, and last:" >&2
     grep -vE '^(statements|library|crate|logic) |: proved$' "$log" | tail -n 20 | cut -c 1-300 >&2
     exit 70
   fi
@@ -385,21 +423,23 @@ build() {
 
 case $#,${1-} in
   0,) echo "$usage" >&2; end_with_2 ;;
-  1,--help | 1,-h | 1,help) answer help ;;
+  1,--help | 1,-h | 1,help) [ "$name" = flux ] || answer help_live; answer help ;;
   1,--version | 1,-V) answer version ;;
   2,--help | 2,-h | 2,help) ! is_command "$2" || answer "help_$2" ;;
 esac
-if is_command "$1"; then
-  # No file can have such a name.
-  for it in "${@:2}"; do
-    [[ $it != --help && $it != -h ]] || answer "help_$1"
-  done
+# No file can have such a name.
+for it in "${@:2}"; do
+  [[ $it == --help || $it == -h ]] || continue
+  [ "$name" = flux ] || answer help_live
+  ! is_command "$1" || answer "help_$1"
+done
+if [ "$name" = flux ]; then
+  case $1 in run | trial) check_journal "$@" || end_with_2 "$1" ;; esac
 fi
-case $1 in run | trial) check_journal "$@" || end_with_2 "$1" ;; esac
 if ! is_fresh; then
   # Of several first calls one builds, and the others wait for it.
   exec 9<"$top"
-  flock -n 9 || { echo "flux: another call is building the program; waiting for it" >&2; flock 9; }
+  flock -n 9 || { echo "$name: another call is building a program; waiting for it" >&2; flock 9; }
   is_fresh || build
   exec 9<&-
 fi
