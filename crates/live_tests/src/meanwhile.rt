@@ -14,6 +14,7 @@ use std::test::Fail;
 use std::thread::Threads;
 
 // What a wire and a gate tell each other.
+#[derive(Drop)]
 struct Seen {
     // The wire has taken more than the column names.
     row: AtomicBool,
@@ -60,6 +61,7 @@ impl Seen {
 
 // A wire that takes all, and says once it has taken a row. It may wait at its first put until the workers have begun so
 // many turns.
+#[derive(Drop)]
 struct Watched<'a> {
     seen: &'a Seen,
     puts: u64,
@@ -85,6 +87,7 @@ impl<'a> Sink for Watched<'a> {
 }
 
 // Holds worker 0 before one of its turns until a row was on the wire, or after very many looks; and counts turns.
+#[derive(Drop)]
 struct Holds<'a> {
     seen: &'a Seen,
     hold: u64,
