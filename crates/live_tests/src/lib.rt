@@ -11,3 +11,7 @@ mod faults;
 mod fixture;
 #[cfg(test)]
 mod meanwhile;
+#[cfg(test)]
+mod program;
+#[cfg(test)]
+mod random;

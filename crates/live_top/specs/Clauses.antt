@@ -3,6 +3,8 @@ use Rattle.std.specs.Prelude.{ℕ, ◌≡◌, ◌⊎◌, List, Option, None}
 use Rattle.std.specs.String.{string_bytes}
 use Rattle.pair_machine.specs.Drain.{partition}
 use Rattle.pair_machine.specs.Numbers.{Partition}
+use Rattle.pair_machine.specs.declared.order.Order.{Order}
+use Rattle.command_course.specs.FeedView.{FeedView}
 use Rattle.command_course.specs.Lines.{cannot_read_line}
 use Rattle.command_course.specs.declared.stop.Stop.{Stop}
 use Rattle.command_course.specs.declared.stop.Stop.TheVariants as stop
@@ -15,7 +17,6 @@ use Rattle.live_feed.specs.declared.answer.Live.TheVariants as live
 use Rattle.live_top.specs.Lines.{own_line}
 use Rattle.live_top.specs.Runs.{Lived, RunLives}
 use Rattle.live_top.specs.Words.{as_run}
-use Rattle.command_course.specs.Course.{Run}
 
 -- ---- of `flux_live`
 
@@ -74,13 +75,13 @@ StopsBefore told before after words (stop.PairLost stage part line) = ⊥
 StopsBefore told before after words stop.OutOfMemory = StopsShort told before after (as_run words)
 
 -- why a run was not whole, or not written whole
-abbrev pub StopsLive : Run → Told → Told → Stop → Type 0
-StopsLive run old new stop.Usage = ⊥
-StopsLive run old new (stop.Refused line) = ⊥
-StopsLive run old new (stop.CannotRead line) = ⊥
-StopsLive run old new stop.CannotWrite = RunLives run old new live.WriteFault
-StopsLive run old new (stop.PairLost stage part line) = RunLives run old new (live.Lost stage part) × (string_bytes line ≡ own_line (lost_line (partition stage part)))
-StopsLive run old new stop.OutOfMemory = RunLives run old new live.OutOfMemory
+abbrev pub StopsLive : FeedView → List Order → Told → Told → Stop → Type 0
+StopsLive feed script old new stop.Usage = ⊥
+StopsLive feed script old new (stop.Refused line) = ⊥
+StopsLive feed script old new (stop.CannotRead line) = ⊥
+StopsLive feed script old new stop.CannotWrite = RunLives feed script old new live.WriteFault
+StopsLive feed script old new (stop.PairLost stage part line) = RunLives feed script old new (live.Lost stage part) × (string_bytes line ≡ own_line (lost_line (partition stage part)))
+StopsLive feed script old new stop.OutOfMemory = RunLives feed script old new live.OutOfMemory
 
 -- this pair was lost, as a line says, or no memory was to be had for that
 abbrev pub NamesLost : (stage part : ℕ) → Stop → Type 0

@@ -2,8 +2,9 @@
 ghost use Rattle.live_feed.specs.declared.answer.Live.TheVariants as live;
 ghost use Rattle.live_top.specs.Clauses.{NamesLost, StopsLive};
 ghost use Rattle.live_top.specs.Lines.{own_line};
-ghost use Rattle.live_top.specs.Runs.{RunLives, run_in};
+ghost use Rattle.live_top.specs.Runs.{RunLives};
 ghost use Rattle.command_course.specs.declared.stop.Stop.TheVariants as stop;
+ghost use Rattle.command_course.specs.Feeds.{feed_of};
 ghost use Rattle.flux_top.specs.Lines.{lost_line};
 ghost use Rattle.pair_machine.specs.Drain.{partition};
 ghost use Rattle.std.specs.Prelude.{◌≡◌, ◌≤◌, IfErr, IfOk, OnOk, string_bytes};
@@ -41,7 +42,7 @@ fn answer<R: Threads + Wait + Sync, S: Sink + Send, G: Gate>(
     out: &mut S,
     gate: &G,
 ) -> Live
-    ensures { RunLives (run_in given.now) (record { taken = S.taken out.old; faults = S.faults out.old }) (record { taken = S.taken out.new; faults = S.faults out.new }) result }
+    ensures { RunLives (feed_of given.now.feed) given.now.script (record { taken = S.taken out.old; faults = S.faults out.old }) (record { taken = S.taken out.new; faults = S.faults out.new }) result }
 {
     live(
         rt,
@@ -64,8 +65,8 @@ pub(crate) fn lived<R: Threads + Wait + Sync, S: Sink + Send, G: Gate>(
     out: &mut S,
     gate: &G,
 ) -> Result<(), Stop>
-    ensures done { OnOk result (RunLives (run_in given.now) (record { taken = S.taken out.old; faults = S.faults out.old }) (record { taken = S.taken out.new; faults = S.faults out.new }) live.Done) }
-    ensures stops { IfErr result (λ stop. StopsLive (run_in given.now) (record { taken = S.taken out.old; faults = S.faults out.old }) (record { taken = S.taken out.new; faults = S.faults out.new }) stop) }
+    ensures done { OnOk result (RunLives (feed_of given.now.feed) given.now.script (record { taken = S.taken out.old; faults = S.faults out.old }) (record { taken = S.taken out.new; faults = S.faults out.new }) live.Done) }
+    ensures stops { IfErr result (λ stop. StopsLive (feed_of given.now.feed) given.now.script (record { taken = S.taken out.old; faults = S.faults out.old }) (record { taken = S.taken out.new; faults = S.faults out.new }) stop) }
 {
     match answer(rt, alloc, given, out, gate) {
         Live::Done => Ok(()),
