@@ -1,4 +1,4 @@
-// Rows are put while the run goes on.
+// Rows are put while the run goes on, and the run goes on while nothing is put.
 ghost use Rattle.flux_outside.specs.Outside.{IsOffered, Rose, Takes, TakesPart};
 ghost use Rattle.std.specs.Prelude.{◌≡◌, ◌≤◌, ◌<◌, None, IfOk, OnErr, length, take};
 
@@ -13,14 +13,16 @@ use std::sync::atomic::{AtomicBool, AtomicU64};
 use std::test::Fail;
 use std::thread::Threads;
 
+// How often is looked at most.
+const LOOKS: u64 = 1_000_000_000;
+
 // What a wire and a gate tell each other.
-#[derive(Drop)]
 struct Seen {
     // The wire has taken more than the column names.
     row: AtomicBool,
     // A worker that looked for it in its turn saw it.
     in_time: AtomicBool,
-    // The wire saw the workers go on while it was stuck.
+    // The wire saw so many turns begun while it was stuck.
     gone_on: AtomicBool,
     // How many turns the workers have begun.
     turns: AtomicU64,
@@ -38,7 +40,7 @@ impl Seen {
 
     // Looks for a row on the wire.
     fn looks_for_a_row(&self) {
-        for _look in 0..1_000_000_000u64 {
+        for _look in 0..LOOKS {
             if self.row.load(SeqCst) {
                 self.in_time.store(true, SeqCst);
                 return;
@@ -49,7 +51,7 @@ impl Seen {
 
     // Waits, for a while at most, until the workers have begun so many turns.
     fn waits_for_turns(&self, turns: u64) {
-        for _look in 0..1_000_000_000u64 {
+        for _look in 0..LOOKS {
             if self.turns.load(SeqCst) >= turns {
                 self.gone_on.store(true, SeqCst);
                 return;
@@ -59,12 +61,12 @@ impl Seen {
     }
 }
 
-// A wire that takes all, and says once it has taken a row. It may wait at its first put until the workers have begun so
+// A wire that keeps all, and says once it has taken a row. It may wait at its first put until the workers have begun so
 // many turns.
 #[derive(Drop)]
 struct Watched<'a> {
     seen: &'a Seen,
-    puts: u64,
+    kept: Vec<u8>,
     waits_for: u64,
 }
 
@@ -76,13 +78,15 @@ impl<'a> Sink for Watched<'a> {
     ghost faults = { λ _. 0 };
 
     fn put(&mut self, bytes: &[u8]) -> Result<usize, Failed> {
-        if self.puts == 0 {
+        if self.kept.is_empty() {
             self.seen.waits_for_turns(self.waits_for);
         } else {
             self.seen.row.store(true, SeqCst);
         }
-        self.puts = self.puts.saturating_add(1);
-        Ok(bytes.len())
+        match self.kept.extend_from_slice(bytes) {
+            Ok(()) => Ok(bytes.len()),
+            Err(_) => Err(Failed),
+        }
     }
 }
 
@@ -102,32 +106,39 @@ impl<'a> Gate for Holds<'a> {
     }
 }
 
-// A live run of a story by two workers under such a gate, onto such a wire.
-fn run_watched<R: Threads + Wait + Sync>(
+// Runs a story live by so many workers, of so many turns each. Worker 0 is held before its turn `hold`, and the wire is
+// stuck at its first put until so many turns were begun. It says whether all of the text was put.
+fn writes_all<R: Threads + Wait + Sync>(
     rt: &R,
     alloc: Global,
     story: &Story,
     seen: &Seen,
+    threads: u32,
+    turns: u64,
     hold: u64,
     waits_for: u64,
-) -> Live {
+) -> bool
+    requires some { 1 ≤ threads }
+    requires few { threads ≤ 16 }
+{
     let gate = Holds { seen, hold };
     let mut wire = Watched {
         seen,
-        puts: 0,
+        kept: Vec::new(alloc),
         waits_for,
     };
-    live(
+    let answer = live(
         rt,
         alloc,
         &story.plan,
         &story.trades,
         &story.script,
-        2,
-        200_000,
+        threads,
+        turns,
         &gate,
         &mut wire,
-    )
+    );
+    answer == Live::Done && wire.kept.as_slice() == story.text.as_slice()
 }
 
 // A worker that waits in its turn for a row on the wire sees one. A body that writes all after the run doesn't get so
@@ -136,19 +147,28 @@ fn run_watched<R: Threads + Wait + Sync>(
 fn a_row_is_put_before_the_run_ends(rt: HostRuntime) -> Result<(), Fail> {
     let story = made(rt.alloc(), THREE, 7, 100_000, b"")?;
     let seen = Seen::new();
-    let answer = run_watched(&rt, rt.alloc(), &story, &seen, 2_001, 0);
-    assert!(rt; answer == Live::Done);
+    assert!(rt; writes_all(&rt, rt.alloc(), &story, &seen, 2, 200_000, 2_001, 0));
     assert!(rt; seen.in_time.load(SeqCst));
     Ok(())
 }
 
-// A wire that is stuck at its first put doesn't stop the workers: it sees them go on to the end of the run.
+// A row waits for no later one: where the only worker is held, none comes, and the rows before are put.
 #[test]
-fn a_slow_wire_stops_no_worker(rt: HostRuntime) -> Result<(), Fail> {
+fn a_row_waits_for_no_later_one(rt: HostRuntime) -> Result<(), Fail> {
     let story = made(rt.alloc(), ONE, 1, 20_000, b"")?;
     let seen = Seen::new();
-    let answer = run_watched(&rt, rt.alloc(), &story, &seen, 1_000_000, 1_000);
-    assert!(rt; answer == Live::Done);
+    assert!(rt; writes_all(&rt, rt.alloc(), &story, &seen, 1, 200_000, 500, 0));
+    assert!(rt; seen.in_time.load(SeqCst));
+    Ok(())
+}
+
+// A wire that is stuck at its first put doesn't stop the workers: it sees them begin all of their turns. The channel is
+// full at each offer then, and the text is whole all the same.
+#[test]
+fn a_stuck_wire_stops_no_worker(rt: HostRuntime) -> Result<(), Fail> {
+    let story = made(rt.alloc(), ONE, 1, 50_000, b"")?;
+    let seen = Seen::new();
+    assert!(rt; writes_all(&rt, rt.alloc(), &story, &seen, 2, 800, 1_000, 1_600));
     assert!(rt; seen.gone_on.load(SeqCst));
     Ok(())
 }
