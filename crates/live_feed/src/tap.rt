@@ -1,0 +1,27 @@
+// The tap beside egress.
+ghost use Rattle.row_channel.specs.Ends.{rows_sent, sends_to};
+ghost use Rattle.std.specs.Prelude.{◌≡◌};
+
+use partition_runner::Tap;
+use row_channel::{ChannelNames, RowSender};
+use std::marker::PhantomData;
+use std::sync::Wait;
+use tuple_edge::Row;
+
+/// A tap that sends the rows it is offered into a channel. What doesn't fit is left for its next offer, so no worker
+/// waits for it.
+#[derive(Drop)]
+pub(crate) struct RowTap<'a, R: Wait + Sync, C: ChannelNames> {
+    pub(crate) rt: &'a R,
+    pub(crate) sender: RowSender,
+    pub(crate) channel: PhantomData<C>,
+    ghost named: { sends_to sender ≡ C.channel },
+}
+
+impl<'a, R: Wait + Sync, C: ChannelNames> Tap for RowTap<'a, R, C> {
+    ghost given = { λ tap. rows_sent tap.sender };
+
+    fn offer(&mut self, rows: &[Row]) {
+        self.sender.offer(self.rt, rows);
+    }
+}
