@@ -14,7 +14,7 @@ use Rattle.pair_machine.specs.Scripts.{IsSafe}
 use Rattle.pair_machine.specs.declared.order.Order.{Order}
 use Rattle.trade_text.specs.Text.{count_line, part_text, text}
 use Rattle.flux_outside.specs.Outside.{Rose, TakesPart}
-use Rattle.drained_run.specs.Ended.{EndsSo}
+use Rattle.drained_run.specs.Ended.{EndedView, EndsSo, IsEnded}
 use Rattle.drained_run.proofs.Fronts.{take_prefix}
 use Rattle.row_wire.specs.Lines.{lines_of}
 use Rattle.row_wire.specs.Written.{IsWritten, TakesFront, TakesSo, Told, WritesOn}
@@ -106,6 +106,19 @@ module _ (plan : PlanView) (inputs : List Input) (script : List Order) (symbols 
   pub lives : (events : List Event) (rows : List Row) (how : Written) (d : Drained) → EndsSo plan inputs script events rows d → IsWritten start after (text_so (ends_whole d) symbols rows) how → LivesSo plan inputs script symbols start after (answered how d)
   lives events rows how drained.Whole ends w = whole_lives events rows how ends w
   lives events rows how (drained.Lost stage part) ends w = lost_lives events rows stage part how ends w
+
+  -- the run ended, some of its rows were written first, and then the rest
+  pub finishes : (before : Told) (was is : Written) (ended : EndedView) (rows : List Row) (first : ℕ) (d : Drained) (whole : Bool) (answer : Live)
+      → rows ≡ ended.rows → d ≡ ended.drained → whole ≡ ends_whole d → answer ≡ answered is d → IsEnded plan inputs script ended
+      → WritesOn before after was (lines_of symbols (drop first rows) ++ (if whole then count_line (length rows) else [])) is
+      → IsWritten start before (part_text symbols (take first ended.rows)) was → LivesSo plan inputs script symbols start after answer
+  finishes before was is ended rows first d whole answer same_rows same_end same_whole same_answer ends on w =
+      let all_rows : WritesOn before after was (lines_of symbols (drop first ended.rows) ++ (if whole then count_line (length ended.rows) else [])) is =
+      subst (λ (l : List Row). WritesOn before after was (lines_of symbols (drop first l) ++ (if whole then count_line (length l) else [])) is) same_rows on in
+      let all : WritesOn before after was (lines_of symbols (drop first ended.rows) ++ (if ends_whole ended.drained then count_line (length ended.rows) else [])) is =
+      subst (λ (b : Bool). WritesOn before after was (lines_of symbols (drop first ended.rows) ++ (if b then count_line (length ended.rows) else [])) is) (same_whole ∙ ap ends_whole same_end) all_rows in
+      subst (λ (a : Live). LivesSo plan inputs script symbols start after a) (sym (same_answer ∙ ap (answered is) same_end))
+      (lives ended.events ended.rows is ended.drained ends (written_rest before after start was is (ends_whole ended.drained) symbols ended.rows first all w))
 
   -- with a safe script and no fault of the wire all was put, or no memory was to be had
   pub completes : (answer : Live) → AnswersSo plan inputs script symbols start after answer → IsSafe script → (Rose start.faults after.faults → ⊥) → (answer ≡ live.Done) ⊎ (answer ≡ live.OutOfMemory)

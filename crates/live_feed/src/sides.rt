@@ -50,7 +50,7 @@ fn run_side<N: RunNames, R: Threads + Wait + Sync, C: ChannelNames, G: Gate>(
     requires trades { inputs_in trades.now ≡ N.inputs }
     requires script { script.now ≡ N.script }
     requires ready { IsTrue (is_some ready.old) }
-    ensures run { HasRun plan.now (inputs_in trades.now) script.now (rows_sent result.sender) result.end }
+    ensures run { HasRun N.plan N.inputs N.script (rows_sent result.sender) result.end }
     ensures channel { sends_to result.sender ≡ C.channel }
 {
     let Some(ready) = ready.take() else {
@@ -153,23 +153,23 @@ fn fork<N: RunNames, C: ChannelNames, R: Threads + Wait + Sync, W: Wire + Send, 
     requires script { script.now ≡ N.script }
     requires ready { IsTrue (is_some ready.old) }
     requires got { rows_got receiver.old ≡ [] }
-    ensures run { HasRun plan.now (inputs_in trades.now) script.now (rows_sent result.0.sender) result.0.end }
+    ensures run { HasRun N.plan N.inputs N.script (rows_sent result.0.sender) result.0.end }
     ensures sends { sends_to result.0.sender ≡ C.channel }
     ensures receives { receives_from receiver.new ≡ receives_from receiver.old }
     ensures written { IsWritten (record { taken = W.taken out.old; faults = W.faults out.old }) (record { taken = W.taken out.new; faults = W.faults out.new }) (part_text named.now.symbols (rows_got receiver.new)) result.1 }
 {
-    join_mut(
-        rt,
-        &mut || -> RunSide
-            requires { (plan.now ≡ N.plan) × (inputs_in trades.now ≡ N.inputs) × (script.now ≡ N.script) × IsTrue (is_some ready.now) }
-            ensures { HasRun plan.entry.now (inputs_in trades.entry.now) script.entry.now (rows_sent result.sender) result.end × (sends_to result.sender ≡ C.channel) }
-        { run_side(rt, alloc, plan, trades, script, turns, gate, ready) },
-        &mut || -> Written
-            requires { rows_got receiver.now ≡ [] }
-            ensures { IsWritten (record { taken = W.taken out.entry.now; faults = W.faults out.entry.now }) (record { taken = W.taken out.exit.now; faults = W.faults out.exit.now }) (part_text named.entry.now.symbols (rows_got receiver.exit.now)) result
-                × (receives_from receiver.exit.now ≡ receives_from receiver.entry.now) }
-        { write_received(rt, alloc, named, receiver, out) },
-    )
+    // Each side has an allocator of its own to borrow.
+    let for_writing = alloc;
+    let mut run = || -> RunSide
+        requires { (plan.now ≡ N.plan) × (inputs_in trades.now ≡ N.inputs) × (script.now ≡ N.script) × IsTrue (is_some ready.now) }
+        ensures { HasRun N.plan N.inputs N.script (rows_sent result.sender) result.end × (sends_to result.sender ≡ C.channel) }
+    { run_side(rt, alloc, plan, trades, script, turns, gate, ready) };
+    let mut write = || -> Written
+        requires { rows_got receiver.now ≡ [] }
+        ensures { IsWritten (record { taken = W.taken out.entry.now; faults = W.faults out.entry.now }) (record { taken = W.taken out.exit.now; faults = W.faults out.exit.now }) (part_text named.entry.now.symbols (rows_got receiver.exit.now)) result
+            × (receives_from receiver.exit.now ≡ receives_from receiver.entry.now) }
+    { write_received(rt, for_writing, named, receiver, out) };
+    join_mut(rt, &mut run, &mut write)
 }
 
 // Runs a plan on one side and writes on the other, over the two ends of a channel.

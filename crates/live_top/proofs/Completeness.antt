@@ -8,6 +8,7 @@ use Rattle.run_command.specs.Endings.{Ending}
 use Rattle.flux_top.specs.Clauses.{Accepts, Finishes, Rejects}
 use Rattle.flux_top.specs.Ends.{IsAtEnd, Loses, LosesNone}
 use Rattle.flux_top.proofs.Completeness.{accepted_unlost, rejected_unfinished}
+pub use Rattle.flux_top.proofs.Completeness.{accepted_asked, accepted_unrefused, rejected_asked, sure_at_end}
 use Rattle.row_wire.specs.Written.{Told}
 use Rattle.live_feed.specs.declared.answer.Live.{Live}
 use Rattle.live_feed.specs.declared.answer.Live.TheVariants as live

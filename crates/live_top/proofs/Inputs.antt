@@ -5,8 +5,8 @@ use Rattle.command_course.specs.Course.{AtReading, Between, Came, Course, Refuse
 use Rattle.command_course.specs.Steps.{HasReadCause, IsWant, StopsOf}
 use Rattle.command_course.specs.declared.stop.Stop.{Stop}
 use Rattle.command_course.specs.declared.stop.Stop.TheVariants as stop
-use Rattle.command_course.proofs.Courses.{came_on, stops_on, wants_for}
-pub use Rattle.command_course.proofs.Courses.{wants_on}
+use Rattle.command_course.proofs.Courses.{came_on, stops_on}
+pub use Rattle.command_course.proofs.Courses.{wants_for, wants_on}
 use Rattle.flux_outside.specs.Outside.{Call, Names, StopsAtWant, Wants}
 use Rattle.flux_top.specs.Outcome.{asked}
 use Rattle.live_top.specs.Clauses.{IsOwn, StopsBefore}
@@ -59,13 +59,13 @@ own_cause before now stop.CannotWrite own cause is_own = absurd cause
 own_cause before now (stop.PairLost stage part line) own cause is_own = absurd cause
 own_cause before now stop.OutOfMemory own cause is_own = subst (HasReadCause before now) (sym is_own) tt
 
-want_stays : {A : Type 0} (why own : Stop) → IsOwn why own → IsWant {A} (Err why) → IsWant {A} (Err own)
-want_stays stop.Usage own is_own want = absurd want
-want_stays (stop.Refused line) own is_own want = absurd want
-want_stays (stop.CannotRead line) own is_own want = absurd want
-want_stays stop.CannotWrite own is_own want = absurd want
-want_stays (stop.PairLost stage part line) own is_own want = absurd want
-want_stays {A} stop.OutOfMemory own is_own want = subst (λ s. IsWant {A} (Err s)) (sym is_own) tt
+want_stays : (A : Type 0) (why own : Stop) → IsOwn why own → IsWant {A = A} (Err why) → IsWant {A = A} (Err own)
+want_stays A stop.Usage own is_own want = absurd want
+want_stays A (stop.Refused line) own is_own want = absurd want
+want_stays A (stop.CannotRead line) own is_own want = absurd want
+want_stays A stop.CannotWrite own is_own want = absurd want
+want_stays A (stop.PairLost stage part line) own is_own want = absurd want
+want_stays A stop.OutOfMemory own is_own want = subst (λ s. IsWant {A = A} (Err s)) (sym is_own) tt
 
-pub own_wants : {A : Type 0} (old new : Option Wants) (why own : Stop) → IsOwn why own → StopsAtWant old new (IsWant {A} (Err why)) → StopsAtWant old new (IsWant {A} (Err own))
-own_wants {A} old new why own is_own wants = wants_for old new (IsWant {A} (Err why)) (IsWant {A} (Err own)) (want_stays {A} why own is_own) wants
+pub own_wants : (A : Type 0) (old new : Option Wants) (why own : Stop) → IsOwn why own → StopsAtWant old new (IsWant {A = A} (Err why)) → StopsAtWant old new (IsWant {A = A} (Err own))
+own_wants A old new why own is_own wants = wants_for old new (IsWant {A = A} (Err why)) (IsWant {A = A} (Err own)) (want_stays A why own is_own) wants

@@ -13,12 +13,15 @@ pub record Files : Type 0 where
   pub trades : Text
   pub script : Option Text
 
+abbrev pub naming : (plan trades : Text) → (script : Option Text) → Files
+naming plan trades script = record { plan = plan; trades = trades; script = script }
+
 -- `PLAN TRADES` and `PLAN TRADES SCRIPT`: no word is empty or begins with `-`
 abbrev pub files_of : List Text → Option Files
 files_of (plan ∷ trades ∷ []) =
-    if is_plain plan && is_plain trades then Some (record { plan = plan; trades = trades; script = None }) else None
+    if is_plain plan && is_plain trades then Some (naming plan trades None) else None
 files_of (plan ∷ trades ∷ script ∷ []) =
-    if is_plain plan && is_plain trades && is_plain script then Some (record { plan = plan; trades = trades; script = Some script }) else None
+    if is_plain plan && is_plain trades && is_plain script then Some (naming plan trades (Some script)) else None
 files_of _ = None
 
 -- the words by which `flux` runs a plan over such files
@@ -29,7 +32,7 @@ run_words plan trades (Some script) = codes "run" ∷ plan ∷ trades ∷ codes 
 -- words without a form are none
 abbrev pub words_for : Option Files → List Text
 words_for None = []
-words_for (Some files) = run_words files.plan files.trades files.script
+words_for (Some named) = run_words named.plan named.trades named.script
 
 -- The words of `flux` that ask for what these words of `flux_live` do.
 abbrev pub as_run : List Text → List Text
@@ -41,9 +44,9 @@ options_with script = record { cash = None; script = script; threads = default_t
 
 -- the course of `flux run` over them
 abbrev pub course_over : Files → Course
-course_over files = run_course files.plan files.trades (options_with files.script)
+course_over named = run_course named.plan named.trades (options_with named.script)
 
 -- ---- as the code holds it
 
 abbrev pub files_in : Named → Files
-files_in named = record { plan = named.plan.now; trades = named.trades.now; script = text_in named.script }
+files_in named = naming named.plan.now named.trades.now (text_in named.script)

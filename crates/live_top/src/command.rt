@@ -35,6 +35,7 @@ const USAGE: &str = "flux_live: usage: PLAN TRADES [SCRIPT]\n";
 ///
 /// What `out` took is a front of the text of the plan's output, whatever the status: each clause that speaks of a run
 /// says so.
+#[tactic(auto, using(crate::proofs::Completeness::accepted_unrefused, crate::proofs::Completeness::accepted_asked, crate::proofs::Completeness::rejected_asked, crate::proofs::Inputs::wants_for))]
 pub fn flux_live<R: Threads + Wait + Sync, F: Files, S: Sink + Send, E: Sink, G: Gate>(
     rt: &R,
     alloc: Global,
@@ -118,6 +119,7 @@ pub fn flux_live<R: Threads + Wait + Sync, F: Files, S: Sink + Send, E: Sink, G:
 }
 
 // Reads all inputs, and then runs what they say.
+#[tactic(auto, using(crate::proofs::Inputs::wants_for))]
 fn run<R: Threads + Wait + Sync, F: Files, S: Sink + Send, G: Gate>(
     rt: &R,
     alloc: Global,

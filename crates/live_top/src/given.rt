@@ -49,6 +49,7 @@ pub(crate) fn read_inputs<F: Files>(alloc: Global, words: &[String], files: &mut
 }
 
 // What these files say.
+#[tactic(auto, using(crate::proofs::Inputs::wants_on))]
 fn given_at<F: Files>(alloc: Global, files: &mut F, named: Named<'_>) -> Result<Given, Stop>
     ensures comes { IfOk result (λ given. Came (F.contents files.old) (F.calls files.old) (F.calls files.new) (course_over (files_in named.entry)) (Runs (run_in given))) }
     ensures stops { IfErr result (λ stop. StopsOf (F.contents files.old) (F.calls files.old) (F.calls files.new) (course_over (files_in named.entry)) stop) }
@@ -65,6 +66,7 @@ fn given_at<F: Files>(alloc: Global, files: &mut F, named: Named<'_>) -> Result<
 }
 
 // What the file of the script says too, once the others were read.
+#[tactic(auto, using(crate::proofs::Inputs::wants_on))]
 fn scripted<F: Files>(
     alloc: Global,
     files: &mut F,

@@ -21,8 +21,8 @@ returns-clause-goes_on c = goes_on c.args.plan.now (inputs_in c.args.trades.now)
 pub returns-clause-front : goal.returns-clause-front
 returns-clause-front c = run_front c.args.plan.now (inputs_in c.args.trades.now) c.args.script.now c.args.ran c.requires
 
-pub returns-in_err-of-clause-front : goal.returns-in_err-of-clause-front
-returns-in_err-of-clause-front c = run_front c.args.plan.now (inputs_in c.args.trades.now) c.args.script.now c.args.ran c.requires
+pub returns-in_err-core-clause-front : goal.returns-in_err-core-clause-front
+returns-in_err-core-clause-front c = run_front c.args.plan.now (inputs_in c.args.trades.now) c.args.script.now c.args.ran c.requires
 
 pub returns-in_err-drained-clause-front : goal.returns-in_err-drained-clause-front
 returns-in_err-drained-clause-front c = run_front c.args.plan.now (inputs_in c.args.trades.now) c.args.script.now c.args.ran c.requires

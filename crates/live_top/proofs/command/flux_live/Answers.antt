@@ -1,8 +1,10 @@
 use Rattle.std.proofs.Common.{◌∙◌, map, string_bytes, subst}
 use Rattle.pair_machine.specs.Drain.{partition}
 use Rattle.flux_top.specs.Clauses.{Tells}
+use Rattle.flux_top.specs.Ends.{IsAtEnd, LosesNone}
 use Rattle.live_feed.specs.declared.answer.Live.TheVariants as live
-use Rattle.live_top.proofs.Completeness.{accepted_unlost_live, rejected_unlived}
+use Rattle.live_top.proofs.Completeness.{accepted_unlost_live, accepted_unrefused, rejected_unlived, sure_at_end}
+use Rattle.live_top.specs.Words.{as_run}
 use Rattle.live_top.proofs.command.flux_live.Goals as goal
 
 pub returns-in-Ok-clause-rejects : goal.returns-in-Ok-clause-rejects
@@ -18,8 +20,20 @@ returns-in-Err-Refused-clause-refused g c = λ three.
       line = stops.line;
       comes = stops.comes;
       tells = subst (Tells (g.E.Sink.taken c.args.err.now, g.E.Sink.offered c.args.err.now) (g.E.Sink.taken c.say-in-Err-Refused.new.err, g.E.Sink.offered c.say-in-Err-Refused.new.err) (g.E.Sink.faults c.args.err.now) (g.E.Sink.faults c.say-in-Err-Refused.new.err))
-          (c.as_str-in-Err-Refused.ensures.value ∙ stops.said_is) c.say-in-Err-Refused.ensures;
+          (c.as_str.ensures.value ∙ stops.said_is) c.say-in-Err-Refused.ensures;
     }
+
+pub returns-in-Err-Refused-clause-complete : goal.returns-in-Err-Refused-clause-complete
+returns-in-Err-Refused-clause-complete g c = λ accepted reads puts.
+    let stops = rw c.in-Err-Refused.field-0-is at c.in-Err-Refused.ensures.stops in
+    absurd (accepted_unrefused LosesNone (g.F.Files.contents c.args.files.now) (g.F.Files.calls c.args.files.now) (g.F.Files.calls c.run.new.files) (as_run (map string_bytes c.args.words.now)) stops.line
+    sure_at_end accepted stops.comes)
+
+pub returns-in-Err-Refused-clause-may_lose : goal.returns-in-Err-Refused-clause-may_lose
+returns-in-Err-Refused-clause-may_lose g c = λ accepted reads puts.
+    let stops = rw c.in-Err-Refused.field-0-is at c.in-Err-Refused.ensures.stops in
+    absurd (accepted_unrefused IsAtEnd (g.F.Files.contents c.args.files.now) (g.F.Files.calls c.args.files.now) (g.F.Files.calls c.run.new.files) (as_run (map string_bytes c.args.words.now)) stops.line
+    (λ there at. at) accepted stops.comes)
 
 pub returns-in-Err-CannotRead-clause-unread : goal.returns-in-Err-CannotRead-clause-unread
 returns-in-Err-CannotRead-clause-unread g c = λ four.

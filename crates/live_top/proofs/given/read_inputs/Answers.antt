@@ -2,6 +2,7 @@ use Rattle.std.proofs.Common.{◌∙◌, ap, map, option_map, string_bytes, sym}
 use Rattle.live_top.specs.Words.{as_run, course_over, files_in}
 use Rattle.live_top.proofs.AsRun.{asks_for, asks_nothing, asks_something}
 use Rattle.live_top.proofs.Inputs.{own_cause, own_stops, own_wants}
+use Rattle.live_top.specs.declared.given.Given.{Given}
 use Rattle.live_top.proofs.given.read_inputs.Goals as goal
 
 pub returns-in-Ok-clause-comes : goal.returns-in-Ok-clause-comes
@@ -45,3 +46,7 @@ returns-in-Err-clause-stops g c =
 pub returns-in-Err-clause-cause : goal.returns-in-Err-clause-cause
 returns-in-Err-clause-cause g c =
     own_cause (g.F.Files.read_faults c.args.files.now) (g.F.Files.read_faults c.given_at.new.files) c.in-Err.stop c.own_stop.result c.in-Err.ensures.cause c.own_stop.ensures
+
+pub returns-in-Err-clause-wants : goal.returns-in-Err-clause-wants
+returns-in-Err-clause-wants g c =
+    own_wants Given (g.F.Files.wants c.args.files.now) (g.F.Files.wants c.given_at.new.files) c.in-Err.stop c.own_stop.result c.own_stop.ensures c.in-Err.ensures.wants
