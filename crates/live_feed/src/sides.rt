@@ -172,6 +172,34 @@ fn fork<N: RunNames, T: SendingTap + Send, R: Threads + Wait + Sync, W: Wire + S
     join_mut(rt, &mut run, &mut write)
 }
 
+// Runs what is ready and writes meanwhile what its tap sends, and then what is missing.
+fn live_ready<N: RunNames, T: SendingTap + Send, R: Threads + Wait + Sync, W: Wire + Send, G: Gate>(
+    rt: &R,
+    alloc: Global,
+    plan: &Plan,
+    trades: &Trades,
+    script: &Script,
+    turns: u64,
+    gate: &G,
+    ready: Tapped<N, T>,
+    receiver: RowReceiver,
+    out: &mut W,
+) -> Live
+    requires plan { plan.now ≡ N.plan }
+    requires trades { inputs_in trades.now ≡ N.inputs }
+    requires script { script.now ≡ N.script }
+    requires receives { receives_from receiver ≡ T.channel }
+    requires got { rows_got receiver ≡ [] }
+    ensures { LivesSo N.plan N.inputs N.script trades.now.symbols (record { taken = W.taken out.old; faults = W.faults out.old }) (record { taken = W.taken out.new; faults = W.faults out.new }) result }
+{
+    let mut ready = Some(ready);
+    let mut receiver = receiver;
+    let (side, written) = fork(
+        rt, alloc, plan, trades, script, turns, gate, &mut ready, trades, &mut receiver, out,
+    );
+    close::<N, W>(alloc, trades, side, receiver, written, out)
+}
+
 // Runs a plan on one side and writes on the other, over the two ends of a channel.
 fn live_over<N: RunNames, C: ChannelNames, R: Threads + Wait + Sync, W: Wire + Send, G: Gate>(
     rt: &R,
@@ -206,12 +234,9 @@ fn live_over<N: RunNames, C: ChannelNames, R: Threads + Wait + Sync, W: Wire + S
     else {
         return Live::OutOfMemory;
     };
-    let mut ready = Some(ready);
-    let mut receiver = receiver;
-    let (side, written) = fork(
-        rt, alloc, plan, trades, script, turns, gate, &mut ready, trades, &mut receiver, out,
-    );
-    close::<N, W>(alloc, trades, side, receiver, written, out)
+    live_ready(
+        rt, alloc, plan, trades, script, turns, gate, ready, receiver, out,
+    )
 }
 
 // The same for names that are the plan's, over a channel that is made first.
