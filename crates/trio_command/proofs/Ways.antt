@@ -1,6 +1,6 @@
 -- How a course goes on.
 use Rattle.std.proofs.Common.{ℕ, ◌≡◌, ◌∙◌, true, false, List, [], Result, refl, ap, subst, sym}
-use Rattle.std.specs.Prelude.{Path, ◌==◌, IfErr, if◌then◌else◌}
+use Rattle.std.specs.Prelude.{◌==◌, IfErr, if◌then◌else◌}
 use Rattle.plan_reader.specs.PlanView.{PlanView}
 use Rattle.trade_text.specs.Inputs.{inputs_of}
 use Rattle.trade_text.specs.TradesView.{IsTrades, TradesView, inputs_in}

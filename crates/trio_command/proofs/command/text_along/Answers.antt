@@ -14,9 +14,9 @@ returns-in-Err-clause-stops c =
 pub returns-in-Ok-clause-comes : goal.returns-in-Ok-clause-comes
 returns-in-Ok-clause-comes c =
     subst (λ feed. IfOk c.text_from.result (λ bytes. WritesHere (goes_along c.args.name.now feed c.args.events.now) bytes.items))
-    (feed_is c.args.plan.now c.args.trades.now c.in-Ok.core c.rows.ensures.limits c.requires.version c.requires.unmerged c.in-Ok.ensures.plan c.in-Ok.ensures.inputs) c.text_from.ensures.comes
+    (feed_is c.args.plan.now c.args.trades.now c.in-Ok.core c.rows-rows.ensures.limits c.requires.version c.requires.unmerged c.in-Ok.ensures.plan c.in-Ok.ensures.inputs) c.text_from.ensures.comes
 
 pub returns-in-Ok-clause-stops : goal.returns-in-Ok-clause-stops
 returns-in-Ok-clause-stops c =
     subst (λ feed. IfErr c.text_from.result (StopsHere (goes_along c.args.name.now feed c.args.events.now)))
-    (feed_is c.args.plan.now c.args.trades.now c.in-Ok.core c.rows.ensures.limits c.requires.version c.requires.unmerged c.in-Ok.ensures.plan c.in-Ok.ensures.inputs) c.text_from.ensures.stops
+    (feed_is c.args.plan.now c.args.trades.now c.in-Ok.core c.rows-rows.ensures.limits c.requires.version c.requires.unmerged c.in-Ok.ensures.plan c.in-Ok.ensures.inputs) c.text_from.ensures.stops
