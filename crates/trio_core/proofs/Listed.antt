@@ -1,5 +1,5 @@
 -- Places listed by receiver: where nothing was sent, where more is, where one more packet is listed, and a packet found again.
-use Rattle.std.proofs.Common.{◌≡◌, ◌∙◌, ◌⊎◌, inl, inr, ◌<◌, ◌≤◌, ◌+◌, ◌-◌, ℕ, zero, suc, Bool, true, false, List, [], ◌∷◌, ◌++◌, Option, None, Some, IsSome, length, slice_get, slice_index_or, take, refl, sym, ap, subst, unwrap_or, append-nil, arith, if◌then◌else◌, length-append}
+use Rattle.std.proofs.Common.{◌≡◌, ◌∙◌, ◌⊎◌, inl, inr, ◌<◌, ◌≤◌, ◌+◌, ◌-◌, ℕ, zero, suc, Bool, true, false, List, [], ◌∷◌, ◌++◌, Option, None, Some, IsSome, length, slice_get, slice_index_or, refl, sym, ap, subst, unwrap_or, append-nil, arith, if◌then◌else◌, length-append}
 use Rattle.std.proofs.lemmas.List.{take-append-le}
 use Rattle.std.proofs.lemmas.Option.{slice_get_within}
 use Rattle.pair_machine.specs.Machine.{nth_from_one}

@@ -187,12 +187,7 @@ fn list_next(
 }
 
 // Lists a packet for its receiver.
-fn list(
-    alloc: Global,
-    links: &mut Vec<Link>,
-    to: TrioNode,
-    place: usize,
-) -> Result<(), OutOfMemory>
+fn list(alloc: Global, links: &mut Vec<Link>, to: TrioNode, place: usize) -> Result<(), OutOfMemory>
     ensures listed { OnOk result ((q : Name) → listed_for links.new.items q
         ≡ listed_for links.old.items q ++ (if is_node to q then place ∷ [] else [])) }
     ensures unchanged { OnErr result (links.new.items ≡ links.old.items) }

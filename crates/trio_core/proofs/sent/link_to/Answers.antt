@@ -1,4 +1,4 @@
-use Rattle.std.proofs.Common.{◌≡◌, ◌∙◌, Some, ap, false, length, slice_get, sym, true}
+use Rattle.std.proofs.Common.{◌≡◌, ◌∙◌, Some, ap, length, slice_get, sym}
 use Rattle.ingress_egress.proofs.IngressSteps.{found_at}
 use Rattle.trio_core.specs.Sent.{is_link}
 use Rattle.trio_core.proofs.Lists.{get_at}
