@@ -71,7 +71,12 @@ fn push_symbol(text: &mut Vec<u8>, trades: &Trades, row: &Row) -> Result<(), Out
 }
 
 // Appends the line of a row that was emitted.
-fn push_row(text: &mut Vec<u8>, alloc: Global, trades: &Trades, row: &Row) -> Result<(), OutOfMemory>
+fn push_row(
+    text: &mut Vec<u8>,
+    alloc: Global,
+    trades: &Trades,
+    row: &Row,
+) -> Result<(), OutOfMemory>
     ensures { OnOk result (text.new.items ≡ text.old.items ++ emitted_line trades.now.symbols row.now) }
 {
     let front = row_front(alloc, row)?;
@@ -83,7 +88,12 @@ fn push_row(text: &mut Vec<u8>, alloc: Global, trades: &Trades, row: &Row) -> Re
 }
 
 // Appends the lines of rows that were emitted.
-fn push_rows(text: &mut Vec<u8>, alloc: Global, trades: &Trades, rows: &[Row]) -> Result<(), OutOfMemory>
+fn push_rows(
+    text: &mut Vec<u8>,
+    alloc: Global,
+    trades: &Trades,
+    rows: &[Row],
+) -> Result<(), OutOfMemory>
     ensures { OnOk result (text.new.items ≡ text.old.items ++ flat_map (emitted_line trades.now.symbols) rows.now) }
 {
     for row in rows {
@@ -93,7 +103,11 @@ fn push_rows(text: &mut Vec<u8>, alloc: Global, trades: &Trades, rows: &[Row]) -
 }
 
 // The text of `trio` of the state that a core stands for. The core is drained with it.
-pub(crate) fn drained_text(core: &mut TrioCore, alloc: Global, trades: &Trades) -> Result<Vec<u8>, OutOfMemory>
+pub(crate) fn drained_text(
+    core: &mut TrioCore,
+    alloc: Global,
+    trades: &Trades,
+) -> Result<Vec<u8>, OutOfMemory>
     ensures { IfOk result (λ text. (s : State) → StandsFor core.old s → IsSound (flow_in core.old) s
         → text.items ≡ trio_text core.old.plan (inputs_of core.old) trades.now.symbols s) }
 {

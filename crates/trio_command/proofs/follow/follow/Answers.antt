@@ -1,5 +1,5 @@
 use Rattle.std.proofs.Common.{◌<◌, length, drop, ◌+◌, arith}
-use Rattle.trio_command.proofs.Following.{Left, left_at, left_named, left_next, left_none, left_stops, left_whole}
+use Rattle.trio_command.proofs.Following.{left_at, left_named, left_next, left_stops}
 use Rattle.trio_command.proofs.follow.follow.Goals as goal
 
 pub apply-requires : goal.apply-requires
