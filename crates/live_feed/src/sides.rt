@@ -14,7 +14,7 @@ ghost use Rattle.trade_text.specs.TradesView.{inputs_in};
 
 use crate::answer::Live;
 use crate::end::end_of;
-use crate::tap::RowTap;
+use crate::tap::{RowTap, SendingTap};
 use drained_run::Ended;
 use failure_script::Script;
 use partition_runner::{Gate, RunNames, Tapped, ready_tapped, run_tapped};
@@ -36,7 +36,7 @@ struct RunSide {
 }
 
 // Runs what is ready, drains it, and says that no row comes any more.
-fn run_side<N: RunNames, R: Threads + Wait + Sync, C: ChannelNames, G: Gate>(
+fn run_side<N: RunNames, T: SendingTap + Send, R: Threads + Wait + Sync, G: Gate>(
     rt: &R,
     alloc: Global,
     plan: &Plan,
@@ -44,21 +44,21 @@ fn run_side<N: RunNames, R: Threads + Wait + Sync, C: ChannelNames, G: Gate>(
     script: &Script,
     turns: u64,
     gate: &G,
-    ready: &mut Option<Tapped<N, RowTap<'_, R, C>>>,
+    ready: &mut Option<Tapped<N, T>>,
 ) -> RunSide
     requires plan { plan.now ≡ N.plan }
     requires trades { inputs_in trades.now ≡ N.inputs }
     requires script { script.now ≡ N.script }
     requires ready { IsTrue (is_some ready.old) }
     ensures run { HasRun N.plan N.inputs N.script (rows_sent result.sender) result.end }
-    ensures channel { sends_to result.sender ≡ C.channel }
+    ensures channel { sends_to result.sender ≡ T.channel }
 {
     let Some(ready) = ready.take() else {
         unreachable!()
     };
     let (ran, tap) = run_tapped(rt, alloc, plan, trades, script, turns, gate, ready);
     let end = end_of(alloc, plan, trades, script, ran);
-    let RowTap { mut sender, .. } = tap;
+    let mut sender = tap.into_sender();
     sender.stop(rt);
     RunSide { end, sender }
 }
@@ -135,7 +135,7 @@ fn close<N: RunNames, W: Wire>(
 }
 
 // Runs what is ready on one side, and writes what it sends on the other, with the symbols of these trades.
-fn fork<N: RunNames, C: ChannelNames, R: Threads + Wait + Sync, W: Wire + Send, G: Gate>(
+fn fork<N: RunNames, T: SendingTap + Send, R: Threads + Wait + Sync, W: Wire + Send, G: Gate>(
     rt: &R,
     alloc: Global,
     plan: &Plan,
@@ -143,7 +143,7 @@ fn fork<N: RunNames, C: ChannelNames, R: Threads + Wait + Sync, W: Wire + Send, 
     script: &Script,
     turns: u64,
     gate: &G,
-    ready: &mut Option<Tapped<N, RowTap<'_, R, C>>>,
+    ready: &mut Option<Tapped<N, T>>,
     named: &Trades,
     receiver: &mut RowReceiver,
     out: &mut W,
@@ -154,7 +154,7 @@ fn fork<N: RunNames, C: ChannelNames, R: Threads + Wait + Sync, W: Wire + Send, 
     requires ready { IsTrue (is_some ready.old) }
     requires got { rows_got receiver.old ≡ [] }
     ensures run { HasRun N.plan N.inputs N.script (rows_sent result.0.sender) result.0.end }
-    ensures sends { sends_to result.0.sender ≡ C.channel }
+    ensures sends { sends_to result.0.sender ≡ T.channel }
     ensures receives { receives_from receiver.new ≡ receives_from receiver.old }
     ensures written { IsWritten (record { taken = W.taken out.old; faults = W.faults out.old }) (record { taken = W.taken out.new; faults = W.faults out.new }) (part_text named.now.symbols (rows_got receiver.new)) result.1 }
 {
@@ -162,7 +162,7 @@ fn fork<N: RunNames, C: ChannelNames, R: Threads + Wait + Sync, W: Wire + Send, 
     let for_writing = alloc;
     let mut run = || -> RunSide
         requires { (plan.now ≡ N.plan) × (inputs_in trades.now ≡ N.inputs) × (script.now ≡ N.script) × IsTrue (is_some ready.now) }
-        ensures { HasRun N.plan N.inputs N.script (rows_sent result.sender) result.end × (sends_to result.sender ≡ C.channel) }
+        ensures { HasRun N.plan N.inputs N.script (rows_sent result.sender) result.end × (sends_to result.sender ≡ T.channel) }
     { run_side(rt, alloc, plan, trades, script, turns, gate, ready) };
     let mut write = || -> Written
         requires { rows_got receiver.now ≡ [] }
@@ -170,6 +170,34 @@ fn fork<N: RunNames, C: ChannelNames, R: Threads + Wait + Sync, W: Wire + Send, 
             × (receives_from receiver.exit.now ≡ receives_from receiver.entry.now) }
     { write_received(rt, for_writing, named, receiver, out) };
     join_mut(rt, &mut run, &mut write)
+}
+
+// Runs what is ready and writes meanwhile what its tap sends, and then what is missing.
+fn live_ready<N: RunNames, T: SendingTap + Send, R: Threads + Wait + Sync, W: Wire + Send, G: Gate>(
+    rt: &R,
+    alloc: Global,
+    plan: &Plan,
+    trades: &Trades,
+    script: &Script,
+    turns: u64,
+    gate: &G,
+    ready: Tapped<N, T>,
+    receiver: RowReceiver,
+    out: &mut W,
+) -> Live
+    requires plan { plan.now ≡ N.plan }
+    requires trades { inputs_in trades.now ≡ N.inputs }
+    requires script { script.now ≡ N.script }
+    requires receives { receives_from receiver ≡ T.channel }
+    requires got { rows_got receiver ≡ [] }
+    ensures { LivesSo N.plan N.inputs N.script trades.now.symbols (record { taken = W.taken out.old; faults = W.faults out.old }) (record { taken = W.taken out.new; faults = W.faults out.new }) result }
+{
+    let mut ready = Some(ready);
+    let mut receiver = receiver;
+    let (side, written) = fork(
+        rt, alloc, plan, trades, script, turns, gate, &mut ready, trades, &mut receiver, out,
+    );
+    close::<N, W>(alloc, trades, side, receiver, written, out)
 }
 
 // Runs a plan on one side and writes on the other, over the two ends of a channel.
@@ -206,12 +234,9 @@ fn live_over<N: RunNames, C: ChannelNames, R: Threads + Wait + Sync, W: Wire + S
     else {
         return Live::OutOfMemory;
     };
-    let mut ready = Some(ready);
-    let mut receiver = receiver;
-    let (side, written) = fork(
-        rt, alloc, plan, trades, script, turns, gate, &mut ready, trades, &mut receiver, out,
-    );
-    close::<N, W>(alloc, trades, side, receiver, written, out)
+    live_ready(
+        rt, alloc, plan, trades, script, turns, gate, ready, receiver, out,
+    )
 }
 
 // The same for names that are the plan's, over a channel that is made first.
