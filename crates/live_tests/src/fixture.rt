@@ -67,6 +67,9 @@ pub(crate) fn made(
     })
 }
 
+/// How many turns a worker has at most. Where a pair is lost it has all of them, so they are few.
+const TURNS: u64 = 5_000;
+
 // A live run of a story by two workers onto a wire in memory.
 pub(crate) fn run_onto<R: Threads + Wait + Sync>(
     rt: &R,
@@ -81,7 +84,7 @@ pub(crate) fn run_onto<R: Threads + Wait + Sync>(
         &story.trades,
         &story.script,
         2,
-        200_000,
+        TURNS,
         &FreeGate,
         wire,
     )

@@ -17,6 +17,7 @@ use std::thread::Threads;
 const LOOKS: u64 = 1_000_000_000;
 
 // What a wire and a gate tell each other.
+#[derive(Drop)]
 struct Seen {
     // The wire has taken more than the column names.
     row: AtomicBool,

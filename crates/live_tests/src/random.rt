@@ -36,7 +36,7 @@ fn unsafe_script(alloc: Global, number: u32) -> Result<String, OutOfMemory> {
 fn safe_scripts_write_all(rt: HostRuntime) -> Result<(), Fail> {
     let alloc = rt.alloc();
     let mut number = 7u32;
-    for round in 0..24u32 {
+    for round in 0..16u32 {
         number = next(number);
         let plan = if round % 2 == 0 { ONE } else { THREE };
         let script = safe_script(alloc, number)?;
@@ -53,7 +53,7 @@ fn safe_scripts_write_all(rt: HostRuntime) -> Result<(), Fail> {
 fn unsafe_scripts_write_a_front(rt: HostRuntime) -> Result<(), Fail> {
     let alloc = rt.alloc();
     let mut number = 11u32;
-    for round in 0..24u32 {
+    for round in 0..16u32 {
         number = next(number);
         let plan = if round % 2 == 0 { ONE } else { THREE };
         let script = unsafe_script(alloc, number)?;
