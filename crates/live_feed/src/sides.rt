@@ -100,15 +100,7 @@ fn finish<N: RunNames, W: Wire>(
 {
     let drained = ended.drained();
     let whole = is_whole(drained);
-    let written = write_rest(
-        out,
-        alloc,
-        ended.rows(),
-        first,
-        trades,
-        whole,
-        written,
-    );
+    let written = write_rest(out, alloc, ended.rows(), first, trades, whole, written);
     answer_of(written, drained)
 }
 
@@ -195,7 +187,17 @@ fn live_ready<N: RunNames, T: SendingTap + Send, R: Threads + Wait + Sync, W: Wi
     let mut ready = Some(ready);
     let mut receiver = receiver;
     let (side, written) = fork(
-        rt, alloc, plan, trades, script, turns, gate, &mut ready, trades, &mut receiver, out,
+        rt,
+        alloc,
+        plan,
+        trades,
+        script,
+        turns,
+        gate,
+        &mut ready,
+        trades,
+        &mut receiver,
+        out,
     );
     close::<N, W>(alloc, trades, side, receiver, written, out)
 }
@@ -293,7 +295,5 @@ pub fn live<R: Threads + Wait + Sync, W: Wire + Send, G: Gate>(
     // Under a safe script no pair is lost, so where no fault of the wire was counted, all is put, or no memory was to be had.
     ensures complete { IsSafe script.now → (Rose (W.faults out.old) (W.faults out.new) → ⊥) → (result ≡ live.Done) ⊎ (result ≡ live.OutOfMemory) }
 {
-    live_named::<Brand, R, W, G>(
-        rt, alloc, plan, trades, script, threads, turns, gate, out,
-    )
+    live_named::<Brand, R, W, G>(rt, alloc, plan, trades, script, threads, turns, gate, out)
 }
