@@ -13,7 +13,11 @@ fn next(number: u32) -> u32 {
 
 // A safe script of one order for the first pair: a replica fails or is stopped, and may come back.
 fn safe_script(alloc: Global, number: u32) -> Result<String, OutOfMemory> {
-    let how = if number & 0x10000 == 0 { "kill" } else { "stop" };
+    let how = if number & 0x10000 == 0 {
+        "kill"
+    } else {
+        "stop"
+    };
     let which = if number & 0x20000 == 0 { 'a' } else { 'b' };
     let at = 1 + (number >> 8) % 400;
     if number & 0x40000 == 0 {
@@ -27,7 +31,9 @@ fn safe_script(alloc: Global, number: u32) -> Result<String, OutOfMemory> {
 fn unsafe_script(alloc: Global, number: u32) -> Result<String, OutOfMemory> {
     let first = 1 + (number >> 8) % 500;
     let other = 1 + (number >> 16) % 500;
-    let script = format!(in alloc; "kill 1.0.a at {first} back never\nkill 1.0.b at {other} back never\n")?;
+    let script = format!(in alloc;
+        "kill 1.0.a at {first} back never\nkill 1.0.b at {other} back never\n"
+    )?;
     Ok(script)
 }
 

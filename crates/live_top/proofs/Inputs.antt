@@ -40,11 +40,11 @@ module _ (told : Option Names) (old new : Option (List Call)) (words : List (Lis
   own_stops (stop.Refused line) own stops is_own = ⊎_elim
       (λ want. subst (StopsBefore told old new words) (sym want) (short (Between (Refuses (string_bytes line)) stops)))
       (λ says. subst (StopsBefore told old new words) (sym says.1)
-          (record { line = string_bytes line; comes = record { course = course; is_asked = is; fact = stops }; said_is = says.2 })) is_own
+      (record { line = string_bytes line; comes = record { course = course; is_asked = is; fact = stops }; said_is = says.2 })) is_own
   own_stops (stop.CannotRead line) own stops is_own = ⊎_elim
       (λ want. subst (StopsBefore told old new words) (sym want) (short (AtReading stops.name stops.came)))
       (λ says. subst (StopsBefore told old new words) (sym says.1)
-          (record { name = stops.name; comes = record { course = course; is_asked = is; fact = stops.came }; said_is = says.2 ∙ ap own_line stops.line_is })) is_own
+      (record { name = stops.name; comes = record { course = course; is_asked = is; fact = stops.came }; said_is = says.2 ∙ ap own_line stops.line_is })) is_own
   own_stops stop.CannotWrite own stops is_own = absurd stops
   own_stops (stop.PairLost stage part line) own stops is_own = absurd stops
   own_stops stop.OutOfMemory own stops is_own = subst (StopsBefore told old new words) (sym is_own) (short stops)

@@ -28,7 +28,11 @@ pub(crate) struct Given {
 }
 
 /// What the words' files say, each read and checked before the next one.
-pub(crate) fn read_inputs<F: Files>(alloc: Global, words: &[String], files: &mut F) -> Result<Given, Stop>
+pub(crate) fn read_inputs<F: Files>(
+    alloc: Global,
+    words: &[String],
+    files: &mut F,
+) -> Result<Given, Stop>
     ensures comes { IfOk result (λ given. ComesToRun (F.contents files.old) (F.calls files.old) (F.calls files.new) (map string_bytes words.now) (feed_of given.feed) given.script) }
     ensures usage { asked (as_run (map string_bytes words.now)) ≡ None → result ≡ Err Usage }
     ensures unasked { asked (as_run (map string_bytes words.now)) ≡ None → files.new ≡ files.old }
