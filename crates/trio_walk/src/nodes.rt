@@ -55,6 +55,7 @@ pub(crate) fn replica_of(core: &TrioCore, copy: u32) -> Option<&TrioReplica> {
 }
 
 /// The controller of the group.
+#[tactic(auto, using(crate::proofs::Edges::has_edge))]
 pub(crate) fn control_of(core: &TrioCore) -> Option<&TrioControl>
     ensures { IfSome result (λ c. 1 ≤ length c.now.acked) }
 {
@@ -62,5 +63,6 @@ pub(crate) fn control_of(core: &TrioCore) -> Option<&TrioControl>
     if !core.plan().has(NodeId::Control { stage, part }) {
         return None;
     }
+    core.known();
     Some(core.control(stage, part))
 }

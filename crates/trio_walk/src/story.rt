@@ -54,12 +54,15 @@ fn said_by_replica(numbers: &Numbers, copy: u32, to: TrioNode) -> u64 {
 }
 
 // What a node has just said to another one, by the node's numbers after it did.
-fn said(numbers: &Numbers, from: TrioNode, to: TrioNode) -> u64 {
+fn said(core: &TrioCore, from: TrioNode, to: TrioNode) -> u64 {
+    let Some(numbers) = Numbers::of(core) else {
+        return 0;
+    };
     match (from, to) {
         (TrioNode::Ingress, TrioNode::Replica { copy, .. }) => {
             number_before(&numbers.ingress.cursors, copy as usize)
         }
-        (TrioNode::Replica { copy, .. }, _) => said_by_replica(numbers, copy, to),
+        (TrioNode::Replica { copy, .. }, _) => said_by_replica(&numbers, copy, to),
         (TrioNode::Control { .. }, TrioNode::Ingress) => numbers.control.acked,
         (TrioNode::Control { .. }, _) => numbers.control.term,
         (TrioNode::Egress, _) => numbers.egress.told,
@@ -92,11 +95,8 @@ impl Story {
 
     // Notes the packets that a node sent to another one since the last time.
     fn note(&mut self, from: TrioNode, to: TrioNode) -> Result<(), OutOfMemory> {
-        let Some(numbers) = Numbers::of(&self.core) else {
-            return Ok(());
-        };
         for _packet in self.noted(from, to)..sent(&mut self.core, from, to)? {
-            let says = said(&numbers, from, to);
+            let says = said(&self.core, from, to);
             self.packets.push(Packet { from, to, says })?;
         }
         Ok(())
