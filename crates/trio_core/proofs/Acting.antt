@@ -88,7 +88,7 @@ egress_pulled old new q i h = λ plan inputs x a k. record {
 
 -- ---- of a replica
 
--- the machine's replica that runs has a mark, and takes the next item of an edge
+-- a replica took the next item of an edge
 pub replica_pulled : (old new : ReplicaView) (q : ℕ) (i : Item)
     → ((plan : PlanView) (inputs : List Input) (x : RunningNumbers) (n : Node) → IsPlan plan → replica.StandsFor plan inputs old n → replica_in n ≡ Running x
     → item_at (items_on plan inputs (in_edge (partition_of old.role) q)) (x.consumer.marks q + 1) ≡ Some i

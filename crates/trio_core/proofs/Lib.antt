@@ -2,6 +2,8 @@ pub mod Acting
 pub mod Asking
 pub mod Contents
 pub mod Known
+pub mod Linked
+pub mod Listed
 pub mod Lists
 pub mod NamedNodes
 pub mod OnLinks

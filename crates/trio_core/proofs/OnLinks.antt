@@ -11,7 +11,7 @@ use Rattle.trio_machine.specs.declared.node.TrioNode.{TrioNode}
 use Rattle.trio_control.specs.Contents.{BodyStands}
 use Rattle.trio_core.specs.CoreView.{CoreView, Log, StationView, flow_in, found, inputs_of}
 use Rattle.trio_core.specs.Refusals.{IsRefusal}
-use Rattle.trio_core.specs.Sent.{bodies_to, body_at}
+use Rattle.trio_core.specs.Sent.{Counted, bodies_to, body_at}
 use Rattle.trio_core.specs.Stands.{IsThere, StandsFor, StationStands}
 use Rattle.trio_core.specs.Steps.{IsTaskOf}
 use Rattle.trio_core.specs.Taken.{IsMissing, IsPacketOf}
@@ -22,11 +22,6 @@ use Rattle.trio_core.specs.declared.task.Task.TheVariants as task
 use Rattle.trio_core.proofs.Lists.{nth_at, nth_none, pairwise_length}
 
 -- ---- the search of a log
-
--- so many of the first packets of a log went to a node
-pub record Counted (to : TrioNode) (log : Log) (nth sent : ℕ) : Type 0 where
-  pub few : sent ≤ nth
-  pub count : sent ≡ length (bodies_to to (take nth log))
 
 -- how many packets a place has for a node: one or none
 abbrev pub one_of : Option TrioBody → ℕ

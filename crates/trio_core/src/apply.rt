@@ -14,7 +14,6 @@ use crate::error::TrioError;
 use crate::nodes::TrioCore;
 use crate::pulls::{part_of, pull_between};
 use crate::station::{acts_at, place_of};
-use crate::taking::taken;
 use crate::task::Task;
 use trio_control::TrioNode;
 use trio_machine::TrioEvent;
@@ -38,7 +37,7 @@ impl TrioCore {
         ensures refused { IfErr result (λ e. (s : State) → StandsFor self.now s → IsRefusal (act_of (flow_in self.now) s (event.Take from to index)) e) }
     {
         let sender = self.station(from);
-        taken(&sender.sent, from, to, index)
+        sender.sent.taken(from, to, index)
     }
 
     // The pull of the next item of the edge between two nodes.

@@ -12,6 +12,7 @@ mod member;
 mod nodes;
 mod opening;
 mod pulls;
+mod sent;
 mod station;
 mod taking;
 mod task;
@@ -20,6 +21,8 @@ pub use error::TrioError;
 #[doc(hidden)]
 pub use member::Member;
 pub use nodes::TrioCore;
+#[doc(hidden)]
+pub use sent::{Link, Sent};
 #[doc(hidden)]
 pub use station::Station;
 #[doc(hidden)]

@@ -15,13 +15,12 @@ ghost use Rattle.tuple_edge.specs.Input.{from_first};
 
 use crate::member::Member;
 use crate::nodes::TrioCore;
+use crate::sent::Sent;
 use crate::station::Station;
 use plan_reader::Plan;
 use std::alloc::Global;
 use trade_text::Trades;
-use trio_control::{
-    GROUP_SIZE, TrioControl, TrioEgress, TrioIngress, TrioNode, TrioOutbox, TrioReplica,
-};
+use trio_control::{GROUP_SIZE, TrioControl, TrioEgress, TrioIngress, TrioNode, TrioReplica};
 use tuple_edge::{OutOfMemory, Row};
 
 // A station joins the others: a node under its name, which has sent nothing.
@@ -33,7 +32,7 @@ fn add(
 ) -> Result<(), OutOfMemory>
     ensures { OnOk result (stations.new.items ≡ stations.old.items ++ new_station name member ∷ []) }
 {
-    let sent = TrioOutbox::new(alloc);
+    let sent = Sent::new(alloc);
     stations.push(Station { name, member, sent })?;
     Ok(())
 }

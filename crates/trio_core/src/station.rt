@@ -8,17 +8,14 @@ ghost use Rattle.trio_core.specs.CoreView.{StationView, contents_of_replica, fou
 ghost use Rattle.trio_core.specs.Ends.{consumer_in, control_in, egress_in, ingress_in, producer_in, replica_in};
 ghost use Rattle.trio_core.specs.Steps.{ActedAt, HasActed};
 
-use crate::acts::member_acts;
 use crate::error::TrioError;
 use crate::member::Member;
+use crate::sent::Sent;
 use crate::task::Task;
 use flux_consumer::Consumer;
 use flux_producer::Producer;
 use std::marker::Model;
-use trio_control::{TrioControl, TrioEgress, TrioIngress, TrioNode, TrioOutbox, TrioReplica};
-
-// How many packets an event may make a node send; the most are a controller's 25.
-const MOST_PACKETS: usize = 25;
+use trio_control::{TrioControl, TrioEgress, TrioIngress, TrioNode, TrioReplica};
 
 /// A node under its name, and every packet that it ever sent, each with its receiver, in order. Contracts leave
 /// the room of edges aside.
@@ -26,7 +23,7 @@ const MOST_PACKETS: usize = 25;
 pub struct Station {
     pub(crate) name: TrioNode,
     pub(crate) member: Member,
-    pub(crate) sent: TrioOutbox,
+    pub(crate) sent: Sent,
 }
 
 impl Model for Station {
@@ -34,7 +31,7 @@ impl Model for Station {
 
     ghost Value = { StationView };
 
-    ghost view = { λ s. record { name = s.name; member = contents_of s.member; sent = s.sent.packets } };
+    ghost view = { λ s. record { name = s.name; member = contents_of s.member; sent = s.sent } };
 }
 
 impl Station {
@@ -114,8 +111,7 @@ impl Station {
         ensures refused { IfErr result (IsRefusedSo task.now self.old.member) }
         ensures unchanged { OnErr result (self.new ≡ self.old) }
     {
-        self.sent.reserve(MOST_PACKETS)?;
-        member_acts(&mut self.member, task, &mut self.sent)
+        self.sent.note(&mut self.member, task)
     }
 }
 

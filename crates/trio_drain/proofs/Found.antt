@@ -1,5 +1,5 @@
 -- What code finds of a core's nodes is what the machine's drain asks of their numbers.
-use Rattle.std.proofs.Common.{◌≡◌, ◌&&◌, ◌↔◌, ◌<◌, ◌≤◌, ◌+◌, ◌⊎◌, inl, inr, ℕ, zero, suc, Bool, true, false, List, Option, None, Some, is_some, refl, sym, ap, ◌∙◌, subst, arith}
+use Rattle.std.proofs.Common.{◌≡◌, ◌↔◌, ◌<◌, ◌≤◌, ◌⊎◌, inl, inr, ℕ, zero, suc, Bool, true, false, List, Option, None, Some, is_some, refl, sym, ap, ◌∙◌, subst, arith}
 use Rattle.std.specs.Prelude.{if◌then◌else◌}
 use Rattle.std.specs.Option.{option_map, option_or}
 use Rattle.std.proofs.lemmas.Bool.{cases_lt}
@@ -13,15 +13,12 @@ use Rattle.pair_machine.specs.Drain.{partition}
 use Rattle.pair_machine.specs.Numbers.{Partition}
 use Rattle.node_edges.proofs.Consumers.{consumers_follow}
 use Rattle.ingress_egress.specs.EgressView.{EgressView}
-use Rattle.trio_machine.specs.Drain.{MergeIsReady, ReplicaIsReady, is_running, is_serving}
+use Rattle.trio_machine.specs.Drain.{MergeIsReady, ReplicaIsReady, is_running}
 use Rattle.trio_machine.specs.Flow.{trio_flow}
-use Rattle.trio_machine.specs.Machine.{State, controller_in, egress_in, replica_in}
-use Rattle.trio_machine.specs.Numbers.{Gone, Node, Replica, Running, control_at, replica_at}
-use Rattle.trio_machine.specs.Reports.{replicas_of}
+use Rattle.trio_machine.specs.Machine.{State, egress_in, replica_in}
+use Rattle.trio_machine.specs.Numbers.{Gone, Replica, Running}
 use Rattle.trio_machine.specs.declared.node.TrioNode.{TrioNode}
 use Rattle.trio_machine.specs.declared.node.TrioNode.TheVariants as node
-use Rattle.trio_control.specs.ControllerPackets as control
-use Rattle.trio_control.specs.ControllerView.{ControllerView, watched_in}
 use Rattle.trio_control.specs.Egress as egress
 use Rattle.trio_control.specs.Replica as replica
 use Rattle.trio_control.specs.Replica.{RunningStands}
@@ -30,15 +27,6 @@ use Rattle.trio_control.specs.declared.running.TrioRunning.{TrioRunning}
 use Rattle.trio_drain.specs.Order.{partition_in}
 
 -- ---- the first number below a bound that passes a test
-
-pub found_next : (test : ℕ → Bool) (k : ℕ) (passes : Bool) → first_below test k ≡ None → passes ≡ test k → passes ≡ false → first_below test (k + 1) ≡ None
-found_next test k passes none is fails = subst (λ n. first_below test n ≡ None) next (λ i. option_or (none i) (if z i then Some k else None))
-  where
-    next : suc k ≡ k + 1
-    next = omega arith
-
-    z : test k ≡ false
-    z = sym is ∙ fails
 
 found_stays : (test : ℕ → Bool) (k n : ℕ) → k < n → first_below test k ≡ None → test k ≡ true → first_below test n ≡ Some k
 found_stays test k zero l none passes = absurd (omega arith)
@@ -73,13 +61,6 @@ module _ (plan : PlanView) (inputs : List Input) (p : Partition) where
   ready_so None (Running x) s = absurd s
 
 -- ---- in the words of code
-
-pub serves_found : (plan : PlanView) (inputs : List Input) (s : State) (stage part copy : ℕ) (r : ReplicaView) (c : ControllerView) → replica.StandsFor plan inputs r (s.nodes (node.Replica stage part copy))
-    → control.StandsFor (trio_flow plan inputs) c (s.nodes (node.Control stage part)) → (running counted : Bool) → running ≡ is_some r.running → counted ≡ (watched_in c.watched copy).up → (running && counted) ≡ is_serving s (partition stage part) copy
-serves_found plan inputs s stage part copy r c stands knows running counted runs up =
-    let a = runs ∙ sym (running_so plan inputs (partition_of r.role) r.running (replica_in (s.nodes (node.Replica stage part copy))) stands.running) in
-    let b : (controller_in (s.nodes (node.Control stage part))).up copy ≡ (watched_in c.watched copy).up = ap (λ n. (controller_in n).up copy) knows.numbers in
-    λ i. a i && (up ∙ sym b) i
 
 pub merges_found : (plan : PlanView) (inputs : List Input) (s : State) (n : TrioNode) (stage part copy : ℕ) → n ≡ node.Replica stage part copy → (r : ReplicaView) → node_of r.role ≡ node.Replica stage part copy
     → replica.StandsFor plan inputs r (s.nodes (node.Replica stage part copy)) → (o : Option ConsumerView) → o ≡ option_map (λ r. r.consumer) r.running → (result : Bool) → result ≡ ready_in o

@@ -1,5 +1,5 @@
 -- What the loops of the drain ask of a core on the way, and what they do to it.
-use Rattle.std.proofs.Common.{◌≡◌, ◌≤◌, ◌<◌, ◌+◌, ◌-◌, ◌++◌, ◌∙◌, ℕ, true, List, length, refl, sym, ap, subst, arith}
+use Rattle.std.proofs.Common.{◌≡◌, ◌≤◌, ◌<◌, ◌+◌, ◌-◌, ◌++◌, ◌∙◌, ℕ, true, List, length, sym, ap, subst, arith}
 use Rattle.plan_reader.specs.Nodes.{has_pair, parts_of, sources_of}
 use Rattle.plan_reader.specs.PlanView.{PlanView}
 use Rattle.plan_reader.specs.declared.stage.Stage.{Stage}
@@ -18,7 +18,7 @@ use Rattle.trio_machine.proofs.Laws.{trio_is_flow}
 use Rattle.trio_core.specs.CoreView.{CoreView, flow_in, inputs_of}
 use Rattle.trio_core.specs.Stands.{IsCore, StandsFor}
 use Rattle.trio_core.specs.Steps.{IsNamed}
-use Rattle.trio_drain.specs.Order.{IsTurnOf, MayBegin, Start, before_turn, done_before, flow_at, partition_in, pulls_of, pulls_up_to}
+use Rattle.trio_drain.specs.Order.{IsTurnOf, MayBegin, Start, before_turn, flow_at, partition_in, pulls_of, pulls_up_to}
 use Rattle.trio_drain.specs.Progress.{IsAfter, Keeps}
 use Rattle.trio_drain.proofs.Along.{feeder_at, flow_kept, flow_same, server_at}
 use Rattle.trio_drain.proofs.Groups.{parts_in, sources_in, stages_in}

@@ -1,6 +1,6 @@
 -- One event of the drain as a step, and many: nodes only take, merge and make more by it, nothing is sent, and the state stays sound.
 use Rattle.std.proofs.Common.{◌≡◌, ◌≤◌, ◌+◌, ℕ, zero, suc, true, List, [], ◌∷◌, ◌++◌, ◌&&◌, Option, None, Some, Result, Ok, Err, replicate, refl, sym, ap, ◌∙◌, subst, arith}
-use Rattle.std.specs.Prelude.{◌==◌, if◌then◌else◌, nat_le, nat_lt}
+use Rattle.std.specs.Prelude.{◌==◌, nat_le, nat_lt}
 use Rattle.std.proofs.lemmas.Bool.{eqb-true}
 use Rattle.pair_machine.specs.Boundary.{egress_partition}
 use Rattle.pair_machine.specs.Consumers.{is_ready, merged_one, pulled}

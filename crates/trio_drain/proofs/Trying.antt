@@ -6,14 +6,14 @@ use Rattle.trio_machine.specs.Machine.{State, step}
 use Rattle.trio_machine.specs.Messages.{NoMoreRows, NotHeld, NotRunning, NotSent, NothingDue, Refusal}
 use Rattle.trio_machine.specs.Sound.{IsSound}
 use Rattle.trio_machine.specs.declared.event.TrioEvent.{TrioEvent}
-use Rattle.trio_core.specs.CoreView.{CoreView, flow_in, inputs_of}
+use Rattle.trio_core.specs.CoreView.{CoreView, flow_in}
 use Rattle.trio_core.specs.Refusals.{IsRefusal}
-use Rattle.trio_core.specs.Stands.{IsCore, StandsFor}
+use Rattle.trio_core.specs.Stands.{StandsFor}
 use Rattle.trio_core.specs.Steps.{IsApplied}
 use Rattle.trio_core.specs.declared.error.TrioError.{TrioError}
 use Rattle.trio_core.specs.declared.error.TrioError.TheVariants as error
 use Rattle.trio_drain.specs.Order.{IsOver}
-use Rattle.trio_drain.specs.Progress.{IsNext, IsNone, Keeps}
+use Rattle.trio_drain.specs.Progress.{IsNext, IsNone}
 
 -- code's test says whether it is an event of the drain
 abbrev pub Tells : CoreView → TrioEvent → Bool → Type 0
@@ -42,6 +42,3 @@ none_refused old new e x same ne h = record { unchanged = same; over = λ s stan
 
 pub next_applied : (old new : CoreView) (e : TrioEvent) (result : Bool) → Tells old e result → result ≡ true → IsApplied old new e → IsNext old new e
 next_applied old new e result tells goes a s stands sound = ((tells s stands).0 goes, a.steps s stands sound)
-
-pub keeps_by : (old new : CoreView) → new.plan ≡ old.plan → inputs_of new ≡ inputs_of old → IsCore new → Keeps old new
-keeps_by old new plan inputs core = record { plan = plan; inputs = inputs; core = core }

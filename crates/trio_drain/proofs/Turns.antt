@@ -1,5 +1,5 @@
 -- What each call of the code's loops does is the next block of the machine's drain, and each event of it names what the plan has.
-use Rattle.std.proofs.Common.{◌≡◌, ◌<◌, ◌≤◌, ◌+◌, ◌-◌, ◌==◌, ◌&&◌, ◌∙◌, ℕ, zero, suc, Bool, true, false, List, [], ◌∷◌, ◌++◌, length, nat_le, nat_lt, replicate, refl, sym, ap, subst, arith, append_assoc}
+use Rattle.std.proofs.Common.{◌≡◌, ◌<◌, ◌≤◌, ◌+◌, ◌-◌, ◌&&◌, ◌∙◌, ℕ, zero, suc, Bool, true, false, List, [], ◌∷◌, ◌++◌, length, nat_le, nat_lt, replicate, refl, sym, ap, subst, arith, append_assoc}
 use Rattle.std.proofs.lemmas.Bool.{le-leb, lt-ltb}
 use Rattle.std.proofs.lemmas.List.{append-nil}
 use Rattle.tuple_edge.specs.Input.{Input}
@@ -13,17 +13,17 @@ use Rattle.pair_machine.specs.Links as pairs
 use Rattle.pair_machine.specs.Numbers.{Partition}
 use Rattle.pair_machine.proofs.PlanNodes.{nodes_named}
 use Rattle.tuple_edge.specs.declared.node.NodeId.TheVariants as pair_node
-use Rattle.trio_machine.specs.Drain.{consumer_in, drain_events, drain_group, drain_groups, drain_into, feeder, server}
+use Rattle.trio_machine.specs.Drain.{consumer_in, drain_group, drain_groups, drain_into, feeder, server}
 use Rattle.trio_machine.specs.Flow.{trio_flow}
 use Rattle.trio_machine.specs.Links.{HasNode, IsThere}
-use Rattle.trio_machine.specs.Machine.{State, replica_in}
+use Rattle.trio_machine.specs.Machine.{replica_in}
 use Rattle.trio_machine.specs.Numbers.{group_size}
 use Rattle.trio_machine.specs.declared.event.TrioEvent.{TrioEvent}
 use Rattle.trio_machine.specs.declared.event.TrioEvent.TheVariants as event
 use Rattle.trio_machine.specs.declared.node.TrioNode.{TrioNode}
 use Rattle.trio_machine.specs.declared.node.TrioNode.TheVariants as node
 use Rattle.trio_drain.specs.Order.{IsBlock, IsTurnOf, MayBegin, Start, before_turn, consumer_of, done_before, flow_at, groups_before, makes_left, partition_in, pulls_of, pulls_up_to, turn_of}
-use Rattle.trio_drain.proofs.Blocks.{last_turn, makes_block, turn}
+use Rattle.trio_drain.proofs.Blocks.{makes_block, turn}
 use Rattle.trio_drain.proofs.Fronts.{groups_next}
 
 -- a block that leads from one list of events to another
@@ -96,9 +96,6 @@ stage_listed b (suc k) parts low all =
     ap (λ j. makes ++ drain_groups f b.state (pairs_up_to f j ++ parts_below (suc k) parts)) e
     ∙ (ap (λ n. makes ++ drain_groups f b.state (pairs_up_to f k ++ parts_below (suc k) n)) all
     ∙ (ap (λ ps. makes ++ drain_groups f b.state ps) (sym (append-nil (pairs_up_to f (suc k)))) ∙ ap (λ j. makes ++ drain_groups f b.state (pairs_up_to f j ++ [])) g))
-
-pub all_listed : (b : Start) (m : MayBegin b) (stages : ℕ) → stages ≡ (flow_at b).stages → done_before b (stages + 1) 0 ++ turn_of b node.Egress ≡ drain_events (flow_at b) b.state
-all_listed b m stages e = ap (λ n. done_before b (n + 1) 0 ++ turn_of b node.Egress) e ∙ last_turn b m
 
 -- ---- the plan's names
 

@@ -1,5 +1,5 @@
 -- From how far the drain has come to what it promises.
-use Rattle.std.proofs.Common.{◌≡◌, ◌↔◌, ◌++◌, inl, inr, Bool, true, false, List, [], Option, None, Some, refl, sym, ap, ◌∙◌, subst}
+use Rattle.std.proofs.Common.{◌≡◌, ◌↔◌, inl, inr, Bool, true, false, List, [], Option, None, Some, refl, sym, ap, ◌∙◌, subst}
 use Rattle.std.specs.Option.{option_and_then}
 use Rattle.tuple_edge.specs.Input.{Input}
 use Rattle.tuple_edge.specs.declared.event.Drained.TheVariants as drained
@@ -18,7 +18,6 @@ use Rattle.trio_machine.specs.Legal.{IsLegalFrom}
 use Rattle.trio_machine.specs.Machine.{State, egress_in}
 use Rattle.trio_machine.specs.Numbers.{Node}
 use Rattle.trio_machine.specs.Sound.{IsSound}
-use Rattle.trio_machine.specs.declared.event.TrioEvent.{TrioEvent}
 use Rattle.trio_machine.specs.declared.node.TrioNode.TheVariants as node
 use Rattle.trio_machine.proofs.DrainWhole.{drain_whole, finds_lost}
 use Rattle.trio_machine.proofs.Laws.{output_is_a_front, reached_is_sound}

@@ -1,5 +1,5 @@
 -- How the drain ends after lists of events of the machine's worked rows: three replicas of which two failed, or all, and a core that is drained.
-use Rattle.std.specs.Prelude.{◌≡◌, ◌++◌, List, []}
+use Rattle.std.specs.Prelude.{◌≡◌, ◌++◌, []}
 use Rattle.tuple_edge.specs.declared.event.Drained.TheVariants as drained
 use Rattle.pair_machine.specs.Drain.{partition}
 use Rattle.pair_machine.specs.Output.{output}

@@ -6,11 +6,13 @@
 #![tactic(auto)]
 
 mod draining;
+mod law;
 mod next;
 mod serving;
 mod turn;
 mod worked;
 
 pub use draining::drain;
+pub use law::endings_are_exact;
 pub use tuple_edge::Drained;
 pub use worked::worked_rows;

@@ -22,7 +22,7 @@ use Rattle.trio_control.specs.declared.running.TrioRunning.{TrioRunning}
 use Rattle.trio_core.specs.CoreView.{CoreView, flow_in}
 use Rattle.trio_core.proofs.OpenPlan as plans
 use Rattle.trio_text.specs.Text.{trio_node_name}
-use Rattle.trio_state.specs.GroupsText.{control_line, group_text, line_of_control, line_of_replica, replica_line, running_line}
+use Rattle.trio_state.specs.GroupsText.{control_line, line_of_control, line_of_replica, replica_line, running_line}
 use Rattle.trio_state.specs.Shown.{replica_shown}
 
 -- ---- one node

@@ -2,7 +2,7 @@
 ghost use Rattle.pair_machine.specs.Drain.{pairs_up_to, partition, parts_below};
 ghost use Rattle.plan_reader.specs.Nodes.{has_pair, sources_of};
 ghost use Rattle.std.specs.List.{flat_map};
-ghost use Rattle.std.specs.Prelude.{◌≡◌, ◌<◌, ◌≤◌, ◌+◌, ◌++◌, [], IfOk, IsTrue, OnOk, length, string_bytes};
+ghost use Rattle.std.specs.Prelude.{◌≡◌, ◌<◌, ◌≤◌, ◌+◌, ◌++◌, IfOk, IsTrue, OnOk, length, string_bytes};
 ghost use Rattle.trio_core.specs.CoreView.{flow_in};
 ghost use Rattle.trio_core.specs.Stands.{StandsFor};
 ghost use Rattle.trio_machine.specs.Machine.{State};
@@ -67,12 +67,7 @@ fn push_replica_of(
 }
 
 // Appends the lines of a group: its controller, and then its replicas.
-fn push_group(
-    text: &mut String,
-    core: &TrioCore,
-    stage: u32,
-    part: u32,
-) -> Result<(), OutOfMemory>
+fn push_group(text: &mut String, core: &TrioCore, stage: u32, part: u32) -> Result<(), OutOfMemory>
     requires { IsTrue (has_pair core.now.plan stage part) }
     ensures { OnOk result ((s : State) → StandsFor core.now s
         → string_bytes text.new ≡ string_bytes text.old ++ group_text s (partition stage part)) }

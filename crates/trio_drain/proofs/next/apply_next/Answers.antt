@@ -1,5 +1,4 @@
-use Rattle.trio_drain.proofs.Along.{keeps_none, on_err}
-use Rattle.trio_drain.proofs.Trying.{keeps_by, next_applied, none_refused, none_undrained}
+use Rattle.trio_drain.proofs.Trying.{next_applied, none_refused, none_undrained}
 use Rattle.trio_drain.proofs.next.apply_next.Goals as goal
 
 pub returns-then-not-drains-clause-tried : goal.returns-then-not-drains-clause-tried

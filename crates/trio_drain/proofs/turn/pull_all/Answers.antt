@@ -1,4 +1,4 @@
-use Rattle.std.proofs.Common.{◌≡◌, ◌++◌, ◌∙◌, ◌+◌, arith, sym}
+use Rattle.std.proofs.Common.{◌≡◌, ◌++◌, ◌+◌, arith}
 use Rattle.trio_drain.specs.Order.{before_turn, pulls_of, pulls_up_to}
 use Rattle.trio_drain.proofs.Along.{flow_same, keeps_none, keeps_on, listed_on, on_err}
 use Rattle.trio_drain.proofs.Loops.{has_on, last_on, pull_at, pulls_end, shown_last, source_on, stage_on}
