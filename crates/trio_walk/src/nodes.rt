@@ -55,7 +55,6 @@ pub(crate) fn replica_of(core: &TrioCore, copy: u32) -> Option<&TrioReplica> {
 }
 
 /// The controller of the group.
-#[tactic(auto, using(crate::proofs::Edges::has_edge))]
 pub(crate) fn control_of(core: &TrioCore) -> Option<&TrioControl>
     ensures { IfSome result (λ c. 1 ≤ length c.now.acked) }
 {

@@ -124,7 +124,11 @@ impl Numbers {
         Some(Numbers {
             makes: core.ingress().makes(),
             ingress: given_by(core.ingress().producer())?,
-            replicas: [running_at(core, 0), running_at(core, 1), running_at(core, 2)],
+            replicas: [
+                running_at(core, 0),
+                running_at(core, 1),
+                running_at(core, 2),
+            ],
             control,
             egress: taken_by(core.egress().consumer()),
             emitted: core.emitted().len(),

@@ -135,7 +135,12 @@ impl Story {
     }
 
     // Appends what the packets of a link say, in order.
-    fn push_link(&self, text: &mut String, from: TrioNode, to: TrioNode) -> Result<(), OutOfMemory> {
+    fn push_link(
+        &self,
+        text: &mut String,
+        from: TrioNode,
+        to: TrioNode,
+    ) -> Result<(), OutOfMemory> {
         for packet in &self.packets {
             if packet.from == from && packet.to == to {
                 write!(text, "{} ", packet.says)?;
