@@ -1,3 +1,4 @@
 pub mod Ending
+pub mod Fronts
 pub mod Joined
 pub mod Places

@@ -12,4 +12,4 @@ mod run;
 
 pub use ended::Ended;
 pub use partition_runner::{FreeGate, Gate};
-pub use run::run_and_drain;
+pub use run::{finish_run, run_and_drain};

@@ -1,5 +1,8 @@
 // A run: the nodes on threads, and then the drain on the caller.
+ghost use mathlib.Core.List.{IsPrefix};
 ghost use Rattle.drained_run.specs.Ended.{IsEnded};
+ghost use Rattle.pair_machine.specs.Output.{output};
+ghost use Rattle.partition_runner.specs.Ran.{IsLegalRun};
 ghost use Rattle.std.specs.Prelude.{◌≤◌, IfOk};
 ghost use Rattle.trade_text.specs.TradesView.{inputs_in};
 
@@ -13,6 +16,41 @@ use std::alloc::Global;
 use std::thread::Threads;
 use trade_text::Trades;
 use tuple_edge::OutOfMemory;
+
+/// Brings what the threads left to the end of the run: what is left to be done is drained on the caller.
+///
+/// It ends as a run by `run_and_drain` does. Its rows begin with those that egress had emitted, which are a front of
+/// the plan's output whatever comes.
+pub fn finish_run(
+    alloc: Global,
+    plan: &Plan,
+    trades: &Trades,
+    script: &Script,
+    ran: Ran,
+) -> Result<Ended, OutOfMemory>
+    requires { IsLegalRun plan.now (inputs_in trades.now) script.now ran }
+    ensures ended { IfOk result (IsEnded plan.now (inputs_in trades.now) script.now) }
+    ensures goes_on { IfOk result (λ ended. IsPrefix ran.egress.emitted ended.rows) }
+    ensures front { IsPrefix ran.egress.emitted (output plan.now (inputs_in trades.now)) }
+{
+    let _stages = plan.stages();
+    let Ran {
+        ingress,
+        replicas,
+        controls,
+        egress,
+        histories,
+    } = ran;
+    let mut core = Core::of(alloc, plan, ingress, replicas, controls, egress)?;
+    let mut events = Vec::new(alloc);
+    let drained = drain(&mut core, &mut events)?;
+    Ok(Ended {
+        core,
+        histories,
+        drain: events,
+        drained,
+    })
+}
 
 /// Runs a plan over its trades under a failure script: its nodes by so many workers, each for so many turns or
 /// until egress is done, and then the drain on the caller.
@@ -34,21 +72,6 @@ pub fn run_and_drain<R: Threads + Sync, G: Gate>(
     requires few { threads ≤ 16 }
     ensures { IfOk result (IsEnded plan.now (inputs_in trades.now) script.now) }
 {
-    let _stages = plan.stages();
-    let Ran {
-        ingress,
-        replicas,
-        controls,
-        egress,
-        histories,
-    } = run_nodes(rt, alloc, plan, trades, script, threads, turns, gate)?;
-    let mut core = Core::of(alloc, plan, ingress, replicas, controls, egress)?;
-    let mut events = Vec::new(alloc);
-    let drained = drain(&mut core, &mut events)?;
-    Ok(Ended {
-        core,
-        histories,
-        drain: events,
-        drained,
-    })
+    let ran = run_nodes(rt, alloc, plan, trades, script, threads, turns, gate)?;
+    finish_run(alloc, plan, trades, script, ran)
 }

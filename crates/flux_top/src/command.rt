@@ -12,11 +12,12 @@ ghost use Rattle.tuple_edge.specs.declared.event.Drained.TheVariants as drained;
 
 use crate::eval::eval_text;
 use crate::finish::finish;
+use crate::lines::say;
 use crate::make::made_text;
 use command_course::Stop;
 use command_line::{Command, read_words};
 use drained_run::Gate;
-use flux_outside::{Failed, Files, Sink, write_all};
+use flux_outside::{Files, Sink};
 use move_command::move_text;
 use replay_command::replay_text;
 use run_command::{Outcome, run_outcome, trial_outcome};
@@ -130,16 +131,6 @@ pub fn flux<R: Threads + Sync, F: Files, S: Sink, E: Sink, G: Gate>(
 /// What is said of words without a form.
 const USAGE: &str =
     "flux: usage: eval PLAN TRADES [--cash C] | run PLAN TRADES [options] | replay PLAN TRADES EVENTS [--cash C] | make START COUNT | trial PLAN START COUNT [options] | move PLAN TRADES MOVES | trio PLAN TRADES EVENTS\n";
-
-// Says a line. A fault of the sink changes nothing.
-fn say<E: Sink>(err: &mut E, line: &str)
-    ensures { Tells (E.taken err.old, E.offered err.old) (E.taken err.new, E.offered err.new) (E.faults err.old) (E.faults err.new) line.now }
-{
-    match write_all(err, line.as_bytes()) {
-        Ok(()) => (),
-        Err(Failed) => (),
-    }
-}
 
 // Runs the command of the words: all is read and computed before anything is saved or written.
 #[tactic(auto, using(crate::proofs::Requests::short_at_once, crate::proofs::Courses::wants_for, crate::proofs::Courses::wants_on))]

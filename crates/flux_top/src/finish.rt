@@ -1,15 +1,14 @@
 // The last steps of a command: its journal is saved, and then its text is written.
-ghost use Rattle.std.specs.Prelude.{◌≡◌, ◌≢◌, Err, IfErr, IfOk, OnOk, string_bytes};
+ghost use Rattle.std.specs.Prelude.{◌≡◌, ◌≢◌, Err, IfErr, IfOk, OnOk};
 ghost use Rattle.command_course.specs.Steps.{IsWant};
 ghost use Rattle.command_course.specs.declared.stop.Stop.TheVariants.{CannotWrite};
 ghost use Rattle.flux_outside.specs.Outside.{StopsAtWant};
 ghost use Rattle.flux_top.specs.Clauses.{IsQuiet};
 ghost use Rattle.flux_top.specs.Finish.{IsFinished, IsPut, IsSaved, Says, StopsFinish, StopsPut, StopsSave};
-ghost use Rattle.flux_top.specs.Lines.{lost_line};
-ghost use Rattle.pair_machine.specs.Drain.{partition};
 ghost use Rattle.run_command.specs.Endings.{ending_of};
 ghost use Rattle.tuple_edge.specs.declared.event.Drained.TheVariants as drained;
 
+use crate::lines::line_of_loss;
 use command_course::Stop;
 use flux_outside::{Failed, FileStop, Files, Sink, write_all};
 use run_command::Outcome;
@@ -39,14 +38,6 @@ pub(crate) fn finish<F: Files, S: Sink>(
             Err(stop) => Err(stop),
         },
     }
-}
-
-// What is said of a lost pair.
-fn line_of_loss(alloc: Global, stage: u32, part: u32) -> Result<String, OutOfMemory>
-    ensures { IfOk result (λ line. string_bytes line ≡ lost_line (partition stage part)) }
-{
-    let line = format!(in alloc; "flux: pair {stage}.{part} is lost\n")?;
-    Ok(line)
 }
 
 // Why a command stops whose run lost a pair.

@@ -8,6 +8,8 @@
 mod command;
 mod eval;
 mod finish;
+mod lines;
 mod make;
 
 pub use command::flux;
+pub use lines::{line_of_loss, say};

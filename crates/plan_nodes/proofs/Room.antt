@@ -5,7 +5,6 @@ use Rattle.std.specs.Prelude.{map, slice_index_or}
 use Rattle.tuple_edge.specs.Input.{Input}
 use Rattle.tuple_edge.specs.declared.item.Item.{Item}
 use Rattle.tuple_edge.specs.declared.node.EdgeId.{EdgeId}
-use Rattle.tuple_edge.specs.declared.node.Which.{Which}
 use Rattle.flux_producer.specs.OutEdge.{OutEdgeView, unused}
 use Rattle.flux_producer.specs.ProducerView.{ProducerView, contents_of, edge_at, without_room}
 use Rattle.plan_reader.specs.PlanView.{PlanView}

@@ -1,5 +1,5 @@
 -- A node's own part, of any of the four kinds: its name, the plans that it is of, the numbers that it stands for, and what it may do.
-use Rattle.std.specs.Prelude.{◌≡◌, ◌≢◌, ◌≤◌, List, [], Result, Ok, OnErr, length}
+use Rattle.std.specs.Prelude.{◌≡◌, ◌≢◌, ◌≤◌, ◌<◌, ◌-◌, ℕ, Bool, false, List, [], Result, Ok, OnErr, length}
 use mathlib.Core.List.{IsPrefix}
 use Rattle.tuple_edge.specs.Input.{Input}
 use Rattle.tuple_edge.specs.declared.event.Worked.{Worked}
@@ -9,6 +9,7 @@ use Rattle.tuple_edge.specs.declared.node.NodeId.TheVariants as node
 use Rattle.tuple_edge.specs.declared.packet.Body.{Body}
 use Rattle.tuple_edge.specs.declared.row.Row.{Row}
 use Rattle.tuple_edge.specs.declared.memory.OutOfMemory.{OutOfMemory}
+use Rattle.flux_producer.specs.ProducerView.{ProducerView, buffer_at}
 use Rattle.plan_reader.specs.PlanView.{PlanView}
 use Rattle.pair_machine.specs.Counts.{flow_of}
 use Rattle.pair_machine.specs.Machine.{at_node}
@@ -17,7 +18,7 @@ use Rattle.pair_machine.specs.Receivers.{GoOverLinks}
 use Rattle.ingress_egress.specs.EgressStands as egress
 use Rattle.ingress_egress.specs.EgressView.{EgressView, MayWork}
 use Rattle.ingress_egress.specs.IngressStands as ingress
-use Rattle.ingress_egress.specs.IngressView.{IngressView}
+use Rattle.ingress_egress.specs.IngressView.{IngressView, producer_at}
 use Rattle.pair_control.specs.Admitted as control_admitted
 use Rattle.pair_control.specs.ControllerView.{ControllerView}
 use Rattle.pair_control.specs.StandsFor as control
@@ -59,6 +60,27 @@ rows_of (state.Ingress i) = []
 rows_of (state.Replica r) = []
 rows_of (state.Control c) = []
 rows_of (state.Egress e) = e.emitted
+
+-- whether it has merged the end of its input: only egress is asked
+abbrev pub has_merged_end : NodeState → Bool
+has_merged_end (state.Ingress i) = false
+has_merged_end (state.Replica r) = false
+has_merged_end (state.Control c) = false
+has_merged_end (state.Egress e) = e.done
+
+-- each edge of a producer holds fewer items than this
+abbrev pub HoldsFew : ℕ → ProducerView → Type 0
+HoldsFew hold y = (t : ℕ) → t < length y.edges → (buffer_at y t).produced - (buffer_at y t).low < hold
+
+abbrev pub EachHoldsFew : ℕ → IngressView → Type 0
+EachHoldsFew hold i = (q : ℕ) → q < length i.producers → HoldsFew hold (producer_at i q)
+
+-- whether rows are to be made of further inputs: by ingress, while each of its edges holds fewer items than the plan says
+abbrev pub WantsRows : PlanView → NodeState → Type 0
+WantsRows plan (state.Ingress i) = EachHoldsFew plan.hold i
+WantsRows plan (state.Replica r) = ⊥
+WantsRows plan (state.Control c) = ⊥
+WantsRows plan (state.Egress e) = ⊥
 
 -- ---- what it may do
 

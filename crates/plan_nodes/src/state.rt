@@ -4,10 +4,10 @@ ghost use Rattle.pair_machine.specs.Numbers.{Node};
 ghost use Rattle.pair_machine.specs.Scripts.{HasMerged};
 ghost use Rattle.plan_reader.specs.PlanView.{PlanView};
 ghost use Rattle.replica_node.specs.StandsFor as replica;
-ghost use Rattle.plan_nodes.specs.States.{ControlMay, EgressMay, HasActed, IngressMay, IsOfPlan, MayDo, ReplicaMay, StandsFor, id_of, rows_of};
+ghost use Rattle.plan_nodes.specs.States.{ControlMay, EachHoldsFew, EgressMay, HasActed, HoldsFew, IngressMay, IsOfPlan, MayDo, ReplicaMay, StandsFor, WantsRows, has_merged_end, id_of, rows_of};
 ghost use Rattle.run_node.specs.Tasks.{most_packets};
 ghost use Rattle.plan_nodes.specs.declared.state.NodeState.TheVariants as state;
-ghost use Rattle.std.specs.Prelude.{◌≡◌, ◌≤◌, [], IfSome, IsTrue, List};
+ghost use Rattle.std.specs.Prelude.{◌≡◌, ◌≤◌, ◌↔◌, [], IfSome, IsTrue, List};
 ghost use Rattle.tuple_edge.specs.Input.{Input};
 
 use flux_producer::Producer;
@@ -41,6 +41,10 @@ impl Acts for NodeState {
     ghost may = { λ s t. MayDo s t };
 
     ghost rows = { λ s. rows_of s };
+
+    ghost done = { λ s. has_merged_end s };
+
+    ghost wants = { λ plan s. WantsRows plan s };
 
     fn id(&self) -> NodeId {
         match self {
@@ -240,7 +244,9 @@ fn merged_by(node: &Replica) -> Option<u64>
 }
 
 // Whether each edge of ingress holds fewer items than this.
-fn holds_few(node: &Ingress, hold: u64) -> bool {
+fn holds_few(node: &Ingress, hold: u64) -> bool
+    ensures { IsTrue result ↔ EachHoldsFew hold node.now }
+{
     for source in 0..node.sources() {
         if !edges_hold_few(node.producer(source), hold) {
             return false;
@@ -250,7 +256,9 @@ fn holds_few(node: &Ingress, hold: u64) -> bool {
 }
 
 // Whether each edge of a producer holds fewer items than this.
-fn edges_hold_few(producer: &Producer, hold: u64) -> bool {
+fn edges_hold_few(producer: &Producer, hold: u64) -> bool
+    ensures { IsTrue result ↔ HoldsFew hold producer.now }
+{
     for target in 0..producer.edges() {
         let buffer = producer.buffer(target);
         if buffer.produced().saturating_sub(buffer.low()) >= hold {

@@ -46,7 +46,7 @@ impl<'a> Input for ScriptFile<'a> {
 }
 
 /// Reads the failure script for a plan, where a file of it is named; else there are no orders.
-pub(crate) fn script_at<F: Files>(
+pub fn script_at<F: Files>(
     alloc: Global,
     files: &mut F,
     plan: &Plan,

@@ -7,7 +7,7 @@ ghost use Rattle.pair_machine.specs.Numbers.{Node};
 ghost use Rattle.pair_machine.specs.Receivers.{GoOverLinks};
 ghost use Rattle.pair_machine.specs.Scripts.{HasMerged};
 ghost use Rattle.plan_reader.specs.PlanView.{PlanView};
-ghost use Rattle.std.specs.Prelude.{◌≡◌, ◌≤◌, [], List, IfSome, Ok, OnErr, IsTrue, length};
+ghost use Rattle.std.specs.Prelude.{◌≡◌, ◌≤◌, ◌↔◌, [], Bool, List, IfSome, Ok, OnErr, IsTrue, length};
 ghost use Rattle.tuple_edge.specs.Input.{Input};
 ghost use Rattle.tuple_edge.specs.declared.event.Worked.TheVariants.{Did, Idle};
 ghost use Rattle.tuple_edge.specs.declared.node.NodeId.{NodeId};
@@ -54,6 +54,12 @@ pub trait Acts: Send + Drop {
     /// The rows that it emitted.
     ghost rows: { Self → List Row };
 
+    /// It is egress, and has merged its end.
+    ghost done: { Self → Bool };
+
+    /// It is ingress, and each of its edges holds fewer items than this plan says.
+    ghost wants: { PlanView → Self → Type 0 };
+
     /// Its name.
     fn id(&self) -> NodeId
         ensures { result ≡ id self.now };
@@ -86,10 +92,12 @@ pub trait Acts: Send + Drop {
         ensures { IfSome result (λ k. (plan : PlanView) (inputs : List Input) (x : Node) → stands plan inputs self.now x → HasMerged k (replica_in x)) };
 
     /// Whether egress has merged its end.
-    fn is_done(&self) -> bool;
+    fn is_done(&self) -> bool
+        ensures { result ≡ done self.now };
 
     /// Whether rows are to be made: ingress, while each of its edges holds fewer items than the plan says.
-    fn wants_rows(&self, plan: &Plan) -> bool;
+    fn wants_rows(&self, plan: &Plan) -> bool
+        ensures { IsTrue result ↔ wants plan.now self.now };
 
     /// The rows that egress emitted.
     fn emitted(&self) -> &[Row]

@@ -28,7 +28,9 @@ impl<N: RunNames, A: Acts, M: Links, T: Tap> Node<N, A, M, T> {
     }
 
     /// Whether egress has merged its end.
-    pub fn is_done(&self) -> bool {
+    pub fn is_done(&self) -> bool
+        ensures { result ≡ A.done self.now.state }
+    {
         self.state.is_done()
     }
 

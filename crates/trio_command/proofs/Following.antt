@@ -1,6 +1,6 @@
 -- A core along a list of events.
-use Rattle.std.proofs.Common.{◌≡◌, ◌≢◌, ◌∙◌, ◌<◌, ◌+◌, ℕ, zero, suc, List, [], ◌∷◌, Ok, Err, Result, drop, length, slice_index_or, refl, sym, ap, subst, arith}
-use Rattle.std.specs.Prelude.{◌&&◌}
+use Rattle.std.proofs.Common.{◌≡◌, ◌∙◌, ◌<◌, ◌+◌, ℕ, zero, suc, List, [], ◌∷◌, Ok, Err, Result, drop, length, slice_index_or, refl, sym, ap, subst, arith}
+use Rattle.std.specs.Prelude.{◌≢◌, ◌&&◌}
 use Rattle.std.specs.List.{All}
 use Rattle.std.proofs.lemmas.List.Elements.{All-head, All-tail}
 use Rattle.tuple_edge.specs.Input.{Input}
@@ -24,7 +24,7 @@ use Rattle.trio_core.specs.Steps as core_steps
 use Rattle.trio_core.specs.Steps.{IsApplied}
 use Rattle.trio_core.specs.declared.error.TrioError.{TrioError}
 use Rattle.trio_core.specs.declared.error.TrioError.TheVariants as error
-use Rattle.trio_command.specs.Follows.{IsFollowed, IsRefusedAt, IsStopped, StandsSound}
+use Rattle.trio_command.specs.Follows.{IsFollowed, IsStopped, StandsSound}
 use Rattle.trio_command.specs.Replaying.{error_text, refusal_text, replayed, stepped, then_on}
 
 -- ---- events of a text are events of the plan

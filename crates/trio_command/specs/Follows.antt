@@ -6,7 +6,6 @@ use Rattle.trio_machine.specs.Sound.{IsSound}
 use Rattle.trio_text.specs.declared.lined.TrioLined.{TrioLined}
 use Rattle.trio_core.specs.CoreView.{CoreView, flow_in}
 use Rattle.trio_core.specs.Stands.{StandsFor}
-use Rattle.trio_core.specs.declared.error.TrioError.{TrioError}
 use Rattle.trio_core.specs.declared.error.TrioError.TheVariants as error
 use Rattle.trio_command.specs.Replaying.{RefusedAt, error_text, refusal_text, replayed}
 use Rattle.trio_command.specs.declared.follow.Stopped.{Stopped}

@@ -1,4 +1,5 @@
 pub mod Courses
+pub mod Ends
 pub mod Follows
 pub mod Replaying
 pub mod Text

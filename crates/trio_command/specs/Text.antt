@@ -19,7 +19,7 @@ first_line = codes "trio 1\n"
 -- the line that says how a drain ended
 abbrev pub ended_line : Drained → List ℕ
 ended_line drained.Whole = codes "drained whole\n"
-ended_line (drained.Lost stage part) = codes "drained lost " ++ decimal stage ++ codes "." ++ decimal part ++ codes "\n"
+ended_line (drained.Lost stage part) = codes "drained lost " ++ (decimal stage ++ (codes "." ++ (decimal part ++ codes "\n")))
 
 -- the line of a row that was emitted
 abbrev pub emitted_line : List (List ℕ) → Row → List ℕ

@@ -3,9 +3,10 @@ ghost use Rattle.command_course.specs.Course.{Came, Writes};
 ghost use Rattle.command_course.specs.Feeds.{fed};
 ghost use Rattle.command_course.specs.Steps.{HasReadCause, IsWant, StopsOf};
 ghost use Rattle.flux_outside.specs.Outside.{StopsAtWant};
-ghost use Rattle.replay_command.specs.Ends.{StopsIn};
-ghost use Rattle.std.specs.Prelude.{◌≡◌, [], All, IfErr, IfOk, OnOk, false};
+ghost use Rattle.std.specs.Prelude.{◌≡◌, [], ℕ, All, IfErr, IfOk, OnOk, false};
+ghost use Rattle.trade_text.specs.TradesView.{inputs_in};
 ghost use Rattle.trio_command.specs.Courses.{goes_along, trio_course, trio_events, trio_plan, trio_trades};
+ghost use Rattle.trio_command.specs.Ends.{StopsHere, WritesHere};
 ghost use Rattle.trio_command.specs.Text.{trio_text};
 ghost use Rattle.trio_core.specs.CoreView.{flow_in, inputs_of};
 ghost use Rattle.trio_core.specs.Stands.{StandsFor};
@@ -13,7 +14,7 @@ ghost use Rattle.trio_machine.specs.Machine.{State, opening};
 ghost use Rattle.trio_machine.specs.Sound.{IsSound};
 ghost use Rattle.trio_text.specs.Text.{IsNamed};
 
-use crate::event_line::refusal;
+use crate::event_line::refused_event;
 use crate::events_file::{Events, EventsFile};
 use crate::follow::follow;
 use crate::text::drained_text;
@@ -133,11 +134,29 @@ fn text_along(
     requires version { plan.now.version ≡ 1 }
     requires unmerged { trades.now.merged ≡ false }
     requires named { All (λ x. IsNamed plan.now x.event) events.now }
-    ensures text { IfOk result (λ bytes. goes_along name.now (fed plan.now trades.now []) events.now ≡ Writes bytes.items) }
-    ensures refused { IfErr result (StopsIn (goes_along name.now (fed plan.now trades.now []) events.now)) }
+    ensures comes { IfOk result (λ bytes. WritesHere (goes_along name.now (fed plan.now trades.now []) events.now) bytes.items) }
+    ensures stops { IfErr result (StopsHere (goes_along name.now (fed plan.now trades.now []) events.now)) }
+    ensures cause { IfErr result (λ stop. (faults : ℕ) → HasReadCause faults faults stop) }
 {
-    let mut core = TrioCore::new(alloc, plan, trades)?;
-    text_from(alloc, &mut core, trades, name, events)
+    // Asked only for what its contract says: trades are within their limits.
+    let _rows = trades.rows();
+    match opened(alloc, plan, trades) {
+        Ok(mut core) => text_from(alloc, &mut core, trades, name, events),
+        Err(stop) => Err(stop),
+    }
+}
+
+// The nodes of a plan as they open, where want of memory is why the command stops.
+fn opened(alloc: Global, plan: &Plan, trades: &Trades) -> Result<TrioCore, Stop>
+    requires version { plan.now.version ≡ 1 }
+    requires unmerged { trades.now.merged ≡ false }
+    ensures opens { IfOk result (λ core. StandsFor core opening) }
+    ensures plan { IfOk result (λ core. core.plan ≡ plan.now) }
+    ensures inputs { IfOk result (λ core. inputs_of core ≡ inputs_in trades.now) }
+    ensures want { IfErr result (λ stop. stop ≡ Stop.OutOfMemory) }
+{
+    let core = TrioCore::new(alloc, plan, trades)?;
+    Ok(core)
 }
 
 // The same, of a core that opens with a plan and trades.
@@ -150,13 +169,14 @@ fn text_from(
 ) -> Result<Vec<u8>, Stop>
     requires named { All (λ x. IsNamed core.old.plan x.event) events.now }
     requires opens { StandsFor core.old opening }
-    ensures text { IfOk result (λ bytes. goes_along name.now (record { plan = core.old.plan; inputs = inputs_of core.old; symbols = trades.now.symbols }) events.now ≡ Writes bytes.items) }
-    ensures refused { IfErr result (StopsIn (goes_along name.now (record { plan = core.old.plan; inputs = inputs_of core.old; symbols = trades.now.symbols }) events.now)) }
+    ensures comes { IfOk result (λ bytes. WritesHere (goes_along name.now (record { plan = core.old.plan; inputs = inputs_of core.old; symbols = trades.now.symbols }) events.now) bytes.items) }
+    ensures stops { IfErr result (StopsHere (goes_along name.now (record { plan = core.old.plan; inputs = inputs_of core.old; symbols = trades.now.symbols }) events.now)) }
+    ensures cause { IfErr result (λ stop. (faults : ℕ) → HasReadCause faults faults stop) }
 {
     core.known();
     match follow(core, events.lines()) {
         Ok(()) => written(alloc, core, trades),
-        Err(stopped) => refusal(alloc, name, stopped),
+        Err(stopped) => Err(refused_event(alloc, name, stopped)),
     }
 }
 

@@ -2,7 +2,7 @@
 ghost use Rattle.command_course.specs.Lines.{line_of};
 ghost use Rattle.command_course.specs.Steps.{IsRefusedBy};
 ghost use Rattle.std.specs.Fmt.{decimal};
-ghost use Rattle.std.specs.Prelude.{◌≡◌, ◌≢◌, ◌++◌, IfErr, IfOk, OnOk, codes, string_bytes};
+ghost use Rattle.std.specs.Prelude.{◌≡◌, ◌≢◌, ◌++◌, IfOk, codes, string_bytes};
 ghost use Rattle.text_words.specs.Messages.{at_line};
 ghost use Rattle.trio_command.specs.Replaying.{error_text};
 
@@ -70,16 +70,8 @@ fn reason_at(alloc: Global, stopped: Stopped) -> Result<String, OutOfMemory>
     Ok(whole)
 }
 
-// No text: an event is refused, or memory was wanting where it was applied.
-pub(crate) fn refusal(alloc: Global, name: &str, stopped: Stopped) -> Result<Vec<u8>, Stop>
-    ensures none { OnOk result ⊥ }
-    ensures refused { IfErr result (λ stop. IsRefusedBy stop (line_of name.now (at_line stopped.line (error_text stopped.error))) (stopped.error ≢ TrioError.OutOfMemory)) }
-{
-    Err(refused_event(alloc, name, stopped))
-}
-
-// Why the command stops at an event.
-fn refused_event(alloc: Global, name: &str, stopped: Stopped) -> Stop
+// Why the command stops at an event: it is refused, or memory was wanting where it was applied.
+pub(crate) fn refused_event(alloc: Global, name: &str, stopped: Stopped) -> Stop
     ensures { IsRefusedBy result (line_of name.now (at_line stopped.line (error_text stopped.error))) (stopped.error ≢ TrioError.OutOfMemory) }
 {
     if stopped.error == TrioError::OutOfMemory {

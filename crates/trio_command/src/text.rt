@@ -1,6 +1,8 @@
 // The text of `trio`.
+ghost use Rattle.std.specs.Fmt.{signed_decimal};
 ghost use Rattle.std.specs.List.{flat_map};
-ghost use Rattle.std.specs.Prelude.{◌≡◌, ◌++◌, IfOk, OnOk, string_bytes};
+ghost use Rattle.std.specs.Prelude.{◌≡◌, ◌++◌, IfOk, OnOk, codes, string_bytes};
+ghost use Rattle.trade_text.specs.Symbols.{symbol_at};
 ghost use Rattle.trio_command.specs.Text.{emitted_line, ended_line, first_line, trio_text};
 ghost use Rattle.trio_core.specs.CoreView.{flow_in, inputs_of};
 ghost use Rattle.trio_core.specs.Stands.{StandsFor};
@@ -42,21 +44,56 @@ fn ended_line(alloc: Global, drained: Drained) -> Result<String, OutOfMemory>
     }
 }
 
+// The line of a row up to its symbol.
+fn row_front(alloc: Global, row: &Row) -> Result<String, OutOfMemory>
+    ensures { IfOk result (λ text. string_bytes text ≡ codes "row " ++ (signed_decimal row.now.time ++ (codes "," ++ (signed_decimal row.now.account ++ codes ",")))) }
+{
+    let (time, account) = (row.time, row.account);
+    let text = format!(in alloc; "row {time},{account},")?;
+    Ok(text)
+}
+
+// The line of a row behind its symbol.
+fn row_sums(alloc: Global, row: &Row) -> Result<String, OutOfMemory>
+    ensures { IfOk result (λ text. string_bytes text ≡ codes "," ++ (signed_decimal row.now.qty ++ (codes "," ++ (signed_decimal row.now.value ++ codes "\n")))) }
+{
+    let (qty, value) = (row.qty, row.value);
+    let text = format!(in alloc; ",{qty},{value}\n")?;
+    Ok(text)
+}
+
+// Appends the symbol of a row by its name.
+fn push_symbol(text: &mut Vec<u8>, trades: &Trades, row: &Row) -> Result<(), OutOfMemory>
+    ensures { OnOk result (text.new.items ≡ text.old.items ++ symbol_at trades.now.symbols row.now.symbol) }
+{
+    text.extend_from_slice(trades.symbol(row.symbol))?;
+    Ok(())
+}
+
 // Appends the line of a row that was emitted.
-fn push_row(text: &mut Vec<u8>, alloc: Global, trades: &Trades, row: &Row) -> Result<(), OutOfMemory>
+fn push_row(
+    text: &mut Vec<u8>,
+    alloc: Global,
+    trades: &Trades,
+    row: &Row,
+) -> Result<(), OutOfMemory>
     ensures { OnOk result (text.new.items ≡ text.old.items ++ emitted_line trades.now.symbols row.now) }
 {
-    let (time, account, qty, value) = (row.time, row.account, row.qty, row.value);
-    let front = format!(in alloc; "row {time},{account},")?;
+    let front = row_front(alloc, row)?;
     text.extend_from_slice(front.as_bytes())?;
-    text.extend_from_slice(trades.symbol(row.symbol))?;
-    let sums = format!(in alloc; ",{qty},{value}\n")?;
+    push_symbol(text, trades, row)?;
+    let sums = row_sums(alloc, row)?;
     text.extend_from_slice(sums.as_bytes())?;
     Ok(())
 }
 
 // Appends the lines of rows that were emitted.
-fn push_rows(text: &mut Vec<u8>, alloc: Global, trades: &Trades, rows: &[Row]) -> Result<(), OutOfMemory>
+fn push_rows(
+    text: &mut Vec<u8>,
+    alloc: Global,
+    trades: &Trades,
+    rows: &[Row],
+) -> Result<(), OutOfMemory>
     ensures { OnOk result (text.new.items ≡ text.old.items ++ flat_map (emitted_line trades.now.symbols) rows.now) }
 {
     for row in rows {
@@ -66,7 +103,11 @@ fn push_rows(text: &mut Vec<u8>, alloc: Global, trades: &Trades, rows: &[Row]) -
 }
 
 // The text of `trio` of the state that a core stands for. The core is drained with it.
-pub(crate) fn drained_text(core: &mut TrioCore, alloc: Global, trades: &Trades) -> Result<Vec<u8>, OutOfMemory>
+pub(crate) fn drained_text(
+    core: &mut TrioCore,
+    alloc: Global,
+    trades: &Trades,
+) -> Result<Vec<u8>, OutOfMemory>
     ensures { IfOk result (λ text. (s : State) → StandsFor core.old s → IsSound (flow_in core.old) s
         → text.items ≡ trio_text core.old.plan (inputs_of core.old) trades.now.symbols s) }
 {

@@ -38,7 +38,7 @@ abbrev pub IsNext : (old new : CoreView) → TrioEvent → Type 0
 IsNext old new e = (s : State) → StandsFor old s → IsSound (flow_in old) s
     → IsDrainEvent (flow_in old) s e × ((t : State) × (step (flow_in old) s e ≡ Ok t) × StandsFor new t)
 
--- it is none of the core's, or no step, and nothing was done
+-- it is none of the drain's, or no step, and nothing was done
 pub record IsNone (old new : CoreView) (e : TrioEvent) : Type 0 where
   pub unchanged : new ≡ old
   pub over : (s : State) → StandsFor old s → IsSound (flow_in old) s → IsOver (flow_in old) e s

@@ -1,0 +1,46 @@
+-- The rows that egress had emitted when the threads ended begin the plan's output, and the rows of the run's end.
+use Rattle.std.proofs.Common.{◌≡◌, ◌∙◌, ◌++◌, List, [], length, take, drop, sym, ap, subst, append-nil}
+use Rattle.std.proofs.lemmas.List.{take-append-drop}
+use mathlib.Core.List.{IsPrefix}
+use Rattle.tuple_edge.specs.Input.{Input}
+use Rattle.tuple_edge.specs.declared.event.Drained.{Drained}
+use Rattle.tuple_edge.specs.declared.event.Drained.TheVariants as drained
+use Rattle.tuple_edge.specs.declared.event.Event.{Event}
+use Rattle.tuple_edge.specs.declared.node.NodeId.TheVariants as node
+use Rattle.tuple_edge.specs.declared.row.Row.{Row}
+use Rattle.plan_reader.specs.PlanView.{IsPlan, PlanView}
+use Rattle.pair_machine.specs.CountLaws.{output_first}
+use Rattle.pair_machine.specs.Machine.{egress_in}
+use Rattle.pair_machine.specs.Output.{output}
+use Rattle.pair_machine.specs.declared.order.Order.{Order}
+use Rattle.pair_machine.proofs.CountLaws.{in_order}
+use Rattle.flux_core.specs.CoreView.{CoreView, inputs_of}
+use Rattle.flux_core.specs.Opening.{bare_core}
+use Rattle.partition_runner.specs.Ran.{IsLegalRun}
+use Rattle.partition_runner.specs.declared.ran.Ran.{Ran}
+use Rattle.core_drain.specs.Drained.{IsDrained}
+use Rattle.drained_run.specs.Ended.{EndsSo}
+use Rattle.drained_run.proofs.Ending.{run_ends}
+use Rattle.drained_run.proofs.Joined.{events_of, reaches}
+
+prefix_self : (xs : List Row) → IsPrefix xs xs
+prefix_self xs = ([], append-nil xs)
+
+-- where the first of a list are these, they begin it
+pub take_prefix : (ys xs : List Row) → take (length ys) xs ≡ ys → IsPrefix ys xs
+take_prefix ys xs e = (drop (length ys) xs, ap (λ l. l ++ drop (length ys) xs) (sym e) ∙ take-append-drop (length ys) xs)
+
+module _ (plan : PlanView) (inputs : List Input) (script : List Order) (ran : Ran) where
+  pub run_front : IsLegalRun plan inputs script ran → IsPrefix ran.egress.emitted (output plan inputs)
+  run_front run =
+      let r = reaches plan inputs script ran run in
+      let count = (egress_in (r.reached.nodes node.Egress)).count in
+      subst (λ (l : List Row). IsPrefix l (output plan inputs)) (sym r.stand.egress.emitted) (take_prefix (output_first plan inputs count) (output plan inputs) (sym ((in_order plan inputs).front count)))
+
+  pub goes_on : (limits : IsPlan plan) (run : IsLegalRun plan inputs script ran) (old core : CoreView) (before after : List Event) (d : Drained) → old ≡ bare_core plan ran.ingress ran.replicas.items ran.controls.items ran.egress
+      → before ≡ [] → core.plan ≡ old.plan → inputs_of core ≡ inputs_of old → IsDrained old core before after d → IsPrefix ran.egress.emitted core.egress.emitted
+  goes_on limits run old core before after d bare none same_plan same_inputs h = go d h (run_ends plan inputs script ran limits run old core before after d bare none same_plan same_inputs h)
+    where
+      go : (d : Drained) → IsDrained old core before after d → EndsSo plan inputs script (events_of ran ++ after) core.egress.emitted d → IsPrefix ran.egress.emitted core.egress.emitted
+      go drained.Whole h ends = subst (λ (l : List Row). IsPrefix ran.egress.emitted l) (sym ends.output) (run_front run)
+      go (drained.Lost stage part) h ends = subst (λ (l : List Row). IsPrefix ran.egress.emitted l) (sym (ap (λ (c : CoreView). c.egress.emitted) (h.unchanged ∙ bare))) (prefix_self ran.egress.emitted)

@@ -1,0 +1,33 @@
+// The end of a run, and what of its rows was given on.
+ghost use mathlib.Core.List.{IsPrefix};
+ghost use Rattle.live_feed.specs.Sides.{HasRun};
+ghost use Rattle.pair_machine.specs.Output.{output};
+ghost use Rattle.partition_runner.specs.Ran.{IsLegalRun};
+ghost use Rattle.std.specs.Prelude.{IfOk, List, MatchResult};
+ghost use Rattle.trade_text.specs.TradesView.{inputs_in};
+ghost use Rattle.tuple_edge.specs.declared.row.Row.{Row};
+
+use drained_run::{Ended, finish_run};
+use failure_script::Script;
+use partition_runner::Ran;
+use plan_reader::Plan;
+use std::alloc::Global;
+use trade_text::Trades;
+use tuple_edge::OutOfMemory;
+
+// Brings what the threads left to the end of the run, if they found memory.
+pub(crate) fn end_of(
+    alloc: Global,
+    plan: &Plan,
+    trades: &Trades,
+    script: &Script,
+    ran: Result<Ran, OutOfMemory>,
+) -> Result<Ended, OutOfMemory>
+    requires { IfOk ran (IsLegalRun plan.now (inputs_in trades.now) script.now) }
+    ensures { (given : List Row) → MatchResult ran (λ ran. IsPrefix given ran.egress.emitted) (λ _. IsPrefix given (output plan.now (inputs_in trades.now))) → HasRun plan.now (inputs_in trades.now) script.now given result }
+{
+    match ran {
+        Ok(ran) => finish_run(alloc, plan, trades, script, ran),
+        Err(OutOfMemory) => Err(OutOfMemory),
+    }
+}

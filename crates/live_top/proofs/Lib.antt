@@ -1,0 +1,4 @@
+pub mod AsRun
+pub mod Completeness
+pub mod Endings
+pub mod Inputs

@@ -1,0 +1,4 @@
+pub mod Clauses
+pub mod Lines
+pub mod Runs
+pub mod Words

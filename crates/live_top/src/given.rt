@@ -1,0 +1,92 @@
+// What a live run is given: the inputs that the words name, read one after the other as `flux run` reads them.
+ghost use Rattle.command_course.specs.Course.{Came, Runs};
+ghost use Rattle.command_course.specs.Feeds.{feed_of};
+ghost use Rattle.command_course.specs.Steps.{HasReadCause, IsWant, StopsOf};
+ghost use Rattle.command_line.specs.Views.{text_in};
+ghost use Rattle.flux_outside.specs.Outside.{StopsAtWant};
+ghost use Rattle.flux_top.specs.Outcome.{asked};
+ghost use Rattle.live_top.specs.Clauses.{StopsBefore};
+ghost use Rattle.live_top.specs.Runs.{ComesToRun, run_in};
+ghost use Rattle.live_top.specs.Words.{as_run, course_over, files_in, options_with};
+ghost use Rattle.command_course.specs.declared.stop.Stop.TheVariants.{Usage};
+ghost use Rattle.run_command.specs.Courses.{runs};
+ghost use Rattle.std.specs.Prelude.{◌≡◌, Err, false, IfErr, IfOk, None, OnOk, map, string_bytes};
+
+use crate::own::own_stop;
+use crate::words::{Named, read_words};
+use command_course::{Feed, Stop, feed_at};
+use failure_script::Script;
+use flux_outside::Files;
+use run_command::script_at;
+use std::alloc::Global;
+
+/// A plan with its trades, and a failure script, which may have no orders.
+#[derive(Drop)]
+pub(crate) struct Given {
+    pub(crate) feed: Feed,
+    pub(crate) script: Script,
+}
+
+/// What the words' files say, each read and checked before the next one.
+pub(crate) fn read_inputs<F: Files>(
+    alloc: Global,
+    words: &[String],
+    files: &mut F,
+) -> Result<Given, Stop>
+    ensures comes { IfOk result (λ given. ComesToRun (F.contents files.old) (F.calls files.old) (F.calls files.new) (map string_bytes words.now) (feed_of given.feed) given.script) }
+    ensures usage { asked (as_run (map string_bytes words.now)) ≡ None → result ≡ Err Usage }
+    ensures unasked { asked (as_run (map string_bytes words.now)) ≡ None → files.new ≡ files.old }
+    ensures stops { IfErr result (λ stop. StopsBefore (F.contents files.old) (F.calls files.old) (F.calls files.new) (map string_bytes words.now) stop) }
+    ensures cause { IfErr result (λ stop. HasReadCause (F.read_faults files.old) (F.read_faults files.new) stop) }
+    ensures still { OnOk result (F.read_faults files.new ≡ F.read_faults files.old) }
+    ensures wants { StopsAtWant (F.wants files.old) (F.wants files.new) (IsWant result) }
+    ensures contents { F.contents files.new ≡ F.contents files.old }
+    ensures saves { F.save_faults files.new ≡ F.save_faults files.old }
+{
+    match read_words(words) {
+        None => Err(Stop::Usage),
+        Some(named) => match given_at(alloc, files, named) {
+            Ok(given) => Ok(given),
+            Err(stop) => Err(own_stop(alloc, stop)),
+        },
+    }
+}
+
+// What these files say.
+#[tactic(auto, using(crate::proofs::Inputs::wants_on))]
+fn given_at<F: Files>(alloc: Global, files: &mut F, named: Named<'_>) -> Result<Given, Stop>
+    ensures comes { IfOk result (λ given. Came (F.contents files.old) (F.calls files.old) (F.calls files.new) (course_over (files_in named.entry)) (Runs (run_in given))) }
+    ensures stops { IfErr result (λ stop. StopsOf (F.contents files.old) (F.calls files.old) (F.calls files.new) (course_over (files_in named.entry)) stop) }
+    ensures cause { IfErr result (λ stop. HasReadCause (F.read_faults files.old) (F.read_faults files.new) stop) }
+    ensures still { OnOk result (F.read_faults files.new ≡ F.read_faults files.old) }
+    ensures wants { StopsAtWant (F.wants files.old) (F.wants files.new) (IsWant result) }
+    ensures contents { F.contents files.new ≡ F.contents files.old }
+    ensures saves { F.save_faults files.new ≡ F.save_faults files.old }
+{
+    match feed_at(alloc, files, named.plan, named.trades, None) {
+        Ok(feed) => scripted(alloc, files, feed, named.script),
+        Err(stop) => Err(stop),
+    }
+}
+
+// What the file of the script says too, once the others were read.
+#[tactic(auto, using(crate::proofs::Inputs::wants_on))]
+fn scripted<F: Files>(
+    alloc: Global,
+    files: &mut F,
+    feed: Feed,
+    script: Option<&str>,
+) -> Result<Given, Stop>
+    ensures comes { IfOk result (λ given. Came (F.contents files.old) (F.calls files.old) (F.calls files.new) (runs (options_with (text_in script.entry)) false (feed_of feed)) (Runs (run_in given))) }
+    ensures stops { IfErr result (λ stop. StopsOf (F.contents files.old) (F.calls files.old) (F.calls files.new) (runs (options_with (text_in script.entry)) false (feed_of feed)) stop) }
+    ensures cause { IfErr result (λ stop. HasReadCause (F.read_faults files.old) (F.read_faults files.new) stop) }
+    ensures still { OnOk result (F.read_faults files.new ≡ F.read_faults files.old) }
+    ensures wants { StopsAtWant (F.wants files.old) (F.wants files.new) (IsWant result) }
+    ensures contents { F.contents files.new ≡ F.contents files.old }
+    ensures saves { F.save_faults files.new ≡ F.save_faults files.old }
+{
+    match script_at(alloc, files, &feed.plan, script) {
+        Ok(script) => Ok(Given { feed, script }),
+        Err(stop) => Err(stop),
+    }
+}

@@ -1,0 +1,87 @@
+// The run itself, written while it goes on.
+ghost use Rattle.live_feed.specs.declared.answer.Live.TheVariants as live;
+ghost use Rattle.live_top.specs.Clauses.{NamesLost, StopsLive};
+ghost use Rattle.live_top.specs.Lines.{own_line};
+ghost use Rattle.live_top.specs.Runs.{RunLives};
+ghost use Rattle.command_course.specs.declared.stop.Stop.TheVariants as stop;
+ghost use Rattle.command_course.specs.Feeds.{feed_of};
+ghost use Rattle.flux_top.specs.Lines.{lost_line};
+ghost use Rattle.pair_machine.specs.Drain.{partition};
+ghost use Rattle.std.specs.Prelude.{◌≡◌, ◌≤◌, IfErr, IfOk, OnOk, string_bytes};
+
+use crate::given::Given;
+use crate::own::own_line;
+use command_course::Stop;
+use flux_outside::Sink;
+use flux_top::line_of_loss;
+use live_feed::{Gate, Live, live};
+use std::alloc::Global;
+use std::sync::Wait;
+use std::thread::Threads;
+use tuple_edge::OutOfMemory;
+
+/// How many workers a live run has.
+const THREADS: u32 = 4;
+
+/// How many turns each of them takes at most.
+const TURNS: u64 = 200_000;
+
+// What is said of a lost pair.
+fn line_of(alloc: Global, stage: u32, part: u32) -> Result<String, OutOfMemory>
+    ensures { IfOk result (λ line. string_bytes line ≡ own_line (lost_line (partition stage part))) }
+{
+    let line = line_of_loss(alloc, stage, part)?;
+    own_line(alloc, line.as_str())
+}
+
+// A live run.
+fn answer<R: Threads + Wait + Sync, S: Sink + Send, G: Gate>(
+    rt: &R,
+    alloc: Global,
+    given: &Given,
+    out: &mut S,
+    gate: &G,
+) -> Live
+    ensures { RunLives (feed_of given.now.feed) given.now.script (record { taken = S.taken out.old; faults = S.faults out.old }) (record { taken = S.taken out.new; faults = S.faults out.new }) result }
+{
+    live(
+        rt,
+        alloc,
+        &given.feed.plan,
+        &given.feed.trades,
+        &given.script,
+        THREADS,
+        TURNS,
+        gate,
+        out,
+    )
+}
+
+/// Runs what was given, and writes its rows meanwhile.
+pub(crate) fn lived<R: Threads + Wait + Sync, S: Sink + Send, G: Gate>(
+    rt: &R,
+    alloc: Global,
+    given: &Given,
+    out: &mut S,
+    gate: &G,
+) -> Result<(), Stop>
+    ensures done { OnOk result (RunLives (feed_of given.now.feed) given.now.script (record { taken = S.taken out.old; faults = S.faults out.old }) (record { taken = S.taken out.new; faults = S.faults out.new }) live.Done) }
+    ensures stops { IfErr result (λ stop. StopsLive (feed_of given.now.feed) given.now.script (record { taken = S.taken out.old; faults = S.faults out.old }) (record { taken = S.taken out.new; faults = S.faults out.new }) stop) }
+{
+    match answer(rt, alloc, given, out, gate) {
+        Live::Done => Ok(()),
+        Live::Lost { stage, part } => Err(lost(alloc, stage, part)),
+        Live::WriteFault => Err(Stop::CannotWrite),
+        Live::OutOfMemory => Err(Stop::OutOfMemory),
+    }
+}
+
+// Why a run stops in which this pair was lost.
+fn lost(alloc: Global, stage: u32, part: u32) -> Stop
+    ensures { NamesLost stage part result }
+{
+    match line_of(alloc, stage, part) {
+        Ok(line) => Stop::PairLost { stage, part, line },
+        Err(_) => Stop::OutOfMemory,
+    }
+}

@@ -1,0 +1,3 @@
+pub mod Ends
+pub mod Nexts
+pub mod Rule
