@@ -18,7 +18,7 @@ stage_in node.Egress = 0
 
 module _ (core : CoreView) (c : ControllerView) (is : IsCore core) (named : node_of c ≡ node.Control 1 0) (stands : (s : State) → StandsFor core s → of_control.StandsFor (flow_in core) c (s.nodes (node.Control 1 0))) where
   pub has_edge : 1 ≤ length c.acked
-  unfolding flow_of
+  unfolding flow_of stage_in
   has_edge =
       let stage : c.stage ≡ 1 = ap stage_in named in
       let edges : length c.acked ≡ (flow_in core).sources c.stage = (stands is.state is.stands).edges in
