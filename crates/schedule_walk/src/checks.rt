@@ -6,42 +6,12 @@
 use crate::nodes::{
     consumer_of, control_of, low_of, low_of_ingress, mark_of, producer_of, serves, told_of,
 };
-use crate::small_run::SmallRun;
 use crate::story::Story;
 use core_drain::{Drained, drain};
 use flux_core::Core;
+use state_walk::{Fault, SmallRun, Verdict};
 use std::alloc::Global;
-use std::fmt;
 use tuple_edge::{OutOfMemory, Which};
-
-/// In what a state differs.
-#[derive(Clone, Copy, Debug, PartialEq, Eq)]
-pub(crate) enum Fault {
-    /// The rows that were emitted.
-    Rows,
-    /// What is owed to a replica that takes over.
-    Owed,
-    /// The drain from there.
-    Drain,
-}
-
-impl fmt::Display for Fault {
-    fn fmt<W: fmt::Write>(&self, f: &mut fmt::Formatter<W>) -> fmt::Result {
-        f.write_str(match *self {
-            Fault::Rows => "the rows",
-            Fault::Owed => "what is owed",
-            Fault::Drain => "the drain",
-        })
-    }
-}
-
-/// How a drain of a state ended, or in what the state differs.
-#[derive(Clone, Copy, Debug, PartialEq, Eq)]
-pub(crate) enum Verdict {
-    Whole,
-    Lost,
-    Differs(Fault),
-}
 
 // Whether a buffer that is there has given up no item past the acknowledged ones.
 fn is_at_most(low: Option<u64>, acked: u64) -> bool {

@@ -2,9 +2,9 @@
 ghost use Rattle.std.specs.Prelude.{◌≡◌, true};
 
 use crate::nodes::{NODES, consumer_of, low_of, mark_of, producer_of, replica_of};
-use crate::small_run::SmallRun;
 use flux_core::{ApplyError, Core};
 use state_text::write_state;
+use state_walk::SmallRun;
 use std::alloc::Global;
 use tuple_edge::{Event, NodeId, OutOfMemory, Which};
 

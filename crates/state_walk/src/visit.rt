@@ -1,11 +1,8 @@
 // The walk over all states, breadth first.
-use crate::checks::{Fault, Verdict, verdict_of};
-use crate::offers::{is_failure, offers};
-use crate::small_run::SmallRun;
-use crate::story::Story;
+use crate::orders::{Fault, Orders, Verdict};
 use std::alloc::Global;
 use std::collections::HashSet;
-use tuple_edge::{Event, OutOfMemory};
+use tuple_edge::OutOfMemory;
 
 /// How many events lead to a state at most, and how many of them are failures or requests after one.
 #[derive(Clone, Copy, Debug)]
@@ -25,29 +22,29 @@ pub(crate) struct Tally {
 }
 
 // A state that was found: the place of the one before it, the event between them, and how many events and failures lead
-// to it. The first one is the opening; its event is of no meaning.
+// to it. The first one is the opening, to which no event leads.
 #[derive(Clone, Copy, Drop)]
-struct Found {
+struct Found<E: Copy> {
     before: usize,
-    event: Event,
+    event: Option<E>,
     depth: u32,
     failures: u32,
 }
 
 /// The states of a run that were found, in the order in which they were.
 #[derive(Drop)]
-pub(crate) struct Walk<'a> {
+pub(crate) struct Walk<'a, E: Copy, R: Orders<E>> {
     alloc: Global,
-    run: &'a SmallRun,
+    run: &'a R,
     bounds: Bounds,
-    found: Vec<Found>,
+    found: Vec<Found<E>>,
     states: HashSet<Vec<u8>>,
     tally: Tally,
 }
 
-impl<'a> Walk<'a> {
+impl<'a, E: Copy, R: Orders<E>> Walk<'a, E, R> {
     /// A walk that has yet to begin.
-    pub(crate) fn new(alloc: Global, run: &'a SmallRun, bounds: Bounds) -> Walk<'a> {
+    pub(crate) fn new(alloc: Global, run: &'a R, bounds: Bounds) -> Walk<'a, E, R> {
         Walk {
             alloc,
             run,
@@ -73,11 +70,11 @@ impl<'a> Walk<'a> {
     pub(crate) fn goes(&mut self) -> Result<Option<Fault>, OutOfMemory> {
         let opening = Found {
             before: 0,
-            event: Event::Make,
+            event: None,
             depth: 0,
             failures: 0,
         };
-        let story = Story::opened(self.alloc, self.run)?;
+        let story = self.run.opened(self.alloc)?;
         let mut fault = self.arrives(opening, story)?;
         for place in 0..usize::MAX {
             if fault.is_some() {
@@ -94,17 +91,18 @@ impl<'a> Walk<'a> {
     }
 
     // Each event that may come next in a state is tried.
-    fn leaves(&mut self, place: usize, from: Found) -> Result<Option<Fault>, OutOfMemory> {
+    fn leaves(&mut self, place: usize, from: Found<E>) -> Result<Option<Fault>, OutOfMemory> {
         let way = self.way_to(place)?;
         let mut story = self.after(&way)?;
         let failures = from.failures < self.bounds.failures;
-        for event in &offers(self.alloc, &story.core, failures)? {
+        for event in &self.run.offers(self.alloc, &story, failures)? {
             self.tally.tried = self.tally.tried.saturating_add(1);
-            if !story.steps(*event)? {
+            if !self.run.steps(&mut story, *event)? {
                 continue;
             }
             self.tally.steps = self.tally.steps.saturating_add(1);
-            let fault = self.arrives(next(place, from, *event), story)?;
+            let fails = self.run.is_failure(event);
+            let fault = self.arrives(next(place, from, *event, fails), story)?;
             if fault.is_some() {
                 return Ok(fault);
             }
@@ -114,13 +112,13 @@ impl<'a> Walk<'a> {
     }
 
     // A state is reached. Where it is a new one it is noted and checked.
-    fn arrives(&mut self, found: Found, story: Story) -> Result<Option<Fault>, OutOfMemory> {
-        if !self.states.insert(story.state(self.alloc, self.run)?)? {
+    fn arrives(&mut self, found: Found<E>, story: R::Story) -> Result<Option<Fault>, OutOfMemory> {
+        if !self.states.insert(self.run.state(self.alloc, &story)?)? {
             return Ok(None);
         }
         self.found.push(found)?;
         self.tally.states = self.tally.states.saturating_add(1);
-        match verdict_of(self.alloc, self.run, story)? {
+        match self.run.verdict(self.alloc, story)? {
             Verdict::Whole => self.tally.whole = self.tally.whole.saturating_add(1),
             Verdict::Lost => self.tally.lost = self.tally.lost.saturating_add(1),
             Verdict::Differs(fault) => return Ok(Some(fault)),
@@ -129,43 +127,45 @@ impl<'a> Walk<'a> {
     }
 
     // The run after these events.
-    fn after(&self, events: &[Event]) -> Result<Story, OutOfMemory> {
-        let mut story = Story::opened(self.alloc, self.run)?;
+    fn after(&self, events: &[E]) -> Result<R::Story, OutOfMemory> {
+        let mut story = self.run.opened(self.alloc)?;
         for event in events {
-            let _is_step = story.steps(*event)?;
+            let _is_step = self.run.steps(&mut story, *event)?;
         }
         Ok(story)
     }
 
     // The events that lead to a state.
-    fn way_to(&self, place: usize) -> Result<Vec<Event>, OutOfMemory> {
+    fn way_to(&self, place: usize) -> Result<Vec<E>, OutOfMemory> {
         let mut events = Vec::new(self.alloc);
         let mut at = place;
         for _event in 0..self.bounds.depth {
-            match self.found.get(at) {
-                Some(found) if found.depth > 0 => {
-                    events.push(found.event)?;
-                    at = found.before;
-                }
-                _ => break,
-            }
+            let Some(found) = self.found.get(at) else {
+                break;
+            };
+            let Some(event) = found.event else {
+                break;
+            };
+            events.push(event)?;
+            at = found.before;
         }
         events.reverse();
         Ok(events)
     }
 
-    /// The events that lead to the state that was found last.
-    pub(crate) fn way(&self) -> Result<Vec<Event>, OutOfMemory> {
-        self.way_to(self.found.len().saturating_sub(1))
+    /// The text of the events that lead to the state that was found last.
+    pub(crate) fn way(&self) -> Result<Vec<u8>, OutOfMemory> {
+        let events = self.way_to(self.found.len().saturating_sub(1))?;
+        self.run.text(self.alloc, &events)
     }
 }
 
 // The state that an event leads to from the one at a place.
-fn next(place: usize, from: Found, event: Event) -> Found {
-    let failures = if is_failure(&event) { 1 } else { 0 };
+fn next<E: Copy>(place: usize, from: Found<E>, event: E, fails: bool) -> Found<E> {
+    let failures = if fails { 1 } else { 0 };
     Found {
         before: place,
-        event,
+        event: Some(event),
         depth: from.depth.saturating_add(1),
         failures: from.failures.saturating_add(failures),
     }

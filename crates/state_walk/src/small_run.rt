@@ -9,17 +9,17 @@ const PLAN: &[u8] = b"flux 1\nstage 1 parts 1 by account total account\n";
 
 const TRADES: &[u8] = b"time,account,symbol,side,qty,price\n34200,7,A,B,1,1\n34201,7,A,B,2,1\n";
 
-/// A plan, its trades, and the rows that they give.
+/// A plan of one stage of one partition, two trades, and the rows that they give.
 #[derive(Drop)]
-pub(crate) struct SmallRun {
-    pub(crate) plan: Plan,
-    pub(crate) trades: Trades,
-    pub(crate) rows: Vec<Row>,
+pub struct SmallRun {
+    pub plan: Plan,
+    pub trades: Trades,
+    pub rows: Vec<Row>,
 }
 
 impl SmallRun {
     /// The one that is tried.
-    pub(crate) fn new(alloc: Global) -> Result<SmallRun, OutOfMemory> {
+    pub fn new(alloc: Global) -> Result<SmallRun, OutOfMemory> {
         let Ok(plan) = read_plan(alloc, PLAN) else {
             return Err(OutOfMemory);
         };
