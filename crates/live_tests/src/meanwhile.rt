@@ -69,6 +69,8 @@ struct Watched<'a> {
     seen: &'a Seen,
     kept: Vec<u8>,
     waits_for: u64,
+    // How often it found no memory.
+    faults: u64,
 }
 
 impl<'a> Sink for Watched<'a> {
@@ -76,7 +78,7 @@ impl<'a> Sink for Watched<'a> {
 
     ghost offered = { λ _. None };
 
-    ghost faults = { λ _. 0 };
+    ghost faults = { λ s. s.faults };
 
     fn put(&mut self, bytes: &[u8]) -> Result<usize, Failed> {
         if self.kept.is_empty() {
@@ -86,7 +88,10 @@ impl<'a> Sink for Watched<'a> {
         }
         match self.kept.extend_from_slice(bytes) {
             Ok(()) => Ok(bytes.len()),
-            Err(_) => Err(Failed),
+            Err(_) => {
+                self.faults = self.faults.saturating_add(1);
+                Err(Failed)
+            }
         }
     }
 }
@@ -127,6 +132,7 @@ fn writes_all<R: Threads + Wait + Sync>(
         seen,
         kept: Vec::new(alloc),
         waits_for,
+        faults: 0,
     };
     let answer = live(
         rt,
