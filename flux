@@ -248,3 +248,235 @@ version() {
 answer() { "$1" 2>/dev/null || { echo "$name: cannot write" >&2; exit 5; }; exit 0; }
 stop() { echo "$name: $1" >&2; exit 70; }
 is_command() { [ "$name" = flux ] && case ${1-} in run | eval | replay | make | trial | move | trio) ;; *) return 1 ;; esac; }
+
+# Ends with 2, and says which help to ask for: that of the command where the first word is one.
+end_with_2() {
+  local command=''
+  ! is_command "${1-}" || command="$1 "
+  echo "$name: see ./$name $command--help" >&2
+  exit 2
+}
+
+# Ends with 2 where the words of `run` or `trial` name a journal that is one of the input files, which it would replace.
+check_journal() {
+  local journal='' option value plain=() inputs=() most=2 it
+  [ "$1" = run ] || most=1
+  shift
+  while [ $# -gt 0 ]; do
+    case $1 in
+      --*=*) option=${1%%=*} value=${1#*=} ;;
+      --*) option=$1 value=${2-}; [ $# -eq 1 ] || shift ;;
+      *) option='' value=$1 ;;
+    esac
+    case $option in
+      '') plain+=("$value") ;;
+      --journal) journal=$value ;;
+      --cash | --script) inputs+=("$value") ;;
+    esac
+    shift
+  done
+  [ -n "$journal" ] || return 0
+  # The words behind the plan are no files of `trial`.
+  for it in "${plain[@]:0:most}" "${inputs[@]}"; do
+    [ ! "$journal" -ef "$it" ] || { echo "flux: $journal: the journal is one of the inputs" >&2; return 2; }
+  done
+}
+
+# Fills `crates` with the program, after those crates of the repository that it stands on.
+declare -A below
+crates=()
+add() {
+  local it
+  [[ -n ${below[$1]+is there} && " ${crates[*]-} " != *" $1 "* ]] || return 0
+  for it in ${below[$1]}; do add "$it"; done
+  crates+=("$1")
+}
+list_crates() {
+  local crate list
+  [ ${#crates[@]} -eq 0 ] || return 0
+  while IFS=: read -r crate list; do [[ $crate != [a-z]* ]] || below[$crate]=$list; done <"$top/crates.txt"
+  add "${main##*/}"
+}
+
+# Lists the files and folders of the sources, which are about to be summed up. What changes behind the list has a later time than it,
+# also by a clock that ticks slowly.
+look() {
+  list_crates
+  { : >"$looked.$$.time"; } 2>/dev/null || return 0
+  sleep 0.02
+  (cd "$top" && printf '%s\0' "${program#"$top/"}" && find crates.txt "${crates[@]/#/crates/}" -name out -prune -o -type d -print0 \
+    -o -name '*.rt' -print0 -o -name '*.antt' -print0 -o -name crates.txt -print0) >"$looked.$$"
+  touch -r "$looked.$$.time" "$looked.$$"
+  rm -f "$looked.$$.time"
+}
+# The names and contents of all that the program is made from, so that a file that is gone is a change too.
+sources() {
+  list_crates
+  (cd "$top" && find crates.txt "${crates[@]/#/crates/}" -name out -prune -o -type f -name '*.rt' -print0 \
+    -o -type f -name '*.antt' -print0 -o -name crates.txt -print0 | LC_ALL=C sort -z | xargs -0 sha256sum | sha256sum)
+}
+# Keeps this sum, of the sources that were looked at last, as that of the program.
+keep() { { echo "$1"; sha256sum <"$program"; } >"$stamp" && have_looked; }
+have_looked() { mv "$looked.$$" "$looked" 2>/dev/null; }
+# Whether no file and no folder has changed since they were summed up last: a new file changes its folder.
+is_as_looked() {
+  local newer
+  [ -e "$looked" ] || return 1
+  newer=$(cd "$top" && exec find -files0-from "$looked" -maxdepth 0 -cnewer "$looked" -print -quit 2>&1)
+  # An older find takes no list from a file.
+  [[ $newer != *-files0-from* ]] ||
+    newer=$(cd "$top" && xargs -0 -a "$looked" sh -c 'exec find "$@" -maxdepth 0 -cnewer "$0" -print -quit' "$looked" 2>&1)
+  [ -z "$newer" ]
+}
+is_fresh() {
+  [ -x "$program" ] && [ -e "$stamp" ] || return 1
+  ! is_as_looked || return 0
+  look
+  if [ "$(sources; sha256sum <"$program")" = "$(cat "$stamp")" ]; then
+    have_looked
+    return 0
+  fi
+  rm -f "$looked.$$"
+  return 1
+}
+
+# Copies what the crates are made from, without their must-fail edits, into a folder of its own, as `rt ci` proves a whole
+# repository: there it has no crate that the program doesn't stand on.
+copy_sources() {
+  local crate parts it
+  mkdir -p "$1/crates" "$1/.git" && cp "$top/HANDLES" "$1" || return 1
+  for crate in "${crates[@]}"; do
+    parts=()
+    for it in src specs proofs data stdin stdout args status; do
+      [ ! -e "$top/crates/$crate/$it" ] || parts+=("$top/crates/$crate/$it")
+    done
+    mkdir "$1/crates/$crate" && cp -R "${parts[@]}" "$1/crates/$crate" || return 1
+    grep -E "^$crate( [a-z_]+=[^:]*)? *:" "$top/crates.txt" >>"$1/crates.txt" || return 1
+  done
+}
+
+# Stops where the folder's disk, or the memory, has less than the build takes.
+check_space() {
+  local free limit
+  free=$(df -Pk "$1" 2>/dev/null | awk 'NR == 2 { print int($4 / 1048576) }')
+  [ -z "$free" ] || [ "$free" -ge "$DISK" ] ||
+    stop "not built: it takes $DISK GiB of disk in $1, and $free are free; TMPDIR names another folder"
+  free=$(free -k 2>/dev/null | awk '/^Mem:/ { print int($7 / 1048576) }')
+  limit=$(cat /sys/fs/cgroup/memory.max 2>/dev/null)
+  [[ ! $limit =~ ^[0-9]+$ ]] || [ -z "$free" ] || ((limit / 1073741824 >= free)) || free=$((limit / 1073741824))
+  [ -z "$free" ] || [ "$free" -ge "$MEMORY" ] || stop "not built: it takes $MEMORY GiB of memory, and $free are free"
+}
+
+# Says how far the build is: on a terminal in one line that stays in its place, else in a line for each crate.
+tell() {
+  local front='' end=$'\n'
+  [ ! -t 2 ] || { front=$'\r\e[K' end=''; }
+  printf '%s%s: proved %s of %s crates in %s minutes%s' "$front" "$name" "$1" "${#crates[@]}" $((SECONDS / 60)) "$end" >&2
+}
+
+# Reads what `rt ci` says, and hands it on to the log. At the first crate that isn't proved it ends `rt ci`, which would go on with
+# others, and leaves the crate's name in `failed`.
+watch() {
+  local line part='' number=0 status
+  failed='' SECONDS=0
+  while :; do
+    IFS= read -r -t 20 line
+    status=$?
+    if [ "$status" -gt 128 ]; then
+      # Nothing came for a while: on a terminal the minutes go on.
+      part+=$line
+      [ ! -t 2 ] || tell "$number"
+      continue
+    fi
+    [ "$status" -eq 0 ] || break
+    line=$part$line part=''
+    echo "$line"
+    case $line in
+      "rt: "*" NOT PROVED"*) failed=${line#rt: } failed=${failed%%[ :]*}; kill "$1"; break ;;
+      "rt: "*" proved") tell $((number += 1)) ;;
+    esac
+  done
+  [ ! -t 2 ] || echo >&2
+}
+
+# Makes the folder for the build, whose name `room` then has: the same each time, so that the toolchain can know it again. What a
+# killed call left in it is gone then.
+make_room() {
+  local folder=${TMPDIR:-/tmp}
+  folder=${folder%/}/flux-build-$(id -u)-$(cksum <<<"$top" | cut -d ' ' -f 1)
+  { rm -rf "$folder" && mkdir -m 700 "$folder"; } 2>/dev/null && room=$folder
+}
+
+# Proves and builds the program by `rt ci`, which has as many crates in hand at a time as there are processors and memory. Where
+# the toolchain keeps what it passed, it proves only what has changed since. An ended call leaves nothing behind.
+build() {
+  local from status
+  said='' room=''
+  command -v rt >/dev/null 2>&1 || stop "not built: the toolchain's command rt is not on the PATH"
+  { mkdir -p "$main/out" && : >"$log"; } 2>/dev/null || stop "not built: $main/out can't be written"
+  check_space "${TMPDIR:-/tmp}"
+  trap '[ -z "$said" ] || { kill "$said"; wait "$said"; } 2>/dev/null; [ -z "$room" ] || rm -rf "$room"; rm -f "$looked.$$"*' EXIT
+  trap 'exit 70' INT TERM HUP
+  make_room || stop "not built: there can be no folder for it in ${TMPDIR:-/tmp}"
+  echo "$name: proving and building the program; $HOW_LONG" >&2
+  echo "$name: the log is $log" >&2
+  look
+  from=$(sources)
+  copy_sources "$room" || stop "not built: its sources can't be copied to $room"
+  exec 8< <(cd "$room" && exec rt ci 2>&1 </dev/null 9<&-)
+  said=$!
+  watch "$said" <&8 >>"$log"
+  wait "$said" 2>/dev/null
+  status=$?
+  said=''
+  exec 8<&-
+  if [ -n "$failed" ] || [ "$status" -ne 0 ] || ! cp "$room/${program#"$top/"}" "$program"; then
+    echo "$name: the build failed${failed:+ at $failed}; $log has all that was said, and last:" >&2
+    grep -vE '^(statements|library|crate|logic) |: proved$' "$log" | tail -n 20 | cut -c 1-300 >&2
+    exit 70
+  fi
+  rm -rf "$room"
+  trap - EXIT INT TERM HUP
+  keep "$from"
+}
+
+# .ci/run sources this file, to keep the sum of what the gate has built.
+[ "${BASH_SOURCE[0]}" = "$0" ] || return 0
+
+case $#,${1-} in
+  0,) echo "$usage" >&2; end_with_2 ;;
+  1,--help | 1,-h | 1,help) [ "$name" = flux ] || answer help_live; answer help ;;
+  1,--version | 1,-V) answer version ;;
+  2,--help | 2,-h | 2,help) ! is_command "$2" || answer "help_$2" ;;
+esac
+# No file can have such a name.
+for it in "${@:2}"; do
+  [[ $it == --help || $it == -h ]] || continue
+  [ "$name" = flux ] || answer help_live
+  ! is_command "$1" || answer "help_$1"
+done
+if [ "$name" = flux ]; then
+  case $1 in run | trial) check_journal "$@" || end_with_2 "$1" ;; esac
+fi
+if ! is_fresh; then
+  # Of several first calls one builds, and the others wait for it.
+  exec 9<"$top"
+  flock -n 9 || { echo "$name: another call is building a program; waiting for it" >&2; flock 9; }
+  is_fresh || build
+  exec 9<&-
+fi
+
+# Runs the program, of which the status is to be seen. A signal that ends this call ends the program too, and then this call as usual.
+end_by() {
+  trap - "$1"
+  kill -s TERM "$child"
+  wait "$child"
+  kill -s "$1" "$$"
+}
+"$program" "$@" <&0 &
+child=$!
+for signal in INT QUIT TERM HUP; do trap "end_by $signal 2>/dev/null" "$signal"; done
+wait "$child" 2>/dev/null
+status=$?
+[ "$status" -ne 2 ] || end_with_2 "$1"
+exit "$status"
