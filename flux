@@ -298,13 +298,14 @@ list_crates() {
   add "${main##*/}"
 }
 
-# Lists the files and folders of the sources, which are about to be summed up. What changes behind the list has a later time than it,
-# also by a clock that ticks slowly.
+# Lists the files and folders of the sources, which are about to be summed up: code, contracts and definitions. Proofs aren't among
+# them, as they make no other program. What changes behind the list has a later time than it, also by a clock that ticks slowly.
+left_out=('(' -name out -o -name proofs -o -name must-fail -o -name data ')' -prune)
 look() {
   list_crates
   { : >"$looked.$$.time"; } 2>/dev/null || return 0
   sleep 0.02
-  (cd "$top" && printf '%s\0' "${program#"$top/"}" && find crates.txt "${crates[@]/#/crates/}" -name out -prune -o -type d -print0 \
+  (cd "$top" && printf '%s\0' "${program#"$top/"}" && find crates.txt "${crates[@]/#/crates/}" "${left_out[@]}" -o -type d -print0 \
     -o -name '*.rt' -print0 -o -name '*.antt' -print0 -o -name crates.txt -print0) >"$looked.$$"
   touch -r "$looked.$$.time" "$looked.$$"
   rm -f "$looked.$$.time"
@@ -312,7 +313,7 @@ look() {
 # The names and contents of all that the program is made from, so that a file that is gone is a change too.
 sources() {
   list_crates
-  (cd "$top" && find crates.txt "${crates[@]/#/crates/}" -name out -prune -o -type f -name '*.rt' -print0 \
+  (cd "$top" && find crates.txt "${crates[@]/#/crates/}" "${left_out[@]}" -o -type f -name '*.rt' -print0 \
     -o -type f -name '*.antt' -print0 -o -name crates.txt -print0 | LC_ALL=C sort -z | xargs -0 sha256sum | sha256sum)
 }
 # Keeps this sum, of the sources that were looked at last, as that of the program.

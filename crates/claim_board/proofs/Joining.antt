@@ -9,7 +9,7 @@ use Rattle.atomic_table.specs.Table.{State, Joins}
 use Rattle.atomic_table.proofs.Lists.{at_set, set_else}
 use Rattle.claim_board.specs.declared.view.SeatView.{SeatView}
 use Rattle.claim_board.specs.Lists.{is_in}
-use Rattle.claim_board.specs.Rule.{Homes, IsLive, has_number, Numbers, NoneLost, SpentHoldNothing, IsHome, Claims, Halts, BoardRule}
+use Rattle.claim_board.specs.Rule.{Homes, IsLive, has_number, Numbers, NoneLost, SpentHoldNothing, IsHome, Claims, Halts, BoardRule, halt_word_of}
 use Rattle.claim_board.specs.Steps.{with_seat, spent}
 use Rattle.claim_board.proofs.Lists.{false≢true, in_head, in_more, in_front, in_back, in_append, in_split, one_at, put_at, or_cases, or_left, or_right, not_so}
 use Rattle.claim_board.proofs.Seats.{has_own, own_or_joined, own_within}
@@ -158,8 +158,8 @@ module _ {T : Type 0} (views : List (SeatView T)) (id other : ℕ) (v w : SeatVi
     halts_joined : (words : List ℕ) → Halts opening words views → Halts opening words after
     halts_joined words h = record {
       word = h.word;
-      stored = each_left (λ j u. u.stored ≡ true → slice_index words (length opening) ≡ 1) (λ e. ⊎_elim (h.stored id v me) (h.stored other w them) (or_cases v.stored w.stored e)) (λ j u n o. h.stored j u);
-      found = each_left (λ j u. u.last_load ≡ 1 → slice_index words (length opening) ≡ 1) (h.found id v me) (λ j u n o. h.found j u);
+      stored = each_left (λ j u. u.stored ≡ true → slice_index words (halt_word_of (length opening)) ≡ 1) (λ e. ⊎_elim (h.stored id v me) (h.stored other w them) (or_cases v.stored w.stored e)) (λ j u n o. h.stored j u);
+      found = each_left (λ j u. u.last_load ≡ 1 → slice_index words (halt_word_of (length opening)) ≡ 1) (h.found id v me) (λ j u n o. h.found j u);
     }
 
 module _ {T Name : Type 0} (name : T → Name) (opening : List T) (seats : ℕ) where

@@ -8,7 +8,7 @@ use Rattle.atomic_table.specs.Table.{State, Act, keeps, takes, gives, step, step
 use Rattle.atomic_table.proofs.Lists.{exchanged}
 use Rattle.claim_board.specs.declared.view.SeatView.{SeatView}
 use Rattle.claim_board.specs.Lists.{is_in}
-use Rattle.claim_board.specs.Rule.{IsLive, has_number, IsNamedAt, Halts, BoardRule}
+use Rattle.claim_board.specs.Rule.{IsLive, has_number, IsNamedAt, Halts, BoardRule, halt_word_of}
 use Rattle.claim_board.specs.Steps.{Seated, with_place, without_place, with_loss, with_load, with_halt, IsAnothers, Tries, Releases, Loads, Stores}
 use Rattle.claim_board.proofs.Lists.{stored_again, written_else, written_here, one_at, not_so}
 use Rattle.claim_board.proofs.Seats.{SameSeat, each_after, own_within, has_own, numbers_kept, none_lost_kept, spent_kept}
@@ -17,11 +17,11 @@ use Rattle.claim_board.proofs.Places.{claims_same, claims_won, claims_released}
 module _ {T : Type 0} where
   -- the halt word stays, and what the seat knows of it
   pub halts_same : (opening : List T) (words after : List ℕ) (views : List (SeatView T)) (id : ℕ) (v w : SeatView T) (at : get_elem? views id ≡ some v) → SameSeat v w → w.stored ≡ v.stored → w.last_load ≡ v.last_load
-      → slice_index after (length opening) ≡ slice_index words (length opening) → Halts opening words views → Halts opening after (set views id w)
+      → slice_index after (halt_word_of (length opening)) ≡ slice_index words (halt_word_of (length opening)) → Halts opening words views → Halts opening after (set views id w)
   halts_same opening words after views id v w at same_seat stored found agree h = record {
     word = ⊎_elim (λ z. inl (agree ∙ z)) (λ z. inr (agree ∙ z)) h.word;
-    stored = each_after views id v w at same_seat (λ j u. u.stored ≡ true → slice_index after (length opening) ≡ 1) (λ me e. agree ∙ h.stored id v me (sym stored ∙ e)) (λ j u n l e. agree ∙ h.stored j u l e);
-    found = each_after views id v w at same_seat (λ j u. u.last_load ≡ 1 → slice_index after (length opening) ≡ 1) (λ me e. agree ∙ h.found id v me (sym found ∙ e)) (λ j u n l e. agree ∙ h.found j u l e);
+    stored = each_after views id v w at same_seat (λ j u. u.stored ≡ true → slice_index after (halt_word_of (length opening)) ≡ 1) (λ me e. agree ∙ h.stored id v me (sym stored ∙ e)) (λ j u n l e. agree ∙ h.stored j u l e);
+    found = each_after views id v w at same_seat (λ j u. u.last_load ≡ 1 → slice_index after (halt_word_of (length opening)) ≡ 1) (λ me e. agree ∙ h.found id v me (sym found ∙ e)) (λ j u n l e. agree ∙ h.found j u l e);
   }
 
 module _ {T Name : Type 0} (name : T → Name) (opening : List T) (seats : ℕ) where
@@ -68,7 +68,7 @@ module _ {T Name : Type 0} (name : T → Name) (opening : List T) (seats : ℕ) 
           none_lost = none_lost_kept s.views id v (with_place k v) at same_seat h.made h.none_lost;
           spent = spent_kept s.views id v (with_place k v) at same_seat live h.spent;
           claims = claims_won name opening words s.homes s.views id v at h.claims k live seats h.made h.numbers lt (omega (arith, h.word_count)) (omega (arith, h.slot_count)) z;
-          halts = halts_same opening words (set words k v.number) s.views id v (with_place k v) at same_seat refl refl (written_else words k (length opening) v.number (λ e. omega arith)) h.halts;
+          halts = halts_same opening words (set words k v.number) s.views id v (with_place k v) at same_seat refl refl (written_else words k (halt_word_of (length opening)) v.number (λ e. omega arith)) h.halts;
         },
         ((λ _. (refl, (home.0, refl, subst (λ o. IsNamedAt name o k home.0) (sym same) home.2))), λ nz. absurd (nz z)),
       ))
@@ -85,7 +85,7 @@ module _ {T Name : Type 0} (name : T → Name) (opening : List T) (seats : ℕ) 
           none_lost = none_lost_kept s.views id v w at lose h.made h.none_lost;
           spent = spent_kept s.views id v w at lose live h.spent;
           claims = claims_same name opening words s.homes s.views id v at h.claims w (set words k (slice_index words k)) lose refl (λ j _. stored_again words k j);
-          halts = halts_same opening words (set words k (slice_index words k)) s.views id v w at lose refl refl (stored_again words k (length opening)) h.halts;
+          halts = halts_same opening words (set words k (slice_index words k)) s.views id v w at lose refl refl (stored_again words k (halt_word_of (length opening))) h.halts;
         },
         (
           (λ z. absurd (nz z)),
@@ -131,15 +131,15 @@ module _ {T Name : Type 0} (name : T → Name) (opening : List T) (seats : ℕ) 
               none_lost = none_lost_kept s.views id v (without_place k v) at same_seat h.made h.none_lost;
               spent = spent_kept s.views id v (without_place k v) at same_seat live h.spent;
               claims = claims_released name opening words s.homes s.views id v at h.claims k live seats h.made h.numbers lt (omega (arith, h.word_count)) (omega (arith, h.slot_count)) holds x named;
-              halts = halts_same opening words (set words k 0) s.views id v (without_place k v) at same_seat refl refl (written_else words k (length opening) 0 (λ e. omega arith)) h.halts;
+              halts = halts_same opening words (set words k 0) s.views id v (without_place k v) at same_seat refl refl (written_else words k (halt_word_of (length opening)) 0 (λ e. omega arith)) h.halts;
             },
             (refl, refl),
           )
 
   -- a load of the halt word
-  pub loads : (slots id : ℕ) (m : Seated T) → m.0.live ≡ true → Allows (BoardRule name opening seats) slots id m (length opening) (λ n. n) (Loads (step slots (length opening) 0 0 none) m)
+  pub loads : (slots id : ℕ) (m : Seated T) → m.0.live ≡ true → Allows (BoardRule name opening seats) slots id m (halt_word_of (length opening)) (λ n. n) (Loads (step slots (halt_word_of (length opening)) 0 0 none) m)
   loads slots id m live s h long at room =
-      let i : ℕ = length opening in
+      let i : ℕ = halt_word_of (length opening) in
       let words : List ℕ = s.words in
       let v : SeatView T = m.0 in
       let found : ℕ = slice_index words i in
@@ -170,9 +170,9 @@ module _ {T Name : Type 0} (name : T → Name) (opening : List T) (seats : ℕ) 
       same_seat found = record { live = refl; number = refl; joined = refl; opening = refl; seats = refl; makes = refl }
 
   -- a store of 1 to the halt word
-  pub halts : (slots id : ℕ) (m : Seated T) → m.0.live ≡ true → Allows (BoardRule name opening seats) slots id m (length opening) (λ _. 1) (λ _. Stores (step slots (length opening) 1 0 none) m 1)
+  pub halts : (slots id : ℕ) (m : Seated T) → m.0.live ≡ true → Allows (BoardRule name opening seats) slots id m (halt_word_of (length opening)) (λ _. 1) (λ _. Stores (step slots (halt_word_of (length opening)) 1 0 none) m 1)
   halts slots id m live s h long at room =
-      let i : ℕ = length opening in
+      let i : ℕ = halt_word_of (length opening) in
       let words : List ℕ = s.words in
       let v : SeatView T = m.0 in
       let w = with_halt v in
@@ -202,10 +202,10 @@ module _ {T Name : Type 0} (name : T → Name) (opening : List T) (seats slots i
       → Allows (BoardRule name opening seats) slots id m k (λ f. either (f == 0) n f) (Tries name (step slots k 0 n none) m)
   claims_by k n is same lt away = subst (λ i. Allows (BoardRule name opening seats) slots id m k (λ f. either (f == 0) i f) (Tries name (step slots k 0 i none) m)) (sym is) (claims name opening seats slots id k m live same lt away)
 
-  pub loads_at : (i : ℕ) → length opening ≡ i → Allows (BoardRule name opening seats) slots id m i (λ n. n) (Loads (step slots i 0 0 none) m)
+  pub loads_at : (i : ℕ) → halt_word_of (length opening) ≡ i → Allows (BoardRule name opening seats) slots id m i (λ n. n) (Loads (step slots i 0 0 none) m)
   loads_at i is = subst (λ i. Allows (BoardRule name opening seats) slots id m i (λ n. n) (Loads (step slots i 0 0 none) m)) is (loads name opening seats slots id m live)
 
-  pub halts_at : (i : ℕ) → length opening ≡ i → Allows (BoardRule name opening seats) slots id m i (λ _. 1) (λ _. Stores (step slots i 1 0 none) m 1)
+  pub halts_at : (i : ℕ) → halt_word_of (length opening) ≡ i → Allows (BoardRule name opening seats) slots id m i (λ _. 1) (λ _. Stores (step slots i 1 0 none) m 1)
   halts_at i is = subst (λ i. Allows (BoardRule name opening seats) slots id m i (λ _. 1) (λ _. Stores (step slots i 1 0 none) m 1)) is (halts name opening seats slots id m live)
 
 module _ {T Name : Type 0} (name : T → Name) (opening : List T) (seats : ℕ) where

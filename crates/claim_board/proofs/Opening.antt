@@ -6,7 +6,7 @@ use lib.ListN.{get_elem?, length-map, length-replicate}
 use Rattle.atomic_table.specs.Table.{opening as table_opening}
 use Rattle.claim_board.specs.declared.view.SeatView.{SeatView}
 use Rattle.claim_board.specs.Lists.{is_in}
-use Rattle.claim_board.specs.Rule.{has_number, BoardRule}
+use Rattle.claim_board.specs.Rule.{has_number, BoardRule, halt_word_of, word_count_of}
 use Rattle.claim_board.specs.Steps.{first_seat}
 use Rattle.claim_board.proofs.Lists.{false≢true, zero_not_one}
 use Rattle.claim_board.proofs.Seats.{has_own, own_or_joined}
@@ -38,10 +38,10 @@ module _ {T Name : Type 0} (name : T → Name) (seats : ℕ) (some_seat : 0 < se
   is_one xs m h = ⊎_elim (λ (p : m ≡ 1). p) (λ (p : false ≡ true). absurd (false≢true p)) (own_or_joined m (seat_one xs) h)
 
   -- each claim word is 0, each value at home, and there is one seat
-  pub begins : (xs : List T) → BoardRule name xs seats (table_opening (replicate (length xs + 1) 0) (map Some xs) (seat_one xs))
+  pub begins : (xs : List T) → BoardRule name xs seats (table_opening (replicate (word_count_of (length xs)) 0) (map Some xs) (seat_one xs))
   begins xs = record {
     made = 1;
-    word_count = length-replicate (length xs + 1) 0;
+    word_count = length-replicate (word_count_of (length xs)) 0;
     slot_count = length-map (map Some xs) some ∙ length-map xs Some;
     numbers = record {
       made_fits = omega (arith, some_seat);
@@ -57,20 +57,20 @@ module _ {T Name : Type 0} (name : T → Name) (seats : ℕ) (some_seat : 0 < se
     spent = each_first xs (λ j v. v.live ≡ false → v.holds ≡ []) (λ not_live. refl);
     claims = record {
       free = λ k lt z. let t = wrapped_at xs k lt in (t.0, t.1, (t.0, t.2, refl));
-      claimed = λ k lt nz. absurd (nz (zero_at (length xs + 1) k));
-      held = λ j v k l. each_first xs (λ j v. is_in k v.holds ≡ true → (k < length xs) × (slice_index (replicate (length xs + 1) 0) k ≡ v.number)) (λ h. absurd (false≢true h)) j v l.at;
+      claimed = λ k lt nz. absurd (nz (zero_at (word_count_of (length xs)) k));
+      held = λ j v k l. each_first xs (λ j v. is_in k v.holds ≡ true → (k < length xs) × (slice_index (replicate (word_count_of (length xs)) 0) k ≡ v.number)) (λ h. absurd (false≢true h)) j v l.at;
     };
     halts = record {
-      word = inl (zero_at (length xs + 1) (length xs));
-      stored = λ j v l. each_first xs (λ j v. v.stored ≡ true → slice_index (replicate (length xs + 1) 0) (length xs) ≡ 1) (λ h. absurd (false≢true h)) j v l.at;
-      found = λ j v l. each_first xs (λ j v. v.last_load ≡ 1 → slice_index (replicate (length xs + 1) 0) (length xs) ≡ 1) (λ h. absurd (zero_not_one 0 refl h)) j v l.at;
+      word = inl (zero_at (word_count_of (length xs)) (halt_word_of (length xs)));
+      stored = λ j v l. each_first xs (λ j v. v.stored ≡ true → slice_index (replicate (word_count_of (length xs)) 0) (halt_word_of (length xs)) ≡ 1) (λ h. absurd (false≢true h)) j v l.at;
+      found = λ j v l. each_first xs (λ j v. v.last_load ≡ 1 → slice_index (replicate (word_count_of (length xs)) 0) (halt_word_of (length xs)) ≡ 1) (λ h. absurd (zero_not_one 0 refl h)) j v l.at;
     };
   }
 
   -- the same of what the code has for the values, the words and the slots
-  pub begins_by : (xs ys : List T) (ws : List ℕ) (slots : List (Option T)) (n : ℕ) → ys ≡ xs → ws ≡ replicate n 0 → n ≡ length xs + 1 → slots ≡ map Some xs → BoardRule name ys seats (table_opening ws slots (seat_one ys))
+  pub begins_by : (xs ys : List T) (ws : List ℕ) (slots : List (Option T)) (n : ℕ) → ys ≡ xs → ws ≡ replicate n 0 → n ≡ word_count_of (length xs) → slots ≡ map Some xs → BoardRule name ys seats (table_opening ws slots (seat_one ys))
   begins_by xs ys ws slots n e w l s =
-      let words : ws ≡ replicate (length xs + 1) 0 = w ∙ ap (λ (i : ℕ). replicate i 0) l in
+      let words : ws ≡ replicate (word_count_of (length xs)) 0 = w ∙ ap (λ (i : ℕ). replicate i 0) l in
       subst (λ (y : List T). BoardRule name y seats (table_opening ws slots (seat_one y))) (sym e)
       (subst (λ (o : List (Option T)). BoardRule name xs seats (table_opening ws o (seat_one xs))) (sym s)
       (subst (λ (o : List ℕ). BoardRule name xs seats (table_opening o (map Some xs) (seat_one xs))) (sym words) (begins xs)))

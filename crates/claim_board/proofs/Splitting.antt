@@ -9,7 +9,7 @@ use Rattle.atomic_table.specs.Table.{Splits}
 use Rattle.atomic_table.proofs.Lists.{at_longer, at_last}
 use Rattle.claim_board.specs.declared.view.SeatView.{SeatView}
 use Rattle.claim_board.specs.Lists.{is_in}
-use Rattle.claim_board.specs.Rule.{Homes, IsLive, has_number, Numbers, NoneLost, SpentHoldNothing, Claims, Halts, BoardRule}
+use Rattle.claim_board.specs.Rule.{Homes, IsLive, has_number, Numbers, NoneLost, SpentHoldNothing, Claims, Halts, BoardRule, halt_word_of}
 use Rattle.claim_board.specs.Steps.{with_next, next_seat}
 use Rattle.claim_board.proofs.Lists.{false≢true, zero_not_one, at_end}
 use Rattle.claim_board.proofs.Seats.{SameSeat, each_after, was, same_numbers, has_own, own_or_joined, numbers_moved, none_lost_kept, spent_kept}
@@ -90,8 +90,8 @@ module _ {T : Type 0} (opening : List T) (seats made : ℕ) (views : List (SeatV
   halts_added : (words : List ℕ) → Halts opening words views → Halts opening words (views ++ w ∷ [])
   halts_added words h = record {
     word = h.word;
-    stored = each_added (λ j u. u.stored ≡ true → slice_index words (length opening) ≡ 1) h.stored (λ e. absurd (false≢true (sym new.stored ∙ e)));
-    found = each_added (λ j u. u.last_load ≡ 1 → slice_index words (length opening) ≡ 1) h.found (λ e. absurd (zero_not_one w.last_load new.found e));
+    stored = each_added (λ j u. u.stored ≡ true → slice_index words (halt_word_of (length opening)) ≡ 1) h.stored (λ e. absurd (false≢true (sym new.stored ∙ e)));
+    found = each_added (λ j u. u.last_load ≡ 1 → slice_index words (halt_word_of (length opening)) ≡ 1) h.found (λ e. absurd (zero_not_one w.last_load new.found e));
   }
 
 module _ {T Name : Type 0} (name : T → Name) (opening : List T) (seats : ℕ) where

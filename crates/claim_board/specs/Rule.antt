@@ -1,5 +1,5 @@
 -- The rule of the board: what holds between any two atomic steps of any seats.
--- The word of each place is its claim word. The word behind these is the halt word.
+-- The word of each place is its claim word. Behind these stands the halt word, between words that nobody uses.
 -- A slot that no seat has taken is at home.
 use Rattle.std.specs.Prelude.{◌≡◌, ◌≢◌, ℕ, ◌+◌, ◌<◌, ◌≤◌, Bool, true, false, ◌==◌, ◌||◌, ◌⊎◌, List, [], length, slice_index, Option, Some}
 use mathlib.Core.Option.{some, none}
@@ -8,6 +8,18 @@ use lib.ListN.{get_elem?}
 use Rattle.atomic_table.specs.Table.{State}
 use Rattle.claim_board.specs.declared.view.SeatView.{SeatView}
 use Rattle.claim_board.specs.Lists.{is_in}
+
+-- so many words that nobody uses stand before the halt word and behind it: they keep it out of the cache lines of the claim words
+abbrev pub spare_words : ℕ
+spare_words = 15
+
+-- the place of the halt word among the words
+abbrev pub halt_word_of : ℕ → ℕ
+halt_word_of places = places + spare_words
+
+-- how many words a board of so many places has
+abbrev pub word_count_of : ℕ → ℕ
+word_count_of places = halt_word_of places + (1 + spare_words)
 
 -- what the slots have at home: none where a seat has taken the slot
 abbrev pub Homes : Type 0 → Type 0
@@ -50,9 +62,9 @@ module _ {T : Type 0} where
 
   -- the halt word is 0 or 1, and 1 where a live seat has stored it or found it last
   pub record Halts (opening : List T) (words : List ℕ) (views : List (SeatView T)) : Type 0 where
-    pub word : (slice_index words (length opening) ≡ 0) ⊎ (slice_index words (length opening) ≡ 1)
-    pub stored : (j : ℕ) (v : SeatView T) → IsLive views j v → v.stored ≡ true → slice_index words (length opening) ≡ 1
-    pub found : (j : ℕ) (v : SeatView T) → IsLive views j v → v.last_load ≡ 1 → slice_index words (length opening) ≡ 1
+    pub word : (slice_index words (halt_word_of (length opening)) ≡ 0) ⊎ (slice_index words (halt_word_of (length opening)) ≡ 1)
+    pub stored : (j : ℕ) (v : SeatView T) → IsLive views j v → v.stored ≡ true → slice_index words (halt_word_of (length opening)) ≡ 1
+    pub found : (j : ℕ) (v : SeatView T) → IsLive views j v → v.last_load ≡ 1 → slice_index words (halt_word_of (length opening)) ≡ 1
 
 module _ {T Name : Type 0} (name : T → Name) where
   -- the value has the name of the value with which the board began at place k
@@ -77,7 +89,7 @@ module _ {T Name : Type 0} (name : T → Name) where
   pub record BoardRule (opening : List T) (seats : ℕ) (s : State (Option T) (SeatView T)) : Type 0 where
     -- so many seats were made
     pub made : ℕ
-    pub word_count : length s.words ≡ length opening + 1
+    pub word_count : length s.words ≡ word_count_of (length opening)
     pub slot_count : length s.homes ≡ length opening
     pub numbers : Numbers opening seats made s.views
     pub none_lost : NoneLost made s.views

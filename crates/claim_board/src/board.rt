@@ -1,5 +1,6 @@
 // The board, and the calls that threads make between its making and its closing.
-ghost use Rattle.std.specs.Prelude.{◌≡◌, ◌+◌, ◌<◌, length};
+ghost use Rattle.claim_board.specs.Rule.{halt_word_of, word_count_of};
+ghost use Rattle.std.specs.Prelude.{◌≡◌, ◌<◌, length};
 
 use crate::rule::{Claim, Halt, Look, OfBoard, Opening, Release};
 use crate::seat::BoardSeat;
@@ -21,7 +22,10 @@ pub struct Taken {
 pub struct Board<T: Named> {
     pub(crate) table: Table<Option<T>, SeatView<T>, Opening<T>, OfBoard<T>, Global>,
     pub(crate) places: usize,
-    ghost word_count: { table.shared.table_id.words ≡ places + 1 },
+    // The place of the halt word among the words.
+    pub(crate) halt_word: usize,
+    ghost halt_place: { halt_word ≡ halt_word_of places },
+    ghost word_count: { table.shared.table_id.words ≡ word_count_of places },
     ghost slot_count: { table.shared.table_id.slots ≡ places },
     ghost value_count: { length table.shared.key.values.value.items ≡ places },
     ghost seated: { 0 < table.shared.key.seats },
@@ -90,7 +94,7 @@ impl<T: Named> Board<T> {
         ensures view { seat_view seat.new ≡ with_halt (seat_view seat.old) }
     {
         let shared = &self.table.shared;
-        shared.store::<Halt>(&mut seat.seat, self.places, 1);
+        shared.store::<Halt>(&mut seat.seat, self.halt_word, 1);
     }
 
     /// Whether the halt word is set, by one load.
@@ -109,6 +113,6 @@ impl<T: Named> Board<T> {
         ensures again { (seat_view seat.old).last_load ≡ 1 → IsTrue result }
     {
         let shared = &self.table.shared;
-        shared.load::<Look>(&mut seat.seat, self.places) == 1
+        shared.load::<Look>(&mut seat.seat, self.halt_word) == 1
     }
 }

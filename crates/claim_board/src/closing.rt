@@ -28,7 +28,11 @@ impl<T: Named> Board<T> {
         let Some(all) = self.gather(seats) else {
             unreachable!()
         };
-        let Board { table, places } = self;
+        let Board {
+            table,
+            places,
+            halt_word: _,
+        } = self;
         let BoardSeat {
             seat,
             number: _,

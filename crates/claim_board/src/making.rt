@@ -12,6 +12,10 @@ use std::alloc::Global;
 use std::collections::VecDeque;
 use std::snapshot::Snapshot;
 
+// So many words that nobody uses stand before the halt word, and behind it, so that no store to a claim word takes its line
+// from the caches of those that look at it.
+const SPARE_WORDS: usize = 15;
+
 impl<T: Named> Board<T> {
     ghost use Rattle.claim_board.specs.Steps.{first_seat, with_next, next_seat};
     ghost use Rattle.claim_board.specs.Board.{seat_view, opening_of, seats_of, IsSeatOf, AllHoldNone, AreAll, AreNew};
@@ -37,7 +41,8 @@ impl<T: Named> Board<T> {
             seats,
         };
         let places = items.len();
-        let words = vec![in alloc; 0u64; places + 1]?;
+        let halt_word = places + SPARE_WORDS;
+        let words = vec![in alloc; 0u64; halt_word + 1 + SPARE_WORDS]?;
         let list = Vec::with_capacity(alloc, places)?;
         let held = VecDeque::with_capacity(alloc, places)?;
         let slots = slots_of(alloc, items)?;
@@ -45,7 +50,11 @@ impl<T: Named> Board<T> {
             Ok(made) => made,
             Err(Refused { slots: _ }) => return Err(OutOfMemory),
         };
-        let board = Board { table, places };
+        let board = Board {
+            table,
+            places,
+            halt_word,
+        };
         let first = BoardSeat {
             seat,
             number: 1,

@@ -1,5 +1,5 @@
 -- An out-edge: what is not acknowledged, and for each replica of its consumer the next number to send.
-use Rattle.std.specs.Prelude.{ℕ, ◌+◌, ◌<◌, ◌≤◌, List, [], ◌∷◌, map, max, min, replicate, slice_index, slice_set}
+use Rattle.std.specs.Prelude.{ℕ, ◌+◌, ◌<◌, ◌≤◌, List, map, max, min, replicate, slice_index, slice_set}
 use Rattle.tuple_edge.specs.Limits.{number_limit}
 use Rattle.tuple_edge.specs.declared.item.Item.{Item}
 use Rattle.ack_buffer.specs.Buffer.{BufferView, produced_on, starting_at, trimmed}

@@ -11,6 +11,7 @@ use run_node::{Acts, Links, Node, RunNames, Tap};
 use std::hint::spin_loop;
 use std::sync::atomic::AtomicBool;
 use std::sync::atomic::Ordering::SeqCst;
+use std::thread::yield_now;
 
 // What came of a turn.
 enum Turned {
@@ -90,7 +91,8 @@ fn look<N: RunNames, A: Acts + Send, M: Links, T: Tap + Send>(
 }
 
 /// The turns of one worker: in turn number k it tries the place of its own number and k. It ends after
-/// its turns, or where the halt word is set.
+/// its turns, or where the halt word is set. Once it found nothing to do at any place it gives its processor
+/// back after each idle turn, since another thread may have to run before there is.
 pub(crate) fn work<N: RunNames, A: Acts + Send, M: Links, T: Tap + Send, G: Gate>(
     board: &Board<Node<N, A, M, T>>,
     seat: &mut BoardSeat<Node<N, A, M, T>>,
@@ -113,6 +115,9 @@ pub(crate) fn work<N: RunNames, A: Acts + Send, M: Links, T: Tap + Send, G: Gate
             Turned::Did => counts.idle = 0,
             Turned::Idle => {
                 counts.idle = counts.idle.saturating_add(1);
+                if counts.idle >= nodes as u64 {
+                    yield_now();
+                }
                 if look(board, seat, counts.idle) {
                     return;
                 }

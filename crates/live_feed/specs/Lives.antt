@@ -1,5 +1,5 @@
 -- How a run ends that is written while it goes on: what was put onto the wire, and why it wasn't all. `LivesSo` says it, in the last lines.
-use Rattle.std.specs.Prelude.{ℕ, ◌≡◌, ◌≤◌, List}
+use Rattle.std.specs.Prelude.{ℕ, ◌≤◌, List}
 use Rattle.tuple_edge.specs.Input.{Input}
 use Rattle.tuple_edge.specs.declared.event.Event.{Event}
 use Rattle.tuple_edge.specs.declared.row.Row.{Row}

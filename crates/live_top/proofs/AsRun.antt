@@ -1,7 +1,7 @@
 -- What words of `flux_live` mean to `flux`.
-use Rattle.std.proofs.Common.{ℕ, ◌≡◌, ◌∙◌, refl, ap, subst, sym, Bool, true, false, List, [], ◌∷◌, Option, Some, None, option_map}
-use Rattle.std.specs.Prelude.{codes, ◌&&◌, if◌then◌else◌}
-use Rattle.command_line.specs.Forms.{Request, Run, form, request, run_form}
+use Rattle.std.proofs.Common.{◌≡◌, ◌∙◌, refl, ap, subst, sym, Bool, true, false, List, [], ◌∷◌, Some, None, option_map}
+use Rattle.std.specs.Prelude.{◌&&◌, if◌then◌else◌}
+use Rattle.command_line.specs.Forms.{Run, form, request, run_form}
 use Rattle.command_line.specs.Words.{Text, is_plain}
 use Rattle.flux_top.specs.Outcome.{asked, course_of}
 use Rattle.live_top.specs.Words.{Files, as_run, course_over, files_of, naming, options_with, run_words, words_for}

@@ -1,5 +1,5 @@
 -- Where files tell what they hold, words come to one end: a live run or a refusal.
-use Rattle.std.proofs.Common.{ℕ, ◌≡◌, List, [], sym, subst, refl, append-nil, Option, Some, None}
+use Rattle.std.proofs.Common.{ℕ, List, [], sym, subst, refl, append-nil, Option, None}
 use Rattle.pair_machine.specs.Drain.{partition}
 use Rattle.trade_text.specs.Text.{part_text}
 use Rattle.command_course.specs.Course.{Course, Runs}

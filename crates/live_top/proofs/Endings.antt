@@ -1,5 +1,5 @@
 -- How a live run ended, from its inputs on.
-use Rattle.std.proofs.Common.{ℕ, ◌≡◌, List, ap, sym, subst, refl, Option, Ok, Err, ⊎_elim, inl, inr}
+use Rattle.std.proofs.Common.{ℕ, ◌≡◌, List, sym, subst, refl, Option, Ok, Err, ⊎_elim, inl, inr}
 use Rattle.std.specs.Prelude.{IfErr, OnOk, Result}
 use Rattle.pair_machine.specs.declared.order.Order.{Order}
 use Rattle.command_course.specs.FeedView.{FeedView}

@@ -1,5 +1,5 @@
 -- The inputs of a live run, read as those of `flux run`, and the lines of their refusals under the own name.
-use Rattle.std.proofs.Common.{ℕ, ◌≡◌, ◌∙◌, List, ap, sym, subst, refl, Option, Some, None, Ok, Err, ⊎_elim, inl, inr, string_bytes}
+use Rattle.std.proofs.Common.{ℕ, ◌≡◌, ◌∙◌, List, ap, sym, subst, Option, Some, Ok, Err, ⊎_elim, string_bytes}
 use Rattle.std.specs.Prelude.{IfErr, IfOk, IfSome, Result}
 use Rattle.command_course.specs.Course.{AtReading, Between, Came, Course, Refuses, Runs, StoppedShort}
 use Rattle.command_course.specs.Steps.{HasReadCause, IsWant, StopsOf}

@@ -1,5 +1,5 @@
 -- The words of `flux_live`, as words of `flux run`.
-use Rattle.std.specs.Prelude.{ℕ, ◌&&◌, List, [], ◌∷◌, Option, None, Some, codes, if◌then◌else◌, option_map}
+use Rattle.std.specs.Prelude.{◌&&◌, List, [], ◌∷◌, Option, None, Some, codes, if◌then◌else◌}
 use Rattle.command_line.specs.Forms.{Options, default_threads, default_turns}
 use Rattle.command_line.specs.Words.{Text, is_plain}
 use Rattle.command_course.specs.Course.{Course}

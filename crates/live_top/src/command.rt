@@ -1,5 +1,5 @@
 // The one call that does what the words of the program ask for.
-ghost use Rattle.command_course.specs.Steps.{HasReadCause, IsWant};
+ghost use Rattle.command_course.specs.Steps.{IsWant};
 ghost use Rattle.command_course.specs.declared.stop.Stop.TheVariants.{Usage};
 ghost use Rattle.flux_outside.specs.Outside.{Rose, StopsAtWant};
 ghost use Rattle.flux_top.specs.Clauses.{Accepts, HasCause, IsStatus, Rejects, Tells};

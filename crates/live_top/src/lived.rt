@@ -7,7 +7,7 @@ ghost use Rattle.command_course.specs.declared.stop.Stop.TheVariants as stop;
 ghost use Rattle.command_course.specs.Feeds.{feed_of};
 ghost use Rattle.flux_top.specs.Lines.{lost_line};
 ghost use Rattle.pair_machine.specs.Drain.{partition};
-ghost use Rattle.std.specs.Prelude.{◌≡◌, ◌≤◌, IfErr, IfOk, OnOk, string_bytes};
+ghost use Rattle.std.specs.Prelude.{◌≡◌, IfErr, IfOk, OnOk, string_bytes};
 
 use crate::given::Given;
 use crate::own::own_line;

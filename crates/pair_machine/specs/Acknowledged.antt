@@ -17,10 +17,12 @@ use Rattle.pair_machine.specs.Machine.{State, replica_in, controller_in, egress_
 abbrev pub acked_of : Flow → State → EdgeId → ℕ
 acked_of f s e = if e.stage == f.stages then (egress_in (s.nodes node.Egress)).told e.from else (controller_in (s.nodes (node.Control (e.stage + 1) e.to))).acked e.from
 
+-- the lows that a replica sends with a move are at most what is acknowledged; where no move is under way, nothing is asked
 abbrev pub MoveLows : (ℕ → ℕ) → Option Move → Type 0
 MoveLows acked None = Unit {0}
 MoveLows acked (Some mv) = (t : ℕ) → mv.numbers.lows t ≤ acked t
 
+-- the lows of the move that a newcomer takes are at most what is acknowledged; before its first chunk nothing is asked
 abbrev pub MovedLows : (ℕ → ℕ) → Option MoveNumbers → Type 0
 MovedLows acked None = Unit {0}
 MovedLows acked (Some m) = (t : ℕ) → m.lows t ≤ acked t
@@ -35,12 +37,14 @@ ReplicaLows acked (Gathering g) = MovedLows acked g.moved
 abbrev pub ControllerAcks : Controller → Type 0
 ControllerAcks c = (q : ℕ) (w : Which) → is_down (c.watched w).status ≡ false → c.acked q ≤ (c.watched w).reports q
 
+-- no node's lows are beyond what is acknowledged, and no controller acknowledges beyond the reports; of egress nothing is asked
 abbrev pub NodeLows : (EdgeId → ℕ) → NodeId → Node → Type 0
 NodeLows acked node.Ingress n = (q t : ℕ) → ((ingress_in n).producers q).lows t ≤ acked (ingress_edge q t)
 NodeLows acked (node.Replica s p w) n = ReplicaLows (λ t. acked (record { stage = s; from = p; to = t })) (replica_in n)
 NodeLows acked (node.Control s p) n = ControllerAcks (controller_in n)
 NodeLows acked node.Egress n = Unit {0}
 
+-- the lows in a chunk are at most what is acknowledged of the sender's own out-edges; only replicas send chunks
 abbrev pub ChunkLows : (EdgeId → ℕ) → NodeId → MoveNumbers → Type 0
 ChunkLows acked (node.Replica s p w) m = (t : ℕ) → m.lows t ≤ acked (record { stage = s; from = p; to = t })
 ChunkLows acked sender m = Unit {0}
@@ -52,5 +56,6 @@ MessageLows acked l (Chunk i n m) = ChunkLows acked l.from m
 MessageLows acked l (ChunkEnd i n m) = ChunkLows acked l.from m
 MessageLows acked l m = Unit {0}
 
+-- so it is of every node, and of every message that was ever sent, by what is acknowledged now
 abbrev pub IsAckedAtMostReported : Flow → State → Type 0
 IsAckedAtMostReported f s = Meets (NodeLows (acked_of f s)) (MessageLows (acked_of f s)) s

@@ -16,6 +16,7 @@ IsOfSameMove f p (Gathering g) (Chunk i k m) = i ≡ g.inc → (taken : MoveNumb
 IsOfSameMove f p (Gathering g) (ChunkEnd i k m) = (i ≡ g.inc → (taken : MoveNumbers) → g.moved ≡ Some taken → m ≡ taken) × (k ≡ size f p m)
 IsOfSameMove f p r m = Unit {0}
 
+-- the same of any node: only a replica takes chunks, so of another node nothing is asked
 abbrev pub IsOfSameMoveAt : Flow → NodeId → Node → Message → Type 0
 IsOfSameMoveAt f (node.Replica s p w) x m = IsOfSameMove f (record { stage = s; part = p }) (replica_in x) m
 IsOfSameMoveAt f n x m = Unit {0}
@@ -30,6 +31,7 @@ pub record TakenAsks (f : Flow) (n : NodeId) (x : Node) (from : NodeId) (m : Mes
   pub bound : MessageBound f (link from n) m
   pub same_move : IsOfSameMoveAt f n x m
 
+-- what is asked of an act: of a message that is taken, and of no other act anything
 abbrev pub ActAsks : Flow → NodeId → Node → Act → Type 0
 ActAsks f n x (Takes from m) = TakenAsks f n x from m
 ActAsks f n x a = Unit {0}

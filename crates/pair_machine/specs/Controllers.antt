@@ -11,16 +11,19 @@ use Rattle.pair_machine.specs.Messages.{Message, Ack, Report, Lead, Serve, Begin
 use Rattle.pair_machine.specs.Consumers.{with_at}
 use Rattle.pair_machine.specs.Producers.{to_producers}
 
+-- whether a replica is held down; one that is catching is not, and so may be counted
 abbrev pub is_down : Status → Bool
 is_down status.Up = false
 is_down status.Catching = false
 is_down status.Down = true
 
+-- whether a replica is held up; one that is catching is not yet, and can't lead
 abbrev pub is_up : Status → Bool
 is_up status.Up = true
 is_up status.Catching = false
 is_up status.Down = false
 
+-- whether a replica is held to be catching: it was brought back, and has not yet said that it has its partner's state
 abbrev pub is_catching : Status → Bool
 is_catching status.Up = false
 is_catching status.Catching = true
@@ -33,6 +36,7 @@ with_which g A x B = g B
 with_which g B x A = g A
 with_which g B x B = x
 
+-- other knowledge of replica w; what is known of its partner stays, and all else that the controller has
 abbrev pub with_watched : Controller → Which → Watched → Controller
 with_watched c w h = record c { watched = with_which c.watched w h }
 
@@ -42,6 +46,7 @@ counts h i = if is_down h.status then false else i == h.inc
 
 -- ---- leaders
 
+-- whether w is the leader; where none is named, neither replica is
 abbrev pub leads_now : Option Which → Which → Bool
 leads_now None w = false
 leads_now (Some u) w = is_which u w
@@ -51,6 +56,7 @@ abbrev pub named : Partition → Which → Controller → (Controller × List En
 named p w c =
     (record c { term = c.term + 1; leader = Some w }, envelope (replica_at p w) (Lead (c.watched w).inc (c.term + 1)) ∷ [])
 
+-- w is held down, and a wanted stop of it is forgotten, but not a wanted back
 abbrev pub downed : Which → Controller → Controller
 downed w c = with_watched c w (record (c.watched w) { status = status.Down; stop = false })
 
@@ -112,11 +118,13 @@ acks_from zero q p c = []
 acks_from (suc n) q p c =
     (if nat_lt (c.acked q) (least c q) then to_producers p q (Ack (in_edge p q) (least c q)) else []) ++ acks_from n (q + 1) p c
 
+-- each in-edge is acknowledged up to its least report, and never less far than before
 abbrev pub acks : ℕ → Partition → Controller → (Controller × List Envelope)
 acks edges p c = (record c { acked = λ q. max (c.acked q) (least c q) }, acks_from edges 0 p c)
 
 -- ---- the whole step
 
+-- one part of the step after another: the second begins at what the first left, and its messages follow those of the first
 abbrev pub then_do : (Controller × List Envelope) → (Controller → (Controller × List Envelope)) → (Controller × List Envelope)
 then_do d g = ((g d.0).0, d.1 ++ (g d.0).1)
 

@@ -49,6 +49,7 @@ pub record AreUsedUp (f : Flow) : Type 0 where
   pub below : (p : Partition) (q count : ℕ) → IsMerging f p → q < f.sources p.stage → count < f.total p → f.used p q count < f.length (in_edge p q)
   pub whole : (p : Partition) (q : ℕ) → IsMerging f p → q < f.sources p.stage → f.used p q (f.total p) ≡ f.length (in_edge p q)
 
+-- so it is of every plan within its limits, whatever the inputs
 abbrev pub EdgesAreUsedUp : Type 0
 EdgesAreUsedUp = (plan : PlanView) (inputs : List Input) → IsPlan plan → AreUsedUp (flow_of plan inputs)
 
@@ -106,6 +107,7 @@ pub record IsAllMade (plan : PlanView) (inputs : List Input) : Type 0 where
   pub by_parts : (p : Partition) (t : ℕ) → IsOfStage (flow_of plan inputs) p → IsMadeByPart plan inputs p t
   pub by_ingress : (q t : ℕ) → q < plan.version → IsMadeByIngress plan inputs q t
 
+-- so it is of every plan within its limits, whatever the inputs
 abbrev pub AllIsMade : Type 0
 AllIsMade = (plan : PlanView) (inputs : List Input) → IsPlan plan → IsAllMade plan inputs
 
@@ -120,6 +122,7 @@ pub record MergesToTheEnd (f : Flow) : Type 0 where
   pub ready : (p : Partition) (c : Consumer) → IsMerging f p → HasTakenAll f p c → c.count < f.total p → is_ready f p c ≡ true
   pub ended : (p : Partition) (c : Consumer) → IsMerging f p → HasTakenAll f p c → c.count ≤ f.total p → is_ready f p c ≡ false → c.count ≡ f.total p
 
+-- so it is of every plan within its limits, whatever the inputs
 abbrev pub EndedMergeIsWhole : Type 0
 EndedMergeIsWhole = (plan : PlanView) (inputs : List Input) → IsPlan plan → MergesToTheEnd (flow_of plan inputs)
 
@@ -141,5 +144,6 @@ pub record ComesInOrder (plan : PlanView) (inputs : List Input) : Type 0 where
   pub front : (count : ℕ) → output_first plan inputs count ≡ take (length (output_first plan inputs count)) (output plan inputs)
   pub whole : output_first plan inputs ((flow_of plan inputs).total (egress_partition (flow_of plan inputs))) ≡ output plan inputs
 
+-- so it is of every plan, also one beyond its limits, and whatever the inputs
 abbrev pub OutputComesInOrder : Type 0
 OutputComesInOrder = (plan : PlanView) (inputs : List Input) → ComesInOrder plan inputs

@@ -40,6 +40,7 @@ made_at plan inputs zero q t count = count_by (λ i. nat_le (stamp_of i) count) 
 made_at plan inputs (suc s) q t count =
     length (sent_after (slice_get plan.stages s) (slice_get plan.stages (suc s)) t (merged_first plan inputs (record { stage = suc s; part = q }) count))
 
+-- how many items of an edge are made by the first so many makes, where ingress produces it, else by the first so many merged items
 abbrev pub made_on : PlanView → List Input → EdgeId → ℕ → ℕ
 made_on plan inputs e count = made_at plan inputs e.stage e.from e.to count
 

@@ -39,10 +39,12 @@ onto (m ∷ before) later = onto before (m ∷ later)
 
 -- ---- replay
 
+-- what was sent before stands in front of what a step sends; a refusal stays a refusal
 abbrev pub also : List Envelope → Result (Node × List Envelope) Refusal → Result (Node × List Envelope) Refusal
 also out (Ok d) = Ok (d.0, out ++ d.1)
 also out (Err e) = Err e
 
+-- one more act, at the numbers that the acts before it left; after a refusal no act changes anything
 abbrev pub acted_on : Flow → NodeId → Act → Result (Node × List Envelope) Refusal → Result (Node × List Envelope) Refusal
 acted_on f n a (Ok d) = also d.1 (does f n a d.0)
 acted_on f n a (Err e) = Err e
@@ -86,12 +88,14 @@ module _ (f : Flow) (Stands : LinkId → Body → Message → Type 0) (Asks : No
   ActFor n (event.AskBack k) o a = a ≡ AsksBack
   ActFor n (event.Pull from to) o a = ⊥
 
+  -- the acts that the moments of a course ask for, one for each, in order
   abbrev pub ActsFor : NodeId → List Moment → List Act → Type 0
   ActsFor n [] [] = Unit {0}
   ActsFor n [] (a ∷ acts) = ⊥
   ActsFor n (m ∷ ms) [] = ⊥
   ActsFor n (m ∷ ms) (a ∷ acts) = ActFor n m.event m.took a × ActsFor n ms acts
 
+  -- what is asked of an act at the numbers that were reached; nothing is asked where none were, as a replay was refused
   abbrev pub AskedAt : NodeId → Act → Result (Node × List Envelope) Refusal → Type 0
   AskedAt n a (Ok d) = Asks n d.0 a
   AskedAt n a (Err e) = Unit {0}
@@ -119,6 +123,7 @@ module _ (f : Flow) (Stands : LinkId → Body → Message → Type 0) (Asks : No
 
 -- ---- courses that agree
 
+-- the packet that an event took is the one that its sender's course has at that index, sent at a lesser clock; a pull is in no course
 abbrev pub TookSent : (NodeId → List Moment) → ℕ → Event → Option Packet → Type 0
 TookSent courses c (event.Take l k) None = ⊥
 TookSent courses c (event.Take l k) (Some p) = (nth_from_one (given l.to (courses l.from)) k ≡ Some p) × (p.at < c)
@@ -131,6 +136,7 @@ Agree courses = (n : NodeId) → Each (λ m. TookSent courses m.clock m.event m.
 
 -- ---- a course by what a node keeps: its history, the packets taken on each in-link, and the packets sent on each out-link
 
+-- those of a node's packets that it sent at clock c
 abbrev pub sent_at : ℕ → List Packet → List Packet
 sent_at c [] = []
 sent_at c (p ∷ ps) = if p.at == c then p ∷ sent_at c ps else sent_at c ps
@@ -144,9 +150,11 @@ abbrev pub taken_at : Arrivals → Event → Option Packet
 taken_at arrived (event.Take l k) = arrived l.from k
 taken_at arrived e = None
 
+-- an entry of a history as a moment: with the packet that arrived for it, and the packets sent at its clock
 abbrev pub moment_of : Arrivals → (sent : NodeId → List Packet) → Stamped → Moment
 moment_of arrived sent h = record { clock = h.clock; event = h.event; took = taken_at arrived h.event; gave = λ to. sent_at h.clock (sent to) }
 
+-- a history as a course: a moment for each entry, in the same order
 abbrev pub course_of : Arrivals → (sent : NodeId → List Packet) → List Stamped → List Moment
 course_of arrived sent [] = []
 course_of arrived sent (h ∷ hs) = moment_of arrived sent h ∷ course_of arrived sent hs
@@ -159,6 +167,7 @@ TookBefore c (event.Pull from to) o = ⊥
 TookBefore c e o = Unit {0}
 
 module _ (f : Flow) (Stands : LinkId → Body → Message → Type 0) (Asks : NodeId → Node → Act → Type 0) where
+  -- the numbers that were reached are such; where a replay was refused they are not
   abbrev pub StandsAt : (Node → Type 0) → Result (Node × List Envelope) Refusal → Type 0
   StandsAt P (Ok d) = P d.0
   StandsAt P (Err e) = ⊥

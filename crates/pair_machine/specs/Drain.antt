@@ -33,6 +33,7 @@ use Rattle.pair_machine.specs.declared.order.Order.{Order}
 
 -- ---- who drains, and which pair is lost
 
+-- whether a replica runs; one that gathers does not
 abbrev pub is_running : Replica → Bool
 is_running (Gone i) = false
 is_running (Running x) = true
@@ -50,6 +51,7 @@ drainer s p = if is_serving (side_of s p A) then A else B
 abbrev pub is_lost : State → Partition → Bool
 is_lost s p = if is_serving (side_of s p A) then false else if is_serving (side_of s p B) then false else true
 
+-- a partition by its stage, of which 0 is ingress, and by its number in the stage, from 0
 abbrev pub partition : (stage part : ℕ) → Partition
 partition stage part = record { stage = stage; part = part }
 
@@ -103,6 +105,7 @@ drain_into f s p to c = pulls_into f s p to c ++ replicate (f.total p - c.count)
 abbrev pub drain_pair : Flow → State → Partition → List Event
 drain_pair f s p = let to = replica_at p (drainer s p) in drain_into f s p to (consumer_in (replica_in (s.nodes to)))
 
+-- these pairs drain one after another, each by its numbers in the state before the drain, since none changes another's consumer
 abbrev pub drain_pairs : Flow → State → List Partition → List Event
 drain_pairs f s [] = []
 drain_pairs f s (p ∷ ps) = drain_pair f s p ++ drain_pairs f s ps
@@ -134,6 +137,7 @@ ReplicaIsReady f p (Gone i) = ⊥
 ReplicaIsReady f p (Running x) = is_ready f p x.consumer ≡ true
 ReplicaIsReady f p (Gathering g) = ⊥
 
+-- the same of any node; ingress and a controller merge nothing, so theirs never is
 abbrev pub MergeIsReady : Flow → NodeId → Node → Type 0
 MergeIsReady f node.Ingress x = ⊥
 MergeIsReady f (node.Replica s p w) x = ReplicaIsReady f (partition s p) (replica_in x)
@@ -176,6 +180,7 @@ pub record FindsLost (f : Flow) (s : State) : Type 0 where
   pub first : (p : Partition) → first_lost s (pairs_up_to f f.stages) ≡ Some p → IsFirstLost s (pairs_up_to f f.stages) p
   pub none : first_lost s (pairs_up_to f f.stages) ≡ None → (p : Partition) → IsOfStage f p → IsServed s p
 
+-- so it is in every state of every flow, also one that no legal list reaches
 abbrev pub LostPairsAreFound : Type 0
 LostPairsAreFound = (f : Flow) (s : State) → FindsLost f s
 
@@ -198,6 +203,7 @@ pub record IsDrained (plan : PlanView) (inputs : List Input) (s : State) : Type 
   pub done : IsEgressDone (flow_of plan inputs) reached
   pub output : output_first plan inputs (egress_in (reached.nodes node.Egress)).count ≡ output plan inputs
 
+-- so it is where a state can be drained and each pair of the plan is served, also where the state isn't sound
 abbrev pub DrainIsWhole : Type 0
 DrainIsWhole = (plan : PlanView) (inputs : List Input) → IsPlan plan → (s : State) → IsDrainable (flow_of plan inputs) s → ((p : Partition) → IsOfStage (flow_of plan inputs) p → IsServed s p)
     → IsDrained plan inputs s
@@ -207,6 +213,7 @@ pub record AreFree (es : List Event) : Type 0 where
   pub no_message : Each TakesNoMessage es
   pub no_order : Each NeedsNoOrder es
 
+-- so it is of the drain of every state, also where it can't be drained or a pair is lost
 abbrev pub DrainsAreFree : Type 0
 DrainsAreFree = (f : Flow) (s : State) → AreFree (drain f s)
 
@@ -232,6 +239,7 @@ RunsAreDrained = (plan : PlanView) (inputs : List Input) → IsPlan plan → (sc
     → AreWithin (flow_of plan inputs) script es → u.nodes ≡ s.nodes → ((p : Partition) → IsOfStage (flow_of plan inputs) p → IsServed u p)
     → IsDrainedAfter plan inputs script es u
 
+-- the same under a safe script, where it need not be asked that each pair is served
 abbrev pub SafeRunsAreDrained : Type 0
 SafeRunsAreDrained = (plan : PlanView) (inputs : List Input) → IsPlan plan → (script : List Order) → IsSafe script → (es : List Event) (s u : State) → IsLegal (flow_of plan inputs) es s
     → AreWithin (flow_of plan inputs) script es → u.nodes ≡ s.nodes → IsDrainedAfter plan inputs script es u

@@ -4,6 +4,7 @@ use Rattle.std.specs.Prelude.{ℕ, ◌≡◌, ◌≤◌, ◌<◌, ◌+◌}
 use Rattle.tuple_edge.specs.declared.node.EdgeId.{EdgeId}
 use Rattle.pair_machine.specs.Numbers.{Partition, in_edge, ingress_edge, out_edge}
 
+-- what the machine knows of a plan and its inputs: numbers alone
 pub record Flow : Type 0 where
   -- the number of stages
   pub stages : ℕ

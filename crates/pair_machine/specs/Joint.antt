@@ -38,6 +38,7 @@ abbrev pub AreInOrder : List Stored → Type 0
 AreInOrder [] = Unit {0}
 AreInOrder (s ∷ ss) = Each (λ t. s.moment.clock ≤ t.moment.clock) ss × AreInOrder ss
 
+-- the events of stored moments alone, as a list that may be legal
 abbrev pub events_of : List Stored → List Event
 events_of [] = []
 events_of (s ∷ ss) = s.moment.event ∷ events_of ss
@@ -54,14 +55,17 @@ pub record Logged : Type 0 where
   pub at : NodeId
   pub stamped : Stamped
 
+-- the entries of one node, in the order of the log
 abbrev pub log_of : NodeId → List Logged → List Stamped
 log_of n [] = []
 log_of n (j ∷ js) = if is_node j.at n then j.stamped ∷ log_of n js else log_of n js
 
+-- the events of a log alone, as a list that may be legal
 abbrev pub logged_events : List Logged → List Event
 logged_events [] = []
 logged_events (j ∷ js) = j.stamped.event ∷ logged_events js
 
+-- the clocks in a log rise or stay
 abbrev pub ClocksRise : List Logged → Type 0
 ClocksRise [] = Unit {0}
 ClocksRise (j ∷ js) = Each (λ k. j.stamped.clock ≤ k.stamped.clock) js × ClocksRise js

@@ -33,6 +33,7 @@ pub record LegalListsGoOn (f : Flow) : Type 0 where
   pub split : (s t : State) (xs ys : List Event) → IsLegalFrom f s (xs ++ ys) t → (m : State) × IsLegalFrom f s xs m × IsLegalFrom f m ys t
   pub one_end : (s t u : State) (es : List Event) → IsLegalFrom f s es t → IsLegalFrom f s es u → t ≡ u
 
+-- so it is of every flow, also one that is of no plan
 abbrev pub ListsGoOn : Type 0
 ListsGoOn = (f : Flow) → LegalListsGoOn f
 
@@ -46,6 +47,7 @@ pub record ListsStayWithin (f : Flow) (script : List Order) : Type 0 where
   pub front : (xs ys : List Event) → AreWithin f script (xs ++ ys) → AreWithin f script xs
   pub more : (xs ys : List Event) → AreWithin f script xs → Each NeedsNoOrder ys → AreWithin f script (xs ++ ys)
 
+-- so it is of every flow and every script, whether the lists are legal or not
 abbrev pub FrontsStayWithin : Type 0
 FrontsStayWithin = (f : Flow) (script : List Order) → ListsStayWithin f script
 
@@ -57,6 +59,7 @@ pub record IsGoneOn (f : Flow) (script : List Order) (es : List Event) (reached 
   pub within : AreWithin f script es
   pub nodes : state.nodes ≡ reached.nodes
 
+-- so it is of every flow and every script, also one that isn't safe
 abbrev pub JournalsGoOn : Type 0
 JournalsGoOn = (f : Flow) (script : List Order) (s t u : State) (xs ys : List Event) → IsLegal f xs s → AreWithin f script xs → Each TakesNoMessage ys → Each NeedsNoOrder ys
     → u.nodes ≡ s.nodes → IsLegalFrom f u ys t → IsGoneOn f script (xs ++ ys) t

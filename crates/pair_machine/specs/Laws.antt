@@ -42,6 +42,7 @@ pub record AreShort (plan : PlanView) (inputs : List Input) : Type 0 where
   pub inner : (s : ℕ) → s < length plan.stages → most_sent (take s plan.stages) ≡ 1
   pub most : (s : ℕ) → most_sent (take s plan.stages) ≤ max_join_rows
 
+-- so it is of every plan within its limits, whatever the inputs
 abbrev pub EdgesAreShort : Type 0
 EdgesAreShort = (plan : PlanView) (inputs : List Input) → IsPlan plan → AreShort plan inputs
 
@@ -50,5 +51,6 @@ pub record AreTimely (plan : PlanView) (inputs : List Input) : Type 0 where
   pub edges : (s q t : ℕ) → All IsTimely (edge plan inputs s q t)
   pub merged : (s q : ℕ) → All IsTimely (items (merged_at plan inputs (suc s) q))
 
+-- so it is of every plan within its limits; of the inputs only their times are asked to be within theirs
 abbrev pub TimesStay : Type 0
 TimesStay = (plan : PlanView) (inputs : List Input) → IsPlan plan → All (λ input. IsTime input.row.time) inputs → AreTimely plan inputs

@@ -28,6 +28,7 @@ pub record ConsumerBound (f : Flow) (p : Partition) (c : Consumer) : Type 0 wher
 pub record ProducerBound (x : Producer) : Type 0 where
   pub above : (t c : ℕ) → x.lows t < x.cursors t c
 
+-- what a move's numbers say was merged was taken, and what was taken is on the edge
 pub record MoveBound (f : Flow) (p : Partition) (m : MoveNumbers) : Type 0 where
   pub used : (q : ℕ) → q < f.sources p.stage → f.used p q m.count ≤ m.marks q
   pub most : (q : ℕ) → m.marks q ≤ f.length (in_edge p q)
@@ -43,11 +44,13 @@ abbrev pub MovedBound : Flow → Partition → ℕ → Option MoveNumbers → Ty
 MovedBound f p taken None = Unit {0}
 MovedBound f p taken (Some m) = MoveBound f p m × (taken ≤ size f p m)
 
+-- a replica's numbers are within the lengths, and what a newcomer holds are items of its in-edges; of one that is gone nothing is asked
 abbrev pub ReplicaBound : Flow → Partition → Replica → Type 0
 ReplicaBound f p (Gone i) = Unit {0}
 ReplicaBound f p (Running x) = ConsumerBound f p x.consumer × ProducerBound x.producer × MoverBound f p x.move
 ReplicaBound f p (Gathering g) = MovedBound f p g.taken g.moved × ((q : ℕ) → Each (λ n. (1 ≤ n) × (n ≤ f.length (in_edge p q))) (g.held q))
 
+-- a node's numbers are within the lengths, and ingress made no more than there is to make; of a controller nothing is asked here
 abbrev pub NodeBound : Flow → NodeId → Node → Type 0
 NodeBound f node.Ingress n = ((ingress_in n).makes ≤ f.makes) × ((q : ℕ) → ProducerBound ((ingress_in n).producers q))
 NodeBound f (node.Replica s p w) n = ReplicaBound f (record { stage = s; part = p }) (replica_in n)
@@ -59,6 +62,7 @@ abbrev pub ChunkBound : Flow → NodeId → ℕ → MoveNumbers → Type 0
 ChunkBound f (node.Replica s p w) n m = MoveBound f (record { stage = s; part = p }) m × (1 ≤ n) × (n ≤ size f (record { stage = s; part = p }) m)
 ChunkBound f sender n m = Unit {0}
 
+-- the end of a move that a replica sent carries numbers within the lengths; what it counts is asked of pairs
 abbrev pub EndBound : Flow → NodeId → MoveNumbers → Type 0
 EndBound f (node.Replica s p w) m = MoveBound f (record { stage = s; part = p }) m
 EndBound f sender m = Unit {0}
@@ -70,5 +74,6 @@ MessageBound f l (Chunk i n m) = ChunkBound f l.from n m
 MessageBound f l (ChunkEnd i n m) = EndBound f l.from m
 MessageBound f l m = Unit {0}
 
+-- the numbers of every node, and of every message ever sent, are within the lengths
 abbrev pub IsWithinLengths : Flow → State → Type 0
 IsWithinLengths f s = Meets (NodeBound f) (MessageBound f) s

@@ -14,6 +14,7 @@ use Rattle.pair_machine.specs.Flow.{Flow}
 use Rattle.pair_machine.specs.Lists.{Each}
 use Rattle.pair_machine.specs.Machine.{State}
 
+-- the link from one node to another; any two nodes have one, also where nothing ever goes over it
 abbrev pub link : NodeId → NodeId → LinkId
 link from to = record { from = from; to = to }
 

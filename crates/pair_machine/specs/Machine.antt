@@ -20,6 +20,7 @@ use Rattle.pair_machine.specs.Consumers.{first_below}
 use Rattle.pair_machine.specs.Controllers.{controller_takes}
 use Rattle.pair_machine.specs.Boundary.{egress_does, ingress_does, source_made}
 
+-- a state of the machine: each node's numbers, and all that was ever sent
 pub record State : Type 0 where
   pub nodes : NodeId → Node
   -- every message ever sent on a link, in order
@@ -27,32 +28,41 @@ pub record State : Type 0 where
 
 -- ---- the opening
 
+-- a consumer that has taken, told and merged nothing
 abbrev pub new_consumer : Consumer
 new_consumer = record { marks = λ q. 0; told = λ q. 0; count = 0 }
 
+-- a producer of which nothing is acknowledged, and which sends each replica item 1 next
 abbrev pub new_producer : ℕ → Bool → Producer
 new_producer term leads = record { lows = λ t. 0; cursors = λ t c. 1; term = term; leads = leads }
 
+-- ingress before the first make; each of its sources leads from the start, in term 1
 abbrev pub new_ingress : Ingress
 new_ingress = record { makes = 0; producers = λ q. new_producer 1 true }
 
+-- whether a replica leads its pair at the opening, where no message has named a leader
 abbrev pub leads_first : Which → Bool
 leads_first A = true
 leads_first B = false
 
+-- the term that a replica has at the opening: A that of its controller, and B, which was never named leader, 0
 abbrev pub first_term : Which → ℕ
 first_term A = 1
 first_term B = 0
 
+-- a replica as it is at the opening: it runs in its first incarnation, and has served nobody
 abbrev pub new_running : Which → RunningNumbers
 new_running w = record { inc = 1; consumer = new_consumer; producer = new_producer (first_term w) (leads_first w); served = 0; move = None }
 
+-- what a controller knows of either replica at the opening: it is up in incarnation 1, and has reported nothing
 abbrev pub new_watched : Watched
 new_watched = record { status = status.Up; inc = 1; reports = λ q. 0; stop = false; back = false }
 
+-- a controller at the opening: it has acknowledged nothing, and A leads in term 1
 abbrev pub new_controller : Controller
 new_controller = record { watched = λ w. new_watched; acked = λ q. 0; term = 1; leader = Some A }
 
+-- a node at the opening; the name alone decides its kind, and need not be one of the plan
 abbrev pub new_node : NodeId → Node
 new_node node.Ingress = IngressNode new_ingress
 new_node (node.Replica s p w) = ReplicaNode (Running (new_running w))
@@ -63,38 +73,46 @@ new_node node.Egress = EgressNode new_consumer
 abbrev pub opening : State
 opening = record { nodes = new_node; sent = λ l. [] }
 
--- ---- the numbers of a node as those of its kind; of another kind's name there are none
+-- ---- the numbers of a node as those of its kind
 
+-- the replica that a node is; of another kind's node one that is gone in incarnation 0, as none is that began at 1
 abbrev pub replica_in : Node → Replica
 replica_in (ReplicaNode r) = r
 replica_in x = Gone 0
 
+-- the controller that a node is; of another kind's node one as at the opening
 abbrev pub controller_in : Node → Controller
 controller_in (ControllerNode c) = c
 controller_in x = new_controller
 
+-- ingress, where the node is it; of another kind's node ingress as at the opening
 abbrev pub ingress_in : Node → Ingress
 ingress_in (IngressNode x) = x
 ingress_in x = new_ingress
 
+-- egress, where the node is it; of another kind's node a consumer that has taken nothing
 abbrev pub egress_in : Node → Consumer
 egress_in (EgressNode x) = x
 egress_in x = new_consumer
 
 -- ---- what a node is after an act, and what it sends, or why the act is none
 
+-- what a replica's act gives, as that of a node: messages and refusals stay as they are
 abbrev pub as_replica : Result (Replica × List Envelope) Refusal → Result (Node × List Envelope) Refusal
 as_replica (Ok d) = Ok (ReplicaNode d.0, d.1)
 as_replica (Err e) = Err e
 
+-- the same of an act of ingress
 abbrev pub as_ingress : Result (Ingress × List Envelope) Refusal → Result (Node × List Envelope) Refusal
 as_ingress (Ok d) = Ok (IngressNode d.0, d.1)
 as_ingress (Err e) = Err e
 
+-- the same of an act of egress
 abbrev pub as_egress : Result (Consumer × List Envelope) Refusal → Result (Node × List Envelope) Refusal
 as_egress (Ok d) = Ok (EgressNode d.0, d.1)
 as_egress (Err e) = Err e
 
+-- what a controller does: it takes every message, and refuses all else, as it has no work of its own, and never fails
 abbrev pub controller_does : Flow → Partition → Act → Controller → Result (Node × List Envelope) Refusal
 controller_does f p (Takes from m) c = let d = controller_takes (f.sources p.stage) p (which_of from) m c in Ok (ControllerNode d.0, d.1)
 controller_does f p Works c = Err NothingDue
@@ -104,6 +122,7 @@ controller_does f p AsksStop c = Err NotRunning
 controller_does f p AsksBack c = Err NotRunning
 controller_does f p (Pulls q) c = Err NotRunning
 
+-- what any node does; its kind is the one that its name says, whatever numbers it has
 abbrev pub does : Flow → NodeId → Act → Node → Result (Node × List Envelope) Refusal
 does f node.Ingress a n = as_ingress (ingress_does f a (ingress_in n))
 does f (node.Replica s p w) a n = as_replica (replica_does f (record { stage = s; part = p }) w a (replica_in n))
@@ -127,6 +146,7 @@ abbrev pub nth_from_one : {X : Type 0} → List X → ℕ → Option X
 nth_from_one xs zero = None
 nth_from_one xs (suc k) = slice_get xs k
 
+-- the taking of a link's message k, if it was sent at all, whether or not it was taken before
 abbrev pub taking_of : LinkId → ℕ → List Message → Option Message → Result Act Refusal
 taking_of l k sent None = Err (NotSent l k (length sent))
 taking_of l k sent (Some m) = Ok (Takes l.from m)
@@ -136,6 +156,7 @@ pub record Buffer : Type 0 where
   pub low : ℕ
   pub produced : ℕ
 
+-- the buffer of out-edge t of a replica that runs, whether it leads or not; one that gathers or is gone has none
 abbrev pub buffer_in : Flow → Partition → ℕ → Replica → Option Buffer
 buffer_in f p t (Gone i) = None
 buffer_in f p t (Running x) = Some (record { low = x.producer.lows t; produced = made_by f p x.consumer.count t })
@@ -148,6 +169,7 @@ buffer_of f q t (node.Replica s p w) n = buffer_in f (record { stage = s; part =
 buffer_of f q t (node.Control s p) n = None
 buffer_of f q t node.Egress n = None
 
+-- the mark of in-edge q of a replica that runs; one that gathers or is gone has none
 abbrev pub mark_in : ℕ → Replica → Option ℕ
 mark_in q (Gone i) = None
 mark_in q (Running x) = Some (x.consumer.marks q)
@@ -201,9 +223,11 @@ abbrev pub messages_to : NodeId → List Envelope → List Message
 messages_to n [] = []
 messages_to n (x ∷ xs) = if is_node x.to n then x.message ∷ messages_to n xs else messages_to n xs
 
+-- all links after node n has sent something: what it sent stands last on its own links, and no other link changes
 abbrev pub posted : NodeId → List Envelope → (LinkId → List Message) → LinkId → List Message
 posted n out sent l = if is_node l.from n then sent l ++ messages_to l.to out else sent l
 
+-- all nodes once node n has these numbers; every other node keeps its own
 abbrev pub changed : NodeId → Node → (NodeId → Node) → NodeId → Node
 changed n x nodes m = if is_node m n then x else nodes m
 
@@ -212,6 +236,7 @@ abbrev pub after : NodeId → State → Result (Node × List Envelope) Refusal �
 after n s (Ok d) = Ok (record { nodes = changed n d.0 s.nodes; sent = posted n d.1 s.sent })
 after n s (Err e) = Err e
 
+-- the state after a node did what an event asks of it; an event that the links or other nodes refuse never comes to the node
 abbrev pub acted : Flow → NodeId → State → Result Act Refusal → Result State Refusal
 acted f n s (Ok a) = after n s (does f n a (s.nodes n))
 acted f n s (Err e) = Err e
@@ -222,6 +247,7 @@ step f s e = acted f (at_node e) s (act_of f s e)
 
 -- ---- legal lists
 
+-- the state after all events in order, or the first refusal, whatever events come after it
 abbrev pub follow : Flow → List Event → Result State Refusal → Result State Refusal
 follow f [] s = s
 follow f (e ∷ es) (Ok s) = follow f es (step f s e)

@@ -25,6 +25,7 @@ use Rattle.pair_machine.specs.declared.order.Order.{Order}
 
 -- ---- soundness
 
+-- the state before the first event is sound, whatever the inputs are
 abbrev pub TheOpeningIsSound : Type 0
 TheOpeningIsSound = (plan : PlanView) (inputs : List Input) → IsPlan plan → IsSound (flow_of plan inputs) opening
 
@@ -46,6 +47,7 @@ pub record GivesWhatIsAsked (plan : PlanView) (inputs : List Input) (s : State) 
   pub nodes : (n : NodeId) → NodeBound (flow_of plan inputs) n (s.nodes n)
   pub messages : (n from : NodeId) (m : Message) → HasNode (flow_of plan inputs) n → Among m (s.sent (link from n)) → TakenAsks (flow_of plan inputs) n (s.nodes n) from m
 
+-- every sound state, also one to which no events lead, gives each node what its step asks
 abbrev pub SoundStatesGiveWhatIsAsked : Type 0
 SoundStatesGiveWhatIsAsked = (plan : PlanView) (inputs : List Input) → IsPlan plan → (s : State) → IsSound (flow_of plan inputs) s → GivesWhatIsAsked plan inputs s
 

@@ -29,6 +29,7 @@ pub record Envelope : Type 0 where
   pub to : NodeId
   pub message : Message
 
+-- a message to a node; its sender is the node whose act gives it
 abbrev pub envelope : NodeId → Message → Envelope
 envelope to message = record { to = to; message = message }
 

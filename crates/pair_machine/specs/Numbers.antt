@@ -59,6 +59,7 @@ pub record GatheringNumbers : Type 0 where
   pub moved : Option MoveNumbers
   pub held : ℕ → List ℕ
 
+-- a replica, in one of its three modes: gone, running, or gathering its partner's state
 pub data Replica : Type 0 where
   Gone : (inc : ℕ) → Replica
   Running : (numbers : RunningNumbers) → Replica
@@ -103,25 +104,28 @@ pub record Partition : Type 0 where
   pub stage : ℕ
   pub part : ℕ
 
+-- whether two names are those of the same replica of a pair
 abbrev pub is_which : Which → Which → Bool
 is_which A A = true
 is_which A B = false
 is_which B A = false
 is_which B B = true
 
--- a replica of a pair as producers count it
-
+-- the copy that a replica is, by which the producers of its in-edges have a cursor for it
 abbrev pub copy_of : Which → ℕ
 copy_of A = 0
 copy_of B = 1
 
+-- the replica that a copy is; every number above 0 stands for B, as a pair has no third
 abbrev pub which_at : ℕ → Which
 which_at zero = A
 which_at (suc c) = B
 
+-- the node that is replica w of a partition; ingress and egress are partitions too, and have none in a plan
 abbrev pub replica_at : Partition → Which → NodeId
 replica_at p w = node.Replica p.stage p.part w
 
+-- the node that is the controller of a partition's pair; ingress and egress have none in a plan
 abbrev pub control_at : Partition → NodeId
 control_at p = node.Control p.stage p.part
 

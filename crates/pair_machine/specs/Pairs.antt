@@ -27,6 +27,7 @@ pub record Side : Type 0 where
   -- from the replica to its partner
   pub across : List Message
 
+-- the side of replica w of a partition; what its partner sent to it stands on the partner's side
 abbrev pub side_of : State → Partition → Which → Side
 side_of s p w = record {
   replica = replica_in (s.nodes (replica_at p w));
@@ -57,6 +58,7 @@ abbrev pub OfServe : (ℕ → ℕ → Type 0) → Message → Type 0
 OfServe P (Serve i t) = P i t
 OfServe P m = Unit {0}
 
+-- a move under way is for an incarnation of at most n; without a move nothing is asked
 abbrev pub MoveAtMost : ℕ → Option Move → Type 0
 MoveAtMost n None = Unit {0}
 MoveAtMost n (Some mv) = mv.target ≤ n
@@ -85,6 +87,7 @@ FreeOfServe (Gone i) m = Unit {0}
 FreeOfServe (Running x) m = Unit {0}
 FreeOfServe (Gathering g) m = OfServe (λ i t. i ≢ g.inc) m
 
+-- a replica doesn't gather: it runs, or is gone
 abbrev pub IsSettled : Replica → Type 0
 IsSettled (Gone i) = Unit {0}
 IsSettled (Running x) = Unit {0}
@@ -94,6 +97,7 @@ IsSettled (Gathering g) = ⊥
 abbrev pub UpAgrees : Status → ℕ → Replica → Type 0
 UpAgrees held i r = held ≡ status.Up → (inc_of r ≡ i) × IsSettled r
 
+-- no message, move or replica of a pair is of a later incarnation than its controller holds, and none is told of twice
 pub record AreIncarnationsInOrder (a b : Side) : Type 0 where
   pub below : inc_of a.replica ≤ a.watched.inc
   pub to_replica : Each (NamesAtMost a.watched.inc) a.down
@@ -113,6 +117,7 @@ abbrev pub OfReport : (ℕ → EdgeId → ℕ → Type 0) → Message → Type 0
 OfReport P (Report i e k) = P i e k
 OfReport P m = Unit {0}
 
+-- a report of the incarnation in which a replica runs is at most its mark; of earlier incarnations nothing is asked
 abbrev pub ReportFits : Replica → Message → Type 0
 ReportFits (Gone i) m = Unit {0}
 ReportFits (Running x) m = OfReport (λ i e k. i ≡ x.inc → k ≤ x.consumer.marks e.from) m
@@ -128,6 +133,7 @@ pub record AreReportsTrue (a b : Side) : Type 0 where
 abbrev pub MarksReach : (ℕ → ℕ) → Consumer → Type 0
 MarksReach reports c = (q : ℕ) → reports q ≤ c.marks q
 
+-- the reports of a counted replica are at most its marks where it runs; those of one that gathers are asked of its move instead
 abbrev pub CountedReach : Watched → Replica → Type 0
 CountedReach h (Gone i) = Unit {0}
 CountedReach h (Running x) = counts h x.inc ≡ true → MarksReach h.reports x.consumer
@@ -139,6 +145,7 @@ pub record AreCountedCovered (a b : Side) : Type 0 where
 
 -- ---- one move for each incarnation
 
+-- a move of numbers m for incarnation i of the partner is under way, however many chunks of it were sent
 abbrev pub MoveIs : Option Move → ℕ → MoveNumbers → Type 0
 MoveIs None i m = ⊥
 MoveIs (Some mv) i m = (mv.target ≡ i) × (mv.numbers ≡ m)
@@ -187,6 +194,7 @@ Awaits (Gone j) i = j < i
 Awaits (Running x) i = x.inc < i
 Awaits (Gathering g) i = g.inc ≤ i
 
+-- a partner that runs in incarnation j has marks that reach these reports, as long as it hasn't served i
 abbrev pub PartnerReaches : (ℕ → ℕ) → ℕ → ℕ → Replica → Type 0
 PartnerReaches reports i j (Gone k) = Unit {0}
 PartnerReaches reports i j (Running y) = y.inc ≡ j → y.served < i → MarksReach reports y.consumer
@@ -217,5 +225,6 @@ pub record IsPairSound (f : Flow) (p : Partition) (a b : Side) : Type 0 where
   pub first : IsSideSound f p a b
   pub second : IsSideSound f p b a
 
+-- every pair is sound, also of partitions that the plan hasn't; ingress has no pair
 abbrev pub ArePairsSound : Flow → State → Type 0
 ArePairsSound f s = (p : Partition) → 1 ≤ p.stage → IsPairSound f p (side_of s p A) (side_of s p B)

@@ -14,6 +14,7 @@ pub record IsNamed (plan : PlanView) (inputs : List Input) (n : NodeId) : Type 0
   pub there : has_node plan n ≡ true → HasNode (flow_of plan inputs) n
   pub named : HasNode (flow_of plan inputs) n → has_node plan n ≡ true
 
+-- the machine has the plan's nodes and no others, even where the plan isn't within its limits
 abbrev pub NodesAreThePlans : Type 0
 NodesAreThePlans = (plan : PlanView) (inputs : List Input) (n : NodeId) → IsNamed plan inputs n
 

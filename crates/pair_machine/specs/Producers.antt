@@ -73,6 +73,7 @@ sent_on x d = record x { cursors = λ j c. if (j == d.to) && (c == d.copy) then 
 abbrev pub consumer_of : Flow → Partition → Due → NodeId
 consumer_of f p d = if p.stage == f.stages then node.Egress else node.Replica (p.stage + 1) d.to (which_at d.copy)
 
+-- one tuple carries the due item, to one replica of the target or to egress; the other replica has its own cursor
 abbrev pub sends_due : Flow → Partition → Due → List Envelope
 sends_due f p d = envelope (consumer_of f p d) (Tuple (out_edge p d.to) d.number) ∷ []
 

@@ -20,6 +20,7 @@ inc_of (Gathering g) = g.inc
 
 -- ---- moves
 
+-- the sum of what f gives for the numbers below n
 abbrev pub sum_below : ℕ → (ℕ → ℕ) → ℕ
 sum_below zero f = 0
 sum_below (suc n) f = sum_below n f + f n
@@ -42,6 +43,7 @@ begun target x = record x { served = target; move = Some (record { target = targ
 
 -- ---- what a newcomer holds
 
+-- the number stands in the list, whatever the list's order
 abbrev pub contains : ℕ → List ℕ → Bool
 contains n [] = false
 contains n (x ∷ xs) = if n == x then true else contains n xs
@@ -72,29 +74,35 @@ caught_up i m held = record {
 
 -- ---- taking a message
 
+-- item n of in-edge q comes: one that runs takes it only where it is the next one, one that gathers holds it, whatever its number
 abbrev pub takes_tuple : ℕ → ℕ → Replica → Replica
 takes_tuple q n (Gone i) = Gone i
 takes_tuple q n (Running x) = Running (record x { consumer = offered x.consumer q n })
 takes_tuple q n (Gathering g) = Gathering (record g { held = λ j. if j == q then insert_in n (g.held q) else g.held j })
 
+-- out-edge t is acknowledged up to k; one that gathers ignores it, for its lows will come with the move
 abbrev pub takes_ack : ℕ → ℕ → Replica → Replica
 takes_ack t k (Gone i) = Gone i
 takes_ack t k (Running x) = Running (record x { producer = acked_to x.producer t k })
 takes_ack t k (Gathering g) = Gathering g
 
+-- a replica that runs is named leader, where its incarnation i is meant; one that gathers can't lead
 abbrev pub takes_lead : ℕ → ℕ → Replica → Replica
 takes_lead i term (Gone j) = Gone j
 takes_lead i term (Running x) = if i == x.inc then Running (record x { producer = leading x.producer term }) else Running x
 takes_lead i term (Gathering g) = Gathering g
 
+-- a replica that runs is to serve its partner's incarnation: it serves none twice, and none below one that it served
 abbrev pub takes_serve : ℕ → ℕ → Replica → Replica
 takes_serve i target (Gone j) = Gone j
 takes_serve i target (Running x) = if (i == x.inc) && nat_lt x.served target then Running (begun target x) else Running x
 takes_serve i target (Gathering g) = Gathering g
 
+-- incarnation i is to stop, whether it runs or gathers; a late message to an earlier incarnation stops nothing
 abbrev pub takes_stop : ℕ → Replica → Replica
 takes_stop i r = if i == inc_of r then Gone (inc_of r) else r
 
+-- incarnation i is to begin: what an earlier one had is lost, even if it runs, and none begins twice
 abbrev pub takes_begin : ℕ → Replica → Replica
 takes_begin i r = if nat_lt (inc_of r) i then Gathering (record { inc = i; taken = 0; moved = None; held = λ q. [] }) else r
 
@@ -120,12 +128,14 @@ takes_end p i count m (Gathering g) =
     then (Running (caught_up i m g.held), envelope (control_at p) (Caught i) ∷ [])
     else (Gathering g, [])
 
+-- which replica of its pair a node is; A stands for each node that is no replica
 abbrev pub which_of : NodeId → Which
 which_of node.Ingress = A
 which_of (node.Replica s q w) = w
 which_of (node.Control s q) = A
 which_of node.Egress = A
 
+-- copy c of target t wants items again from number n on; only a leader that runs goes back for it
 abbrev pub takes_want : ℕ → ℕ → ℕ → Replica → Replica
 takes_want t c n (Gone j) = Gone j
 takes_want t c n (Running x) = Running (record x { producer = wanted x.producer t c n })
@@ -157,25 +167,30 @@ moves_on f p partner x mv =
     then (Running (record x { move = Some (record mv { sent = mv.sent + 1 }) }), envelope partner (Chunk mv.target (mv.sent + 1) mv.numbers) ∷ [])
     else (Running (record x { move = None }), envelope partner (ChunkEnd mv.target (size f p mv.numbers) mv.numbers) ∷ [])
 
+-- an untold mark goes to the controller, with the incarnation that took it; where none is untold, nothing is due
 abbrev pub reports : Flow → Partition → RunningNumbers → Option ℕ → Result (Replica × List Envelope) Refusal
 reports f p x None = Err NothingDue
 reports f p x (Some q) =
     Ok (Running (record x { consumer = telling x.consumer q }), envelope (control_at p) (Report x.inc (in_edge p q) (x.consumer.marks q)) ∷ [])
 
+-- a due item goes before any report
 abbrev pub sends_or_reports : Flow → Partition → RunningNumbers → Option Due → Result (Replica × List Envelope) Refusal
 sends_or_reports f p x (Some d) = Ok (Running (record x { producer = sent_on x.producer d }), sends_due f p d)
 sends_or_reports f p x None = reports f p x (untold f p x.consumer)
 
+-- a move that is under way goes before any due item
 abbrev pub moves_or_sends : Flow → Partition → NodeId → RunningNumbers → Option Move → Result (Replica × List Envelope) Refusal
 moves_or_sends f p partner x (Some mv) = Ok (moves_on f p partner x mv)
 moves_or_sends f p partner x None = sends_or_reports f p x (due f p (made_by f p x.consumer.count) x.producer)
 
+-- one piece of work of a replica that runs: a merge goes before all else, and sends nothing itself
 abbrev pub run_works : Flow → Partition → NodeId → RunningNumbers → Result (Replica × List Envelope) Refusal
 run_works f p partner x =
     if is_ready f p x.consumer
     then Ok (Running (record x { consumer = merged_one x.consumer }), [])
     else moves_or_sends f p partner x x.move
 
+-- only a replica that runs has work; one that gathers waits for messages
 abbrev pub replica_works : Flow → Partition → Which → Replica → Result (Replica × List Envelope) Refusal
 replica_works f p w (Gone i) = Err NothingDue
 replica_works f p w (Running x) = run_works f p (replica_at p (other w)) x
@@ -195,6 +210,7 @@ replica_asks p ask (Gone i) = Err NotRunning
 replica_asks p ask (Running x) = Ok (Running x, envelope (control_at p) (ask x.inc) ∷ [])
 replica_asks p ask (Gathering g) = Err NotRunning
 
+-- only a replica that runs pulls; whether the producer's buffer has the next item of in-edge q is asked before
 abbrev pub replica_pulls : ℕ → Replica → Result (Replica × List Envelope) Refusal
 replica_pulls q (Gone i) = Err NotRunning
 replica_pulls q (Running x) = Ok (Running (record x { consumer = pulled x.consumer q }), [])

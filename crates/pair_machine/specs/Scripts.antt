@@ -42,6 +42,7 @@ IsAllowedAt script e x = Unit {0}
 abbrev pub IsAllowed : List Order → State → Event → Type 0
 IsAllowed script s e = IsAllowedAt script e (s.nodes (at_node e))
 
+-- the script lets each event happen in the state before it, up to the first refused one; that events are legal isn't said
 abbrev pub AreAllowed : Flow → List Order → List Event → Result State Refusal → Type 0
 AreAllowed f script [] r = Unit {0}
 AreAllowed f script (e ∷ es) (Ok s) = IsAllowed script s e × AreAllowed f script es (step f s e)
@@ -54,6 +55,7 @@ DoesNotRepeat (event.AskStop n) later = later ≢ event.AskStop n
 DoesNotRepeat (event.AskBack n) later = later ≢ event.AskBack n
 DoesNotRepeat e later = Unit {0}
 
+-- no node fails twice, asks to be stopped twice or is asked back twice, not even after it was brought back
 abbrev pub HappenOnce : List Event → Type 0
 HappenOnce [] = Unit {0}
 HappenOnce (e ∷ es) = Each (DoesNotRepeat e) es × HappenOnce es

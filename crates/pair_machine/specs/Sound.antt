@@ -15,6 +15,7 @@ use Rattle.pair_machine.specs.Lengths.{IsWithinLengths}
 use Rattle.pair_machine.specs.Acknowledged.{IsAckedAtMostReported, acked_of}
 use Rattle.pair_machine.specs.Pairs.{ArePairsSound, Side, side_of}
 
+-- what holds in every state that events reach, in a form that each step keeps
 pub record IsSound (f : Flow) (s : State) : Type 0 where
   pub ends : AreBetweenNodes f s
   pub carried : AreOnTheirLinks f s
@@ -46,6 +47,7 @@ pub record IsOwed (f : Flow) (s : State) : Type 0 where
 
 -- ---- counted and lost
 
+-- a replica runs; one that gathers doesn't run yet
 abbrev pub IsRunning : Replica → Type 0
 IsRunning (Gone i) = ⊥
 IsRunning (Running x) = Unit {0}

@@ -36,15 +36,19 @@ use Rattle.pair_machine.specs.declared.order.Order.{Order}
 
 -- ---- plans and trades
 
+-- a stage of one partition that totals each account's rows: it gives a row for each row
 abbrev pub total : Stage
 total = record { parts = 1; by = column.Account; op = op.Total by.Account }
 
+-- a plan of one stage, with the trades as its only source
 abbrev pub totals : PlanView
 totals = record { version = 1; stages = total ∷ []; mark = 64; hold = 1024 }
 
+-- a plan of two stages, of which the second totals the first one's rows
 abbrev pub totals_of_totals : PlanView
 totals_of_totals = record { version = 1; stages = total ∷ total ∷ []; mark = 64; hold = 1024 }
 
+-- a plan of one stage that totals trades and cash movements alike; its second source is the cash movements
 abbrev pub totals_of_both : PlanView
 totals_of_both = record { version = 2; stages = total ∷ []; mark = 64; hold = 1024 }
 
@@ -83,23 +87,29 @@ of_one_minute =
     ∷ record { source = 1; row = cash (pos 34204) (pos 3) }
     ∷ []
 
+-- the numbers of the plan of one stage, for n trades
 abbrev pub one_stage : ℕ → Flow
 one_stage n = flow_of totals (trades n)
 
+-- the numbers of the plan of two stages, for n trades
 abbrev pub two_stages : ℕ → Flow
 two_stages n = flow_of totals_of_totals (trades n)
 
+-- the numbers of the plan of two sources, for two trades and two cash movements
 abbrev pub two_sources : Flow
 two_sources = flow_of totals_of_both both
 
 -- ---- events
 
+-- replica A of the one partition of a stage, which leads at the opening
 abbrev pub replica_a : ℕ → NodeId
 replica_a stage = node.Replica stage 0 A
 
+-- replica B of the one partition of a stage, which doesn't lead at the opening
 abbrev pub replica_b : ℕ → NodeId
 replica_b stage = node.Replica stage 0 B
 
+-- the controller of the one partition of a stage
 abbrev pub control : ℕ → NodeId
 control stage = node.Control stage 0
 
@@ -124,17 +134,21 @@ abbrev pub take_all : NodeId → NodeId → ℕ → ℕ → List Event
 take_all from to index zero = []
 take_all from to index (suc n) = take from to index ++ take_all from to (index + 1) n
 
+-- a replica fails; its controller learns of it only when it takes the replica's message
 abbrev pub kill : NodeId → List Event
 kill who = event.Kill who ∷ []
 
+-- a replica asks its controller for its own stop; it runs on until the controller's message is taken
 abbrev pub ask_stop : NodeId → List Event
 ask_stop who = event.AskStop who ∷ []
 
+-- the replica's partner asks for it back, not the replica itself
 abbrev pub ask_back : NodeId → List Event
 ask_back who = event.AskBack who ∷ []
 
 -- ---- what they lead to
 
+-- no refusal came, and P holds of the state
 abbrev pub Reaches : (State → Type 0) → Result State Refusal → Type 0
 Reaches P (Ok s) = P s
 Reaches P (Err refusal) = ⊥
@@ -165,11 +179,13 @@ pub record OutShown : Type 0 where
   pub cursor_a : ℕ
   pub cursor_b : ℕ
 
+-- what is shown of a replica, by its mode
 pub data ReplicaShown : Type 0 where
   IsGone : (inc : ℕ) → ReplicaShown
   Runs : (replica : RunningShown) (into : InShown) (out : OutShown) → ReplicaShown
   Gathers : (inc taken : ℕ) (held : List ℕ) → ReplicaShown
 
+-- what is shown of a replica of partition 0 of a stage: its mode, and the first edge each way, but no move
 abbrev pub shown : Flow → ℕ → Replica → ReplicaShown
 shown f stage (Gone i) = IsGone i
 shown f stage (Running x) =
@@ -183,10 +199,11 @@ shown f stage (Running x) =
     })
 shown f stage (Gathering g) = Gathers g.inc g.taken (g.held 0)
 
--- replica A, and replica B, of partition 0 of a stage
+-- what is shown of replica A of partition 0 of a stage
 abbrev pub a_of : Flow → State → ℕ → ReplicaShown
 a_of f s stage = shown f stage (replica_in (s.nodes (replica_a stage)))
 
+-- what is shown of replica B of partition 0 of a stage
 abbrev pub b_of : Flow → State → ℕ → ReplicaShown
 b_of f s stage = shown f stage (replica_in (s.nodes (replica_b stage)))
 
@@ -198,9 +215,11 @@ pub record WatchedShown : Type 0 where
   pub stop : Bool
   pub back : Bool
 
+-- what is shown of a watched replica: of its reports only that of the first in-edge
 abbrev pub watched_shown : Watched → WatchedShown
 watched_shown h = record { status = h.status; inc = h.inc; report = h.reports 0; stop = h.stop; back = h.back }
 
+-- what is shown of a controller, of one in-edge
 pub record ControllerShown : Type 0 where
   pub term : ℕ
   pub leader : Option Which
@@ -208,6 +227,7 @@ pub record ControllerShown : Type 0 where
   pub a : WatchedShown
   pub b : WatchedShown
 
+-- what is shown of a controller: of what it acknowledged only the first in-edge
 abbrev pub controller_shown : Controller → ControllerShown
 controller_shown c = record { term = c.term; leader = c.leader; acked = c.acked 0; a = watched_shown (c.watched A); b = watched_shown (c.watched B) }
 
@@ -391,6 +411,7 @@ stop_both = record { node = replica_a 1; kill = false; at = 1; back = None } ∷
 abbrev pub the_pair : Partition
 the_pair = record { stage = 1; part = 0 }
 
+-- the rows: what lists of events that were worked by hand lead to
 pub record WorkedRows : Type 0 where
   -- the plans are within their limits
   pub plans : IsPlan totals × IsPlan totals_of_totals × IsPlan totals_of_both

@@ -1,5 +1,5 @@
 -- One step of a partition: what merging the next item makes of its consumer, its operator and its producer, and what these stand for.
-use Rattle.std.specs.Prelude.{◌≡◌, ◌<◌, ◌≤◌, ◌-◌, ◌++◌, ◌∷◌, ℕ, List, [], Option, Some, length, slice_get}
+use Rattle.std.specs.Prelude.{◌≡◌, ◌<◌, ◌≤◌, ◌-◌, ◌++◌, ◌∷◌, List, [], Option, Some, length, slice_get}
 use Rattle.tuple_edge.specs.Input.{Input}
 use Rattle.tuple_edge.specs.Item.{stamp_of}
 use Rattle.tuple_edge.specs.declared.item.Item.{Item}

@@ -70,8 +70,8 @@ fn reason_at(alloc: Global, stopped: Stopped) -> Result<String, OutOfMemory>
     Ok(whole)
 }
 
-// An event is refused, or memory was wanting where it was applied.
-pub(crate) fn refused_event(alloc: Global, name: &str, stopped: Stopped) -> Stop
+/// Why a command stops at an event of a file that is refused, or for want of memory where it was applied.
+pub fn refused_event(alloc: Global, name: &str, stopped: Stopped) -> Stop
     ensures { IsRefusedBy result (line_of name.now (at_line stopped.line (error_text stopped.error))) (stopped.error ≢ ApplyError.OutOfMemory) }
 {
     if stopped.error == ApplyError::OutOfMemory {

@@ -10,9 +10,9 @@ use run_journal::{EventsError, Lined, MAX_EVENTS_BYTES, read_events};
 use std::alloc::Global;
 use std::marker::Model;
 
-// A list of events, each with its line.
+/// A list of events, each with its line.
 #[derive(Drop)]
-pub(crate) struct Events {
+pub struct Events {
     lines: Vec<Lined>,
 }
 
@@ -26,18 +26,18 @@ impl Model for Events {
 }
 
 impl Events {
-    // The events in order.
-    pub(crate) fn lines(&self) -> &[Lined]
+    /// The events in order.
+    pub fn lines(&self) -> &[Lined]
         ensures { result.now ≡ self.now }
     {
         &self.lines
     }
 }
 
-// A file with events for a plan.
+/// A file with events for a plan.
 #[derive(Drop)]
-pub(crate) struct EventsFile<'a> {
-    pub(crate) plan: &'a Plan,
+pub struct EventsFile<'a> {
+    pub plan: &'a Plan,
 }
 
 impl<'a> Input for EventsFile<'a> {

@@ -10,4 +10,6 @@ mod event_line;
 mod events_file;
 mod replay;
 
+pub use event_line::refused_event;
+pub use events_file::{Events, EventsFile};
 pub use replay::replay_text;

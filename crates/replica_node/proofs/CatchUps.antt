@@ -1,5 +1,5 @@
 -- A newcomer at the end of its move stands for the machine's replica that has caught up.
-use Rattle.std.proofs.Common.{length, map, sym, ap, ◌∙◌, subst}
+use Rattle.std.proofs.Common.{map, sym, ap, ◌∙◌, subst}
 use Rattle.flux_consumer.specs.ConsumerView.{ConsumerView}
 use Rattle.flux_producer.specs.ProducerView.{over_buffers}
 use Rattle.stream_ops.specs.State.{StateView}

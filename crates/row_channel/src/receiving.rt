@@ -4,7 +4,7 @@ ghost use Rattle.crossbeam_channel.specs.Ends.{receives_on};
 ghost use Rattle.row_channel.specs.Ends.{batch_of, receives_from, rows_got};
 ghost use Rattle.row_channel.specs.Nexts.{next_row};
 ghost use Rattle.tuple_edge.specs.declared.row.Row.{Row};
-ghost use Rattle.std.specs.Prelude.{◌≡◌, ◌<◌, ◌≤◌, ◌++◌, ◌+◌, ◌^◌, [], true, List, length, vec_capacity, vec_len};
+ghost use Rattle.std.specs.Prelude.{◌≡◌, ◌<◌, ◌≤◌, ◌++◌, ◌+◌, ◌^◌, [], true, List, length, vec_capacity};
 
 use crate::ends::{BATCH_ROWS, LogPass, Receiver, RowReceiver};
 use crate::message::{Got, Message};

@@ -4,7 +4,7 @@ ghost use Rattle.row_wire.specs.Lines.{lines_of};
 ghost use Rattle.row_wire.specs.Written.{IsWritten, Told, WritesOn};
 ghost use Rattle.row_wire.specs.declared.written.Written.TheVariants.{Whole};
 ghost use Rattle.std.specs.Prelude.{◌≡◌, ◌≤◌, ◌++◌, [], IfOk, drop, if◌then◌else◌, length, string_bytes, take};
-ghost use Rattle.trade_text.specs.Text.{column_names, count_line, part_text, text};
+ghost use Rattle.trade_text.specs.Text.{count_line, part_text, text};
 
 use crate::wire::{Broken, Wire, put_all};
 use crate::written::Written;

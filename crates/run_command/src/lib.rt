@@ -13,5 +13,5 @@ mod trial;
 
 pub use outcome::{Journal, Outcome};
 pub use run::run_outcome;
-pub use script_file::script_at;
+pub use script_file::{ScriptFile, script_at};
 pub use trial::trial_outcome;

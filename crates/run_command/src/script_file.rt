@@ -11,10 +11,10 @@ use flux_outside::Files;
 use plan_reader::Plan;
 use std::alloc::Global;
 
-// A file with the failure script for a plan.
+/// A file with the failure script for a plan.
 #[derive(Drop)]
-struct ScriptFile<'a> {
-    plan: &'a Plan,
+pub struct ScriptFile<'a> {
+    pub plan: &'a Plan,
 }
 
 impl<'a> Input for ScriptFile<'a> {

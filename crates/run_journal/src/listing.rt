@@ -26,7 +26,7 @@ pub fn once<E: Copy>(event: E) -> Repeated<E>
 
 /// What reads the lines of a text of events after its first one, each as an entry.
 pub trait EventForm<L> {
-    ghost use Rattle.std.specs.Prelude.{ℕ, ◌≤◌, IfOk, List};
+    ghost use Rattle.std.specs.Prelude.{◌≤◌, IfOk};
     ghost use Rattle.run_journal.specs.Limits.{max_repeats};
     ghost use Rattle.run_journal.specs.Listing.{LineReading};
     ghost use Rattle.text_words.specs.Reading.{Takes};

@@ -1,5 +1,5 @@
 -- The lines of edges, as contracts see the edges, are those of the numbers that they stand for.
-use Rattle.std.proofs.Common.{◌≡◌, ◌∙◌, ◌<◌, ℕ, Bool, true, false, List, [], ◌∷◌, ◌++◌, ◌==◌, length, codes, if◌then◌else◌, slice_index, refl, ap, subst}
+use Rattle.std.proofs.Common.{◌≡◌, ◌<◌, ℕ, List, [], ◌∷◌, ◌++◌, codes, slice_index, ap, subst}
 use Rattle.std.specs.Fmt.{decimal}
 use Rattle.tuple_edge.specs.Input.{Input}
 use Rattle.tuple_edge.specs.declared.item.Item.{Item}

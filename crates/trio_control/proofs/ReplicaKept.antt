@@ -1,5 +1,5 @@
 -- What is always true of a replica that runs stays true.
-use Rattle.std.proofs.Common.{All, ◌≡◌, ◌<◌, ◌+◌, ◌∙◌, ℕ, Bool, true, false, List, [], ◌∷◌, Option, None, Some, Result, Ok, Err, length, map, refl, sym, ap, subst, if◌then◌else◌}
+use Rattle.std.proofs.Common.{All, ◌≡◌, ◌+◌, ◌∙◌, ℕ, Bool, true, false, List, Option, None, Some, Result, Ok, Err, length, map, refl, sym, ap, subst, if◌then◌else◌}
 use Rattle.std.specs.Prelude.{◌==◌, IfOk, OnErr, OnOk}
 use Rattle.std.proofs.Math.ListN.{length-set}
 use Rattle.std.proofs.lemmas.List.{length-map}
@@ -8,17 +8,17 @@ use Rattle.tuple_edge.specs.declared.item.Item.{Item}
 use Rattle.tuple_edge.specs.declared.memory.OutOfMemory.{OutOfMemory}
 use Rattle.merge_order.specs.MergeView.{MergeView, after_offer, item_of, least, mark_of, with_item}
 use Rattle.merge_order.proofs.AfterNext.{after_next-marks}
-use Rattle.flux_consumer.specs.ConsumerView.{ConsumerView, report_of, with_merge}
+use Rattle.flux_consumer.specs.ConsumerView.{ConsumerView, report_of}
 use Rattle.flux_producer.specs.Due.{due_of}
 use Rattle.flux_producer.specs.OutEdge.{sent}
-use Rattle.flux_producer.specs.ProducerView.{ProducerView, edge_at, without_room}
+use Rattle.flux_producer.specs.ProducerView.{edge_at, without_room}
 use Rattle.flux_producer.specs.declared.due.Due.{Due}
 use Rattle.op_spec.specs.Times.{IsTimely}
 use Rattle.partition_step.specs.Merging.{Merges}
 use Rattle.partition_step.proofs.TimelyNext.{all_offer, next_holds, next_keeps}
 use Rattle.trio_machine.specs.declared.body.TrioBody.{TrioBody}
 use Rattle.trio_machine.specs.declared.node.TrioNode.{TrioNode}
-use Rattle.trio_control.specs.ReplicaView.{IsRunning, MergesOrSends, RunWorks, contents_of_run, parts_of_run, pulled_by, reporting, sending, sending_or_reporting}
+use Rattle.trio_control.specs.ReplicaView.{IsRunning, MergesOrSends, RunWorks, contents_of_run, parts_of_run, pulled_by, reporting, sending}
 use Rattle.trio_control.specs.declared.role.TrioRole.{TrioRole}
 use Rattle.trio_control.specs.declared.running.TrioRunning.{TrioRunning}
 

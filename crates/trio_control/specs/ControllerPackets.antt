@@ -1,5 +1,5 @@
 -- The packets of a controller of a group, and what they are in the machine.
-use Rattle.std.specs.Prelude.{◌≡◌, ◌<◌, ◌≤◌, ℕ, IsTrue, List, [], ◌∷◌, ◌++◌, ◌+◌, if◌then◌else◌, length, max, nat_lt, slice_index}
+use Rattle.std.specs.Prelude.{◌≡◌, ◌<◌, ◌≤◌, ℕ, List, [], ◌∷◌, ◌++◌, ◌+◌, if◌then◌else◌, length, max, nat_lt, slice_index}
 use Rattle.tuple_edge.specs.Limits.{number_limit}
 use Rattle.plan_reader.specs.Nodes.{sources_of}
 use Rattle.plan_reader.specs.PlanView.{PlanView}
@@ -8,7 +8,7 @@ use Rattle.pair_machine.specs.Numbers.{Partition, in_edge}
 use Rattle.trio_machine.specs.Controllers.{controller_takes, least}
 use Rattle.trio_machine.specs.Flow.{trio_flow}
 use Rattle.trio_machine.specs.Links.{HasNode}
-use Rattle.trio_machine.specs.Messages.{Message, Tuple, Ack, Report, Lead, Down, Envelope}
+use Rattle.trio_machine.specs.Messages.{Message, Ack, Report, Lead, Down, Envelope}
 use Rattle.trio_machine.specs.Numbers.{Controller, ControllerNode, Node, copy_of, group_size}
 use Rattle.trio_machine.specs.Replicas.{to_producers}
 use Rattle.trio_machine.specs.declared.body.TrioBody.{TrioBody}

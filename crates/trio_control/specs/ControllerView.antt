@@ -1,5 +1,5 @@
 -- What contracts see of a controller, and the machine's numbers that it has.
-use Rattle.std.specs.Prelude.{◌≡◌, ◌<◌, ◌≤◌, ◌+◌, ℕ, zero, suc, Bool, true, IsTrue, List, MatchOption, Option, None, Some, if◌then◌else◌, length, max, replicate, slice_index, slice_index_or, slice_set}
+use Rattle.std.specs.Prelude.{◌≡◌, ◌<◌, ◌≤◌, ℕ, zero, suc, Bool, true, IsTrue, List, MatchOption, Option, None, Some, if◌then◌else◌, length, max, replicate, slice_index, slice_index_or, slice_set}
 use Rattle.pair_machine.specs.Numbers.{Partition}
 use Rattle.pair_machine.specs.Drain.{partition}
 use Rattle.trio_machine.specs.Controllers.{least_with}

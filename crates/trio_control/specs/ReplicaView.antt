@@ -1,7 +1,7 @@
 -- What contracts see of a replica, and what each event makes of it.
-use Rattle.std.specs.Prelude.{◌≡◌, ◌==◌, ◌<◌, ◌≤◌, ◌+◌, ℕ, IsTrue, List, [], ◌∷◌, Option, None, Some, length}
+use Rattle.std.specs.Prelude.{◌≡◌, ◌==◌, ◌<◌, ◌+◌, ℕ, IsTrue, List, [], ◌∷◌, Option, None, Some, length}
 use Rattle.std.specs.List.{All}
-use Rattle.tuple_edge.specs.Limits.{edge_limit, number_limit}
+use Rattle.tuple_edge.specs.Limits.{number_limit}
 use Rattle.tuple_edge.specs.declared.event.Worked.{Worked}
 use Rattle.tuple_edge.specs.declared.event.Worked.TheVariants as worked
 use Rattle.tuple_edge.specs.declared.item.Item.{Item}
@@ -21,8 +21,6 @@ use Rattle.pair_machine.specs.Drain.{partition}
 use Rattle.pair_machine.specs.Numbers.{Partition, in_edge, out_edge}
 use Rattle.partition_step.specs.Answering.{targets_of}
 use Rattle.partition_step.specs.Merging.{Merges, Parts}
-use Rattle.partition_step.specs.Places.{IsPlace}
-use Rattle.trio_machine.specs.Machine.{first_term}
 use Rattle.trio_machine.specs.Numbers.{control_at, group_size}
 use Rattle.trio_machine.specs.declared.body.TrioBody.{TrioBody}
 use Rattle.trio_machine.specs.declared.body.TrioBody.TheVariants as body

@@ -1,6 +1,5 @@
 // What a replica that runs has, and what it takes and does.
 ghost use Rattle.flux_consumer.specs.ConsumerView.{report_of};
-ghost use Rattle.flux_producer.specs.Due.{due_of};
 ghost use Rattle.merge_order.specs.MergeView.{all_wait, item_of, least, mark_of};
 ghost use Rattle.op_spec.specs.Times.{IsTimely};
 ghost use Rattle.partition_step.specs.Merging.{Merges};

@@ -1,5 +1,5 @@
 // All that a node ever sent.
-ghost use Rattle.std.specs.Prelude.{◌≡◌, ◌≤◌, ◌<◌, ◌+◌, ◌++◌, ◌∷◌, [], if◌then◌else◌, IfErr, IfOk, IfSome, OnErr, OnOk, Some, length, slice_get, slice_set};
+ghost use Rattle.std.specs.Prelude.{◌≡◌, ◌<◌, ◌+◌, ◌++◌, ◌∷◌, [], if◌then◌else◌, IfErr, IfOk, IfSome, OnErr, OnOk, Some, length, slice_get, slice_set};
 ghost use Rattle.trio_control.specs.Contents.{appended};
 ghost use Rattle.trio_core.specs.Acts.{ActsSo, IsRefusedSo, MayBeAsked};
 ghost use Rattle.trio_core.specs.CoreView.{contents_of, inputs_in, name_of};

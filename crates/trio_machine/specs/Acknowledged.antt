@@ -24,6 +24,7 @@ ReplicaLows acked (Running x) = (t : ℕ) → x.producer.lows t ≤ acked t
 abbrev pub ControllerAcks : Controller → Type 0
 ControllerAcks x = (q c : ℕ) → c < group_size → x.up c ≡ true → x.acked q ≤ x.reports c q
 
+-- what a producer forgets is acknowledged, and what a controller acknowledges each replica that it holds up has reported
 abbrev pub NodeLows : (EdgeId → ℕ) → TrioNode → Node → Type 0
 NodeLows acked node.Ingress x = (t : ℕ) → (ingress_in x).producer.lows t ≤ acked (ingress_edge 0 t)
 NodeLows acked (node.Replica s p c) x = ReplicaLows (λ t. acked (out_edge (partition s p) t)) (replica_in x)

@@ -11,6 +11,7 @@ pub record TakenAsks (f : Flow) (n from : TrioNode) (m : Message) : Type 0 where
   pub carried : IsCarried f from n m
   pub bound : MessageBound f m
 
+-- what is asked of an act: only one that takes a message owes anything
 abbrev pub ActAsks : Flow → TrioNode → Act → Type 0
 ActAsks f n (Takes from m) = TakenAsks f n from m
 ActAsks f n a = Unit {0}

@@ -15,6 +15,7 @@ reported c q k x = record x { reports = λ d. if d == c then with_at (x.reports 
 
 -- ---- leaders
 
+-- whether the leader, if there is one, is replica c
 abbrev pub leads_now : Option ℕ → ℕ → Bool
 leads_now None c = false
 leads_now (Some d) c = d == c
@@ -60,6 +61,7 @@ acks_from zero q p x = []
 acks_from (suc n) q p x =
     (if nat_lt (x.acked q) (least x q) then to_producers p q (Ack (in_edge p q) (least x q)) else []) ++ acks_from n (q + 1) p x
 
+-- each in-edge is acknowledged up to the least report of the replicas that are up, and never up to less than before
 abbrev pub acks : ℕ → Partition → Controller → (Controller × List Envelope)
 acks edges p x = (record x { acked = λ q. max (x.acked q) (least x q) }, acks_from edges 0 p x)
 

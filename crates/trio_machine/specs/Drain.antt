@@ -26,6 +26,7 @@ use Rattle.trio_machine.specs.declared.node.TrioNode.TheVariants as node
 
 -- ---- who drains, and which group is lost
 
+-- whether a replica still runs: one that is gone never does again
 abbrev pub is_running : Replica → Bool
 is_running Gone = false
 is_running (Running x) = true
@@ -71,6 +72,7 @@ drain_into f s p to c = pulls_below f s p to c (f.sources p.stage) ++ replicate 
 abbrev pub drain_group : Flow → State → Partition → List TrioEvent
 drain_group f s p = drain_into f s p (replica_at p (server s p)) (consumer_in (replicas_of s p (server s p)))
 
+-- the groups drain one after another, each from the servers of the groups before it
 abbrev pub drain_groups : Flow → State → List Partition → List TrioEvent
 drain_groups f s [] = []
 drain_groups f s (p ∷ ps) = drain_group f s p ++ drain_groups f s ps
@@ -96,6 +98,7 @@ abbrev pub ReplicaIsReady : Flow → Partition → Replica → Type 0
 ReplicaIsReady f p Gone = ⊥
 ReplicaIsReady f p (Running x) = is_ready f p x.consumer ≡ true
 
+-- a node has a merge that is ready; ingress and controllers have none
 abbrev pub MergeIsReady : Flow → TrioNode → Node → Type 0
 MergeIsReady f node.Ingress x = ⊥
 MergeIsReady f (node.Replica s p c) x = ReplicaIsReady f (partition s p) (replica_in x)
@@ -135,6 +138,7 @@ pub record FindsLost (f : Flow) (s : State) : Type 0 where
   pub first : (p : Partition) → first_lost s (pairs_up_to f f.stages) ≡ Some p → IsFirstLost s (pairs_up_to f f.stages) p
   pub none : first_lost s (pairs_up_to f f.stages) ≡ None → (p : Partition) → IsOfStage f p → IsServed s p
 
+-- the search for a lost group is right in every state, sound or not
 abbrev pub LostGroupsAreFound : Type 0
 LostGroupsAreFound = (f : Flow) (s : State) → FindsLost f s
 
@@ -157,6 +161,7 @@ pub record IsDrained (plan : PlanView) (inputs : List Input) (s : State) : Type 
   pub done : IsEgressDone (trio_flow plan inputs) reached
   pub output : output_first plan inputs (egress_in (reached.nodes node.Egress)).count ≡ output plan inputs
 
+-- from every sound state in which each group is served the drain leads to the end, and the output is whole there
 abbrev pub DrainIsWhole : Type 0
 DrainIsWhole = (plan : PlanView) (inputs : List Input) → IsTrioPlan plan → (s : State) → IsSound (trio_flow plan inputs) s → ((p : Partition) → IsOfStage (trio_flow plan inputs) p → IsServed s p)
     → IsDrained plan inputs s

@@ -27,6 +27,7 @@ TrioPlansAreFlows = (plan : PlanView) (inputs : List Input) → IsTrioPlan plan 
 
 -- ---- soundness
 
+-- the opening of every plan of one source is sound, whatever the inputs
 abbrev pub TheOpeningIsSound : Type 0
 TheOpeningIsSound = (plan : PlanView) (inputs : List Input) → IsTrioPlan plan → IsSound (trio_flow plan inputs) opening
 
@@ -44,6 +45,7 @@ pub record IsReached (plan : PlanView) (inputs : List Input) (t : State) : Type 
   pub sound : IsSound (trio_flow plan inputs) t
   pub owed : IsOwed (trio_flow plan inputs) t
 
+-- so it is after every legal list of every plan of one source, however many groups it loses
 abbrev pub LegalListsReachSoundStates : Type 0
 LegalListsReachSoundStates = (plan : PlanView) (inputs : List Input) → IsTrioPlan plan → (es : List TrioEvent) (t : State) → IsLegal (trio_flow plan inputs) es t → IsReached plan inputs t
 
@@ -52,6 +54,7 @@ pub record GivesWhatIsAsked (plan : PlanView) (inputs : List Input) (s : State) 
   pub nodes : (n : TrioNode) → NodeBound (trio_flow plan inputs) n (s.nodes n)
   pub messages : (n from : TrioNode) (m : Message) → Among m (s.sent from n) → TakenAsks (trio_flow plan inputs) n from m
 
+-- so every state that events reach gives it: the code may rely on it at each of its steps
 abbrev pub SoundStatesGiveWhatIsAsked : Type 0
 SoundStatesGiveWhatIsAsked = (plan : PlanView) (inputs : List Input) → IsTrioPlan plan → (s : State) → IsSound (trio_flow plan inputs) s → GivesWhatIsAsked plan inputs s
 

@@ -22,5 +22,6 @@ pub record LegalListsGoOn (f : Flow) : Type 0 where
   pub split : (s t : State) (xs ys : List TrioEvent) → IsLegalFrom f s (xs ++ ys) t → (m : State) × IsLegalFrom f s xs m × IsLegalFrom f m ys t
   pub one_end : (s t u : State) (es : List TrioEvent) → IsLegalFrom f s es t → IsLegalFrom f s es u → t ≡ u
 
+-- so it is of every flow
 abbrev pub ListsGoOn : Type 0
 ListsGoOn = (f : Flow) → LegalListsGoOn f

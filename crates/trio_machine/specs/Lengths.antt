@@ -11,6 +11,7 @@ use Rattle.trio_machine.specs.Numbers.{Replica, Gone, Running, Node}
 use Rattle.trio_machine.specs.declared.node.TrioNode.{TrioNode}
 use Rattle.trio_machine.specs.declared.node.TrioNode.TheVariants as node
 
+-- a replica that runs has merged what it took and sent no further than it may; one that is gone owes nothing
 abbrev pub ReplicaBound : Flow → Partition → Replica → Type 0
 ReplicaBound f p Gone = Unit {0}
 ReplicaBound f p (Running x) = ConsumerBound f p x.consumer × ProducerBound x.producer

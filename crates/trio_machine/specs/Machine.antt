@@ -24,6 +24,7 @@ pub record State : Type 0 where
 
 -- ---- the opening
 
+-- ingress at the opening: it has made nothing, and is the only producer of its edges, so it leads in term 1
 abbrev pub new_ingress : Ingress
 new_ingress = record { makes = 0; producer = new_producer 1 true }
 
@@ -32,12 +33,15 @@ abbrev pub first_term : ℕ → ℕ
 first_term zero = 1
 first_term (suc c) = 0
 
+-- a replica at the opening: it has taken, merged and sent nothing
 abbrev pub new_running : ℕ → RunningNumbers
 new_running c = record { consumer = new_consumer; producer = new_producer (first_term c) (c == 0) }
 
+-- a controller at the opening: it holds all three up, has acknowledged nothing, and replica 0 leads in term 1
 abbrev pub new_controller : Controller
 new_controller = record { up = λ c. true; reports = λ c q. 0; acked = λ q. 0; term = 1; leader = Some 0 }
 
+-- a node at the opening; the name alone decides its kind, and need not be one of the plan
 abbrev pub new_node : TrioNode → Node
 new_node node.Ingress = IngressNode new_ingress
 new_node (node.Replica s p c) = ReplicaNode (Running (new_running c))
@@ -50,36 +54,44 @@ opening = record { nodes = new_node; sent = λ from to. [] }
 
 -- ---- the numbers of a node as those of its kind; of another kind's name there are none
 
+-- the replica that a node is; of another kind's node one that is gone
 abbrev pub replica_in : Node → Replica
 replica_in (ReplicaNode r) = r
 replica_in x = Gone
 
+-- the controller that a node is; of another kind's node one as at the opening
 abbrev pub controller_in : Node → Controller
 controller_in (ControllerNode x) = x
 controller_in x = new_controller
 
+-- ingress, where the node is it; of another kind's node ingress as at the opening
 abbrev pub ingress_in : Node → Ingress
 ingress_in (IngressNode x) = x
 ingress_in x = new_ingress
 
+-- egress, where the node is it; of another kind's node a consumer that has taken nothing
 abbrev pub egress_in : Node → Consumer
 egress_in (EgressNode x) = x
 egress_in x = new_consumer
 
 -- ---- what a node is after an act, and what it sends, or why the act is none
 
+-- what an act of ingress gives, as that of a node: messages and refusals stay as they are
 abbrev pub as_ingress : Result (Ingress × List Envelope) Refusal → Result (Node × List Envelope) Refusal
 as_ingress (Ok d) = Ok (IngressNode d.0, d.1)
 as_ingress (Err e) = Err e
 
+-- the same of an act of a replica
 abbrev pub as_replica : Result (Replica × List Envelope) Refusal → Result (Node × List Envelope) Refusal
 as_replica (Ok d) = Ok (ReplicaNode d.0, d.1)
 as_replica (Err e) = Err e
 
+-- the same of an act of egress
 abbrev pub as_egress : Result (Consumer × List Envelope) Refusal → Result (Node × List Envelope) Refusal
 as_egress (Ok d) = Ok (EgressNode d.0, d.1)
 as_egress (Err e) = Err e
 
+-- what a controller is after an act, and what it sends: it only ever takes messages, and refuses all else
 abbrev pub controller_does : Flow → Partition → Act → Controller → Result (Node × List Envelope) Refusal
 controller_does f p (Takes from m) x = let d = controller_takes (f.sources p.stage) p (copy_of from) m x in Ok (ControllerNode d.0, d.1)
 controller_does f p Works x = Err NothingDue
@@ -87,6 +99,7 @@ controller_does f p Makes x = Err NothingDue
 controller_does f p Dies x = Err NotRunning
 controller_does f p (Pulls q) x = Err NotRunning
 
+-- what the node of that name is after an act, and what it sends, or why the act is none
 abbrev pub does : Flow → TrioNode → Act → Node → Result (Node × List Envelope) Refusal
 does f node.Ingress a x = as_ingress (ingress_does f a (ingress_in x))
 does f (node.Replica s p c) a x = as_replica (replica_does f (partition s p) a (replica_in x))
@@ -103,10 +116,12 @@ at_node event.Make = node.Ingress
 at_node (event.Kill n) = n
 at_node (event.Pull from to) = to
 
+-- the message found at a place among those sent is taken; where nothing was sent so far, why not
 abbrev pub taking_of : TrioNode → ℕ → List Message → Option Message → Result Act Refusal
 taking_of from k sent None = Err (NotSent k (length sent))
 taking_of from k sent (Some m) = Ok (Takes from m)
 
+-- the buffer of a replica's out-edge t; one that is gone has none
 abbrev pub buffer_in : Flow → Partition → ℕ → Replica → Option Buffer
 buffer_in f p t Gone = None
 buffer_in f p t (Running x) = Some (record { low = x.producer.lows t; produced = made_by f p x.consumer.count t })
@@ -118,6 +133,7 @@ buffer_of f t (node.Replica s p c) x = buffer_in f (partition s p) t (replica_in
 buffer_of f t (node.Control s p) x = None
 buffer_of f t node.Egress x = None
 
+-- the mark of a replica's in-edge q; one that is gone has none
 abbrev pub mark_in : ℕ → Replica → Option ℕ
 mark_in q Gone = None
 mark_in q (Running x) = Some (x.consumer.marks q)
@@ -150,9 +166,11 @@ abbrev pub messages_to : TrioNode → List Envelope → List Message
 messages_to n [] = []
 messages_to n (x ∷ xs) = if is_node x.to n then x.message ∷ messages_to n xs else messages_to n xs
 
+-- what was sent, with these messages of one node behind what it had sent to each receiver; nothing is ever taken away
 abbrev pub posted : TrioNode → List Envelope → (TrioNode → TrioNode → List Message) → TrioNode → TrioNode → List Message
 posted n out sent from to = if is_node from n then sent from to ++ messages_to to out else sent from to
 
+-- the nodes, with other numbers for one of them
 abbrev pub changed : TrioNode → Node → (TrioNode → Node) → TrioNode → Node
 changed n x nodes m = if is_node m n then x else nodes m
 
@@ -165,6 +183,7 @@ abbrev pub after : TrioNode → State → Result (Node × List Envelope) Refusal
 after n s (Ok d) = Ok (put n s d.0 d.1)
 after n s (Err e) = Err e
 
+-- the state after a node did what was asked of it, or the reason why nothing was asked
 abbrev pub acted : Flow → TrioNode → State → Result Act Refusal → Result State Refusal
 acted f n s (Ok a) = after n s (does f n a (s.nodes n))
 acted f n s (Err e) = Err e
@@ -175,6 +194,7 @@ step f s e = acted f (at_node e) s (act_of f s e)
 
 -- ---- lists
 
+-- the state that events reach one after another, or the first refusal, behind which nothing happens
 abbrev pub follow : Flow → List TrioEvent → Result State Refusal → Result State Refusal
 follow f [] s = s
 follow f (e ∷ es) (Ok s) = follow f es (step f s e)

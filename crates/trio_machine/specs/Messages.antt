@@ -17,6 +17,7 @@ pub record Envelope : Type 0 where
   pub to : TrioNode
   pub message : Message
 
+-- a message, addressed to its receiver
 abbrev pub envelope : TrioNode → Message → Envelope
 envelope to message = record { to = to; message = message }
 

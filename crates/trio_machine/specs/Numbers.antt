@@ -43,9 +43,11 @@ pub data Node : Type 0 where
 
 -- ---- names
 
+-- the name of replica c of a partition
 abbrev pub replica_at : Partition → ℕ → TrioNode
 replica_at p c = node.Replica p.stage p.part c
 
+-- the name of the controller of a partition's group
 abbrev pub control_at : Partition → TrioNode
 control_at p = node.Control p.stage p.part
 

@@ -16,6 +16,7 @@ use Rattle.trio_machine.specs.declared.node.TrioNode.TheVariants as node
 abbrev pub consumer_of : Flow → Partition → Due → TrioNode
 consumer_of f p d = if p.stage == f.stages then node.Egress else node.Replica (p.stage + 1) d.to d.copy
 
+-- an item that is due goes to the one replica of its target whose turn it is, or to egress
 abbrev pub sends_due : Flow → Partition → Due → List Envelope
 sends_due f p d = envelope (consumer_of f p d) (Tuple (out_edge p d.to) d.number) ∷ []
 
@@ -36,27 +37,32 @@ run_takes (Ack e k) x = record x { producer = acked_to x.producer e.to k }
 run_takes (Lead term) x = record x { producer = leading x.producer term }
 run_takes m x = x
 
+-- a replica that is gone takes no message; it stays gone
 abbrev pub replica_takes : Message → Replica → Replica
 replica_takes m Gone = Gone
 replica_takes m (Running x) = Running (run_takes m x)
 
 -- ---- work: the first that is due of a merge, an item to send, and a mark to report
 
+-- a mark that wasn't told is reported to the controller of the group, or there is nothing to do
 abbrev pub reports : Flow → Partition → RunningNumbers → Option ℕ → Result (Replica × List Envelope) Refusal
 reports f p x None = Err NothingDue
 reports f p x (Some q) =
     Ok (Running (record x { consumer = telling x.consumer q }), envelope (control_at p) (Report (in_edge p q) (x.consumer.marks q)) ∷ [])
 
+-- an item that is due is sent; only where none is, a mark is reported
 abbrev pub sends_or_reports : Flow → Partition → RunningNumbers → Option Due → Result (Replica × List Envelope) Refusal
 sends_or_reports f p x (Some d) = Ok (Running (record x { producer = sent_on x.producer d }), sends_due f p d)
 sends_or_reports f p x None = reports f p x (untold f p x.consumer)
 
+-- the work of a replica that runs: a merge before a send, and a send before a report
 abbrev pub run_works : Flow → Partition → RunningNumbers → Result (Replica × List Envelope) Refusal
 run_works f p x =
     if is_ready f p x.consumer
     then Ok (Running (record x { consumer = merged_one x.consumer }), [])
     else sends_or_reports f p x (due f p (made_by f p x.consumer.count) x.producer)
 
+-- a replica that is gone has no work
 abbrev pub replica_works : Flow → Partition → Replica → Result (Replica × List Envelope) Refusal
 replica_works f p Gone = Err NothingDue
 replica_works f p (Running x) = run_works f p x
@@ -68,6 +74,7 @@ abbrev pub replica_dies : Partition → Replica → Result (Replica × List Enve
 replica_dies p Gone = Err NotRunning
 replica_dies p (Running x) = Ok (Gone, envelope (control_at p) Down ∷ [])
 
+-- the next item of in-edge q is taken straight from its producer, where the replica runs
 abbrev pub replica_pulls : ℕ → Replica → Result (Replica × List Envelope) Refusal
 replica_pulls q Gone = Err NotRunning
 replica_pulls q (Running x) = Ok (Running (record x { consumer = pulled x.consumer q }), [])

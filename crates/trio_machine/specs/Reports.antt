@@ -16,6 +16,7 @@ use Rattle.trio_machine.specs.declared.node.TrioNode.TheVariants as node
 abbrev pub replicas_of : State → Partition → ℕ → Replica
 replicas_of s p c = replica_in (s.nodes (replica_at p c))
 
+-- a replica runs, and isn't gone
 abbrev pub IsRunning : Replica → Type 0
 IsRunning Gone = ⊥
 IsRunning (Running x) = Unit {0}
@@ -45,6 +46,7 @@ pub record KnowsItsReplicas (replicas : ℕ → Replica) (x : Controller) : Type
   pub reports : (c q : ℕ) → MarkAtLeast q (x.reports c q) (replicas c)
   pub up : (c : ℕ) → IsRunning (replicas c) → x.up c ≡ true
 
+-- a controller knows its replicas rightly; of the other nodes nothing is asked here
 abbrev pub NodeReports : (Partition → ℕ → Replica) → TrioNode → Node → Type 0
 NodeReports replicas node.Ingress x = Unit {0}
 NodeReports replicas (node.Replica s p c) x = Unit {0}

@@ -18,6 +18,7 @@ pub record EachOfRunning (P : ℕ → Type 0) (x : RunningNumbers) : Type 0 wher
   pub consumer : EachOfConsumer P x.consumer
   pub producer : EachOfProducer P x.producer
 
+-- of each number of a replica; one that is gone has none
 abbrev pub EachOfReplica : (ℕ → Type 0) → Replica → Type 0
 EachOfReplica P Gone = Unit {0}
 EachOfReplica P (Running x) = EachOfRunning P x
@@ -31,12 +32,14 @@ pub record EachOfIngress (P : ℕ → Type 0) (x : Ingress) : Type 0 where
   pub makes : P x.makes
   pub producer : EachOfProducer P x.producer
 
+-- of each number of a node, of the kind that its name says
 abbrev pub EachOfNode : (ℕ → Type 0) → TrioNode → Node → Type 0
 EachOfNode P node.Ingress x = EachOfIngress P (ingress_in x)
 EachOfNode P (node.Replica s p c) x = EachOfReplica P (replica_in x)
 EachOfNode P (node.Control s p) x = EachOfController P (controller_in x)
 EachOfNode P node.Egress x = EachOfConsumer P (egress_in x)
 
+-- of the one number that a message carries; the news of a failure carries none
 abbrev pub EachOfMessage : (ℕ → Type 0) → Message → Type 0
 EachOfMessage P (Tuple e n) = P n
 EachOfMessage P (Ack e k) = P k

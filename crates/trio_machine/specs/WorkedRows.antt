@@ -16,9 +16,11 @@ use Rattle.trio_machine.specs.declared.event.TrioEvent.TheVariants as event
 use Rattle.trio_machine.specs.declared.node.TrioNode.{TrioNode}
 use Rattle.trio_machine.specs.declared.node.TrioNode.TheVariants as node
 
+-- one total in one partition, over so many trades
 abbrev pub one_stage : ℕ → Flow
 one_stage n = trio_flow totals (trades n)
 
+-- a total over a total, each in one partition, over so many trades
 abbrev pub two_stages : ℕ → Flow
 two_stages n = trio_flow totals_of_totals (trades n)
 
@@ -28,6 +30,7 @@ two_stages n = trio_flow totals_of_totals (trades n)
 abbrev pub replica : (stage copy : ℕ) → TrioNode
 replica stage copy = node.Replica stage 0 copy
 
+-- the controller of the one partition of a stage
 abbrev pub control : ℕ → TrioNode
 control stage = node.Control stage 0
 
@@ -47,11 +50,13 @@ pull from to n = replicate n (event.Pull from to)
 abbrev pub take : TrioNode → TrioNode → ℕ → List TrioEvent
 take from to index = event.Take from to index ∷ []
 
+-- a replica fails, as a list of this one event
 abbrev pub kill : TrioNode → List TrioEvent
 kill who = event.Kill who ∷ []
 
 -- ---- what they lead to
 
+-- the list met no refusal, and P holds of the state that it reached
 abbrev pub Reaches : (State → Type 0) → Result State Refusal → Type 0
 Reaches P (Ok s) = P s
 Reaches P (Err refusal) = ⊥
@@ -80,6 +85,7 @@ pub data ReplicaShown : Type 0 where
 abbrev pub of_three : {X : Type 0} → (ℕ → X) → List X
 of_three g = g 0 ∷ g 1 ∷ g 2 ∷ []
 
+-- what a replica shows, of its one in-edge and its one out-edge
 abbrev pub shown : Replica → ReplicaShown
 shown Gone = IsGone
 shown (Running x) = Runs (record {
@@ -103,6 +109,7 @@ pub record ControllerShown : Type 0 where
   pub term : ℕ
   pub leader : Option ℕ
 
+-- what a controller shows, of its one in-edge
 abbrev pub controller_shown : Controller → ControllerShown
 controller_shown x = record { up = of_three x.up; reports = of_three (λ c. x.reports c 0); acked = x.acked 0; term = x.term; leader = x.leader }
 

@@ -1,4 +1,4 @@
-use Rattle.std.proofs.Common.{◌≡◌, Result, subst, MatchResult}
+use Rattle.std.proofs.Common.{Result, subst, MatchResult}
 use mathlib.Core.List.{IsPrefix}
 use Rattle.tuple_edge.specs.declared.memory.OutOfMemory.{OutOfMemory}
 use Rattle.pair_machine.specs.Output.{output}

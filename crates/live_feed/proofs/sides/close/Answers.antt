@@ -1,4 +1,4 @@
-use Rattle.std.proofs.Common.{◌≡◌, List, Result, subst}
+use Rattle.std.proofs.Common.{List, Result, subst}
 use Rattle.tuple_edge.specs.declared.memory.OutOfMemory.{OutOfMemory}
 use Rattle.tuple_edge.specs.declared.row.Row.{Row}
 use Rattle.trade_text.specs.Text.{part_text}

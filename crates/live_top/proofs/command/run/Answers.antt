@@ -1,6 +1,5 @@
 use Rattle.std.proofs.Common.{map, string_bytes}
 use Rattle.command_course.specs.Feeds.{feed_of}
-use Rattle.row_wire.specs.Written.{Told}
 use Rattle.live_top.proofs.Endings.{lived_cause, lived_quiet, lived_stops, lived_whole, quiet_before, stopped_before}
 use Rattle.live_top.proofs.command.run.Goals as goal
 

@@ -1,5 +1,5 @@
-use Rattle.std.proofs.Common.{false, None}
-use Rattle.command_course.specs.Feeds.{feed_of, with_feed}
+use Rattle.std.proofs.Common.{false}
+use Rattle.command_course.specs.Feeds.{feed_of}
 use Rattle.command_line.specs.Views.{text_in}
 use Rattle.run_command.specs.Courses.{runs}
 use Rattle.live_top.specs.Words.{course_over, files_in, options_with}

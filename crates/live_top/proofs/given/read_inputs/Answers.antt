@@ -1,5 +1,5 @@
 use Rattle.std.proofs.Common.{◌∙◌, ap, map, option_map, string_bytes, sym}
-use Rattle.live_top.specs.Words.{as_run, course_over, files_in}
+use Rattle.live_top.specs.Words.{course_over, files_in}
 use Rattle.live_top.proofs.AsRun.{asks_for, asks_nothing, asks_something}
 use Rattle.live_top.proofs.Inputs.{own_cause, own_stops, own_wants}
 use Rattle.live_top.specs.declared.given.Given.{Given}

@@ -1,4 +1,3 @@
-use Rattle.std.proofs.Common.{false}
 use Rattle.command_course.specs.Course.{Runs}
 use Rattle.command_course.specs.Feeds.{feed_of}
 use Rattle.live_top.specs.Runs.{run_with}

@@ -6,4 +6,4 @@ pub load-requires : goal.load-requires
 load-requires g c =
     let board = c.args.self.now in
     let opening = board.table.shared.key in
-    (c.requires.table, omega arith, loads_at g.T.Named.name opening.values.value.items opening.seats _ _ c.args.seat.now.seat.me c.args.seat.now.is_live board.places board.value_count)
+    (c.requires.table, omega arith, loads_at g.T.Named.name opening.values.value.items opening.seats _ _ c.args.seat.now.seat.me c.args.seat.now.is_live board.halt_word (omega (arith, board.halt_place, board.value_count)))

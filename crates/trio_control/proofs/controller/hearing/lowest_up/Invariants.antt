@@ -1,4 +1,4 @@
-use Rattle.std.proofs.Common.{◌≡◌, ◌<◌, ℕ, None}
+use Rattle.std.proofs.Common.{◌≡◌, None}
 use Rattle.pair_machine.specs.Consumers.{first_below}
 use Rattle.trio_control.specs.ControllerView.{watched_in}
 use Rattle.trio_control.proofs.controller.hearing.lowest_up.Given as goal

@@ -1,4 +1,4 @@
-use Rattle.std.proofs.Common.{List, [], subst, sym}
+use Rattle.std.proofs.Common.{[], subst, sym}
 use Rattle.partition_step.proofs.Emitting.{on_ok}
 use Rattle.trio_control.specs.Replica.{StandsFor}
 use Rattle.trio_control.specs.ReplicaView.{node_of}

@@ -1,4 +1,4 @@
-use Rattle.std.proofs.Common.{◌+◌, subst, sym}
+use Rattle.std.proofs.Common.{subst, sym}
 use Rattle.partition_step.proofs.Emitting.{on_ok}
 use Rattle.pair_machine.specs.Consumers.{pulled}
 use Rattle.trio_machine.specs.Numbers.{ReplicaNode, Running}

@@ -1,0 +1,8 @@
+pub mod Columns
+pub mod HeaderFacts
+pub mod LeadsOn
+pub mod Orders
+pub mod Places
+pub mod ScanFacts
+pub mod ShownFacts
+pub mod SpotFacts

@@ -1,0 +1,9 @@
+pub mod Laws
+pub mod Numbers
+pub mod Places
+pub mod RecordFaults
+pub mod Records
+pub mod Scans
+pub mod Shown
+pub mod Spots
+pub mod WordFaults

@@ -1,0 +1,171 @@
+// The records of a file and their fields, where they stand in its bytes.
+ghost use Rattle.std.specs.Prelude.{◌≡◌, ◌≤◌, length};
+ghost use Rattle.input_faults.specs.Records.{at_start, behind_field, behind_fields, behind_record, column_behind, drop_ends, field_len, fields_in, is_end_byte, line_behind, record_of, word_in, word_start};
+ghost use Rattle.input_faults.specs.Scans.{left_of, state_of};
+
+use crate::scan::Stand;
+use crate::spot::blanks_len;
+
+// Whether a byte ends a line.
+fn is_end(byte: u8) -> bool
+    ensures { result ≡ is_end_byte byte }
+{
+    byte == b'\n' || byte == b'\r'
+}
+
+// What is left behind the record with which a text goes on.
+fn behind_record(stand: Stand, text: &[u8]) -> (Stand, &[u8])
+    ensures { left_of result.0 result.1.now ≡ behind_record (left_of stand text.now) }
+{
+    let mut stand = stand;
+    let mut rest = text;
+    while let Some((byte, more)) = rest.split_first() {
+        let (next, effect) = stand.step(*byte);
+        if effect.ends_record() {
+            return (next, more);
+        }
+        stand = next;
+        rest = more;
+    }
+    (Stand::Between, rest)
+}
+
+// A text from its first byte on that ends no line.
+fn without_ends(text: &[u8]) -> &[u8]
+    ensures { result.now ≡ drop_ends text.now }
+{
+    let mut rest = text;
+    while let Some((byte, more)) = rest.split_first() {
+        if !is_end(*byte) {
+            break;
+        }
+        rest = more;
+    }
+    rest
+}
+
+// A text from the record of this number on.
+pub(crate) fn record_of(text: &[u8], number: u64) -> &[u8]
+    ensures { result.now ≡ record_of number text.now }
+{
+    let mut stand = Stand::Between;
+    let mut rest = text;
+    for _turn in 1..number {
+        let (next, more) = behind_record(stand, rest);
+        stand = next;
+        rest = more;
+    }
+    without_ends(rest)
+}
+
+// How many fields the record has with which a text begins.
+pub(crate) fn field_count(text: &[u8]) -> u64
+    ensures { result ≡ length (fields_in text.now) }
+{
+    let mut stand = Stand::Between;
+    let mut ended = 0u64;
+    let mut rest = text;
+    while let Some((byte, more)) = rest.split_first() {
+        let (next, effect) = stand.step(*byte);
+        if effect.ends_record() {
+            return ended + 1;
+        }
+        if effect.ends_field() {
+            ended += 1;
+        }
+        stand = next;
+        rest = more;
+    }
+    if stand.is_between() { 0 } else { ended + 1 }
+}
+
+// What is left behind a field and the byte that ends it.
+fn behind_field(stand: Stand, text: &[u8]) -> (Stand, &[u8])
+    ensures { left_of result.0 result.1.now ≡ behind_field (state_of stand) text.now }
+{
+    let mut stand = stand;
+    let mut rest = text;
+    while let Some((byte, more)) = rest.split_first() {
+        let (next, effect) = stand.step(*byte);
+        if effect.ends_field() {
+            return (next, more);
+        }
+        stand = next;
+        rest = more;
+    }
+    (stand, rest)
+}
+
+// What is left of a record behind so many fields.
+fn behind_fields(row: &[u8], fields: u64) -> (Stand, &[u8])
+    ensures { left_of result.0 result.1.now ≡ behind_fields fields (at_start row.now) }
+{
+    let mut stand = Stand::Between;
+    let mut rest = row;
+    for _turn in 0..fields {
+        let (next, more) = behind_field(stand, rest);
+        stand = next;
+        rest = more;
+    }
+    (stand, rest)
+}
+
+// How many bytes a field has, its quotes among them.
+fn field_len(stand: Stand, text: &[u8]) -> usize
+    ensures value { result ≡ field_len (state_of stand) text.now }
+    ensures within { result ≤ length text.now }
+{
+    let mut stand = stand;
+    let mut rest = text;
+    while let Some((byte, more)) = rest.split_first() {
+        let (next, effect) = stand.step(*byte);
+        if effect.ends_field() {
+            return text.len() - rest.len();
+        }
+        stand = next;
+        rest = more;
+    }
+    text.len() - rest.len()
+}
+
+// The field of a record that has so many before it: its bytes from the first one on that is no blank,
+// and with all that follows.
+pub(crate) fn field_at(row: &[u8], before: u64) -> (&[u8], &[u8])
+    ensures { (result.0.now ≡ word_in (behind_fields before (at_start row.now))) × (result.1.now ≡ word_start (behind_fields before (at_start row.now))) }
+{
+    let (stand, text) = behind_fields(row, before);
+    let len = field_len(stand, text);
+    let blanks = blanks_len(text);
+    let (_, rest) = text.split_at(blanks);
+    let (word, _) = rest.split_at(len.saturating_sub(blanks).min(rest.len()));
+    (word, rest)
+}
+
+// The line of the byte behind these bytes.
+#[tactic(auto, unfolding(crate::specs::Records::lines_ended))]
+pub(crate) fn line_behind(front: &[u8]) -> u64
+    ensures { result ≡ line_behind front.now }
+{
+    let mut line = 1u64;
+    let mut rest = front;
+    while let Some((byte, more)) = rest.split_first() {
+        if *byte == b'\n' || (*byte == b'\r' && more.first() != Some(&b'\n')) {
+            line += 1;
+        }
+        rest = more;
+    }
+    line
+}
+
+// The column of the byte behind these bytes.
+pub(crate) fn column_behind(front: &[u8]) -> u64
+    ensures { result ≡ column_behind front.now }
+{
+    let mut column = 1u64;
+    let mut rest = front;
+    while let Some((byte, more)) = rest.split_first() {
+        column = if is_end(*byte) { 1 } else { column + 1 };
+        rest = more;
+    }
+    column
+}

@@ -1,0 +1,7 @@
+pub mod ChartView
+pub mod Places
+pub mod Escape
+pub mod Runs
+pub mod SvgText
+pub mod Text
+pub mod WorkedCharts

@@ -1,0 +1,65 @@
+// The bars of a lane.
+ghost use Rattle.lane_chart.specs.Runs.{runs};
+ghost use Rattle.lane_chart.specs.SvgText.{across, bar, shape};
+ghost use Rattle.std.specs.List.{flat_map};
+ghost use Rattle.std.specs.Prelude.{◌≡◌, ◌≤◌, ◌++◌, OnOk};
+
+use crate::chart::Cell;
+use crate::escape::push_text;
+use crate::places::scaled;
+use crate::runs::{Run, runs};
+use std::alloc::Global;
+use tuple_edge::OutOfMemory;
+
+// How wide all columns are.
+const WIDTH: u32 = 960;
+
+// Where a column begins, of so many.
+pub(crate) fn across(columns: usize, column: usize) -> u32
+    ensures value { result ≡ across columns column }
+    ensures within { result ≤ 960 }
+{
+    scaled(WIDTH, columns as u64, column as u64)
+}
+
+// The shape of a kind of cell: its colour's name and its height.
+pub(crate) fn shape(cell: Cell) -> &'static str
+    ensures { result.now ≡ shape cell }
+{
+    match cell {
+        Cell::Strong => "class='strong' y='16' height='14'",
+        Cell::Plain => "class='plain' y='19' height='8'",
+        Cell::Weak => "class='weak' y='16' height='14'",
+        Cell::Absent => "class='absent' y='22' height='2'",
+        Cell::Active => "class='active' y='18' height='10'",
+        Cell::Idle => "class='idle' y='22' height='2'",
+    }
+}
+
+// Appends the bar of a run of cells.
+#[tactic(auto, unfolding(crate::specs::SvgText::bar))]
+fn push_bar(out: &mut Vec<u8>, alloc: Global, columns: usize, run: &Run) -> Result<(), OutOfMemory>
+    ensures { OnOk result (out.new.items ≡ out.old.items ++ bar columns run.now) }
+{
+    let shape = shape(run.cell);
+    let start = across(columns, run.start);
+    let width = across(columns, run.end).saturating_sub(start);
+    let piece = format!(in alloc; "<rect {shape} x='{start}' width='{width}'/>\n")?;
+    push_text(out, &piece)
+}
+
+// Appends the bars of a lane.
+pub(crate) fn push_bars(
+    out: &mut Vec<u8>,
+    alloc: Global,
+    columns: usize,
+    cells: &[Cell],
+) -> Result<(), OutOfMemory>
+    ensures { OnOk result (out.new.items ≡ out.old.items ++ flat_map (bar columns) (runs cells.now)) }
+{
+    let found = runs(alloc, cells)?;
+    for run in &found {
+        push_bar(out, alloc, columns, run)?;
+    }
+    Ok(())
+}

@@ -1,5 +1,0 @@
-use Rattle.claim_board.specs.Board.{IsBack}
-use Rattle.link_tests.proofs.boards.turns.Given as goal
-
-abbrev pub invariant-loop-step : goal.invariant-loop-step
-invariant-loop-step l = IsBack l.board l.initial.seat l.seat

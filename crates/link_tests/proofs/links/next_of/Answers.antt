@@ -1,5 +1,0 @@
-use Rattle.link_tests.proofs.links.next_of.Goals as goal
-use Rattle.std.proofs.Common.{arith}
-
-pub recv-requires : goal.recv-requires
-recv-requires g c = omega (arith, c.requires, g.met.I.Inlet.few c.args.inlet.now)

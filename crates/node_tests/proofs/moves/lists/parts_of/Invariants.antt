@@ -1,6 +1,0 @@
-use Rattle.std.specs.Option.{IfSome}
-use Rattle.state_mover.specs.MoverView.{IsMidway}
-use Rattle.node_tests.proofs.moves.lists.parts_of.Given as goal
-
-abbrev pub invariant-loop-part : goal.invariant-loop-part
-invariant-loop-part l = record { midway : IfSome l.fn.state.old (IsMidway l.mover) }

@@ -1,5 +1,0 @@
-use Rattle.std.proofs.Common.{◌≡◌, None}
-use Rattle.node_tests.proofs.moves.put_back.put_all.Given as goal
-
-abbrev pub invariant-loop-entry : goal.invariant-loop-entry
-invariant-loop-entry l = record { old : l.state.old ≡ None }

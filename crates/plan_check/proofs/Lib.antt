@@ -1,0 +1,6 @@
+pub mod Ends
+pub mod Passing
+pub mod Pushing
+pub mod Together
+pub mod Unsafe
+pub mod WorkedRows

@@ -1,0 +1,21 @@
+-- The rows, plans and scripts that are worked by hand.
+use Rattle.std.proofs.Common.{refl}
+use Rattle.plan_check.specs.WorkedRows.{PlansWarned, RowsDiffer, ScriptsWarned, WorkedRows}
+
+rows_differ : RowsDiffer
+rows_differ = record {
+  total = record { splits = refl; alone = refl; together = refl };
+  last = record { splits = refl; alone = refl; together = refl };
+  window = record { splits = refl; alone = refl; together = refl };
+  crossing = record { splits = refl; alone = refl; together = refl };
+  join = record { splits = refl; alone = refl; together = refl };
+}
+
+plans_warned : PlansWarned
+plans_warned = record { none = refl; plain = refl; splits = refl; sums = refl; settings = refl; bounds = refl }
+
+scripts_warned : ScriptsWarned
+scripts_warned = record { none = refl; in_turn = refl; at_once = refl; not_safe = refl }
+
+pub worked : WorkedRows
+worked = record { rows = rows_differ; plans = plans_warned; scripts = scripts_warned }

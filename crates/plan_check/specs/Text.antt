@@ -1,0 +1,40 @@
+-- The text of a check.
+use Rattle.std.specs.Prelude.{ℕ, Bool, List, ◌++◌, Option, codes, flat_map, length, if◌then◌else◌}
+use Rattle.std.specs.Fmt.{decimal}
+use Rattle.pair_machine.specs.declared.order.Order.{Order}
+use Rattle.plan_reader.specs.PlanView.{PlanView}
+use Rattle.plan_reader.specs.Text.{column_name}
+use Rattle.trade_text.specs.TradesView.{TradesView}
+use Rattle.plan_check.specs.Sentences.{plan_sentences, script_sentences, trades_sentences}
+use Rattle.plan_check.specs.Warnings.{warnings}
+use Rattle.plan_check.specs.Words.{order_text, stage_text}
+use Rattle.plan_check.specs.declared.warning.Warning.{Warning}
+use Rattle.plan_check.specs.declared.warning.Warning.TheVariants as warning
+
+-- what isn't done for want of a partner
+abbrev pub alone_text : Bool → List ℕ
+alone_text back = if back then codes "isn't asked back then" else codes "isn't stopped then"
+
+-- what is hardly meant
+abbrev pub warned : Warning → List ℕ
+warned (warning.LongMark mark) = codes "mark " ++ decimal mark ++ codes ": a partition to which no row comes on some edge waits for up to so many rows"
+warned (warning.ShortHold hold) = codes "hold " ++ decimal hold ++ codes ": ingress stops once an edge holds so many items, and partitions wait for its next turn"
+warned (warning.SplitKeys s) =
+    stage_text s ++ codes ": the key doesn't hold " ++ column_name s.stage.by ++ codes ", by which rows go to " ++ decimal s.stage.parts
+    ++ codes " partitions; rows of one key come to several partitions, and each sums for itself"
+warned (warning.SumsOfSums s sums) = stage_text s ++ codes ": it adds up rows that are sums already, those of " ++ stage_text sums
+warned (warning.Unsafe first second) = codes "the script isn't safe, as " ++ order_text first ++ codes " and " ++ order_text second ++ codes " are of one pair; it may be lost"
+warned (warning.Alone o back items partner) =
+    order_text o ++ codes ": by " ++ order_text partner ++ codes " no partner is up after " ++ decimal items ++ codes " items, so it " ++ alone_text back
+
+-- the line of a warning
+abbrev pub warning_line : Warning → List ℕ
+warning_line w = codes "Warning: " ++ warned w ++ codes ".\n"
+
+-- the lines of warnings, and how many there are
+abbrev pub warnings_text : List Warning → List ℕ
+warnings_text found = flat_map warning_line found ++ codes "Warnings: " ++ decimal (length found) ++ codes ".\n"
+
+-- the text of a check: the sentences on all that is given, and the warnings
+abbrev pub check_text : PlanView → Option TradesView → Option (List Order) → List ℕ
+check_text plan trades script = plan_sentences plan ++ trades_sentences trades ++ script_sentences script ++ warnings_text (warnings plan script)

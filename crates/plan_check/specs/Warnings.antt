@@ -1,0 +1,97 @@
+-- What is warned of, in a plan and in a failure script.
+use Rattle.std.specs.Prelude.{ℕ, ◌+◌, ◌&&◌, ◌||◌, nat_le, nat_lt, not, Bool, true, false, List, [], ◌∷◌, ◌++◌, Option, None, Some, flat_map, max, unwrap_or, if◌then◌else◌}
+use Rattle.std.specs.List.{list_any}
+use Rattle.plan_reader.specs.PlanView.{PlanView}
+use Rattle.plan_reader.specs.declared.stage.Stage.{Stage}
+use Rattle.pair_machine.specs.declared.order.Order.{Order}
+use Rattle.failure_script.specs.Orders.{are_of_one_pair, are_unsafe, is_reached}
+use Rattle.plan_check.specs.Limits.{long_mark, turn_rows}
+use Rattle.plan_check.specs.Sums.{adds_up, counts_again, splits_keys}
+use Rattle.plan_check.specs.declared.warning.Numbered.{Numbered}
+use Rattle.plan_check.specs.declared.warning.Warning.{Warning}
+use Rattle.plan_check.specs.declared.warning.Warning.TheVariants as warning
+
+-- a warning where it is so, and none where it isn't
+abbrev pub where_so : Bool → Warning → List Warning
+where_so so w = if so then w ∷ [] else []
+
+-- ---- the settings of a plan
+
+-- whether some node of a plan merges several edges: ingress has two sources, or a stage has several partitions
+abbrev pub merges_edges : PlanView → Bool
+merges_edges plan = nat_lt 1 plan.version || list_any (λ s. nat_lt 1 s.parts) plan.stages
+
+-- a long mark, where some node merges several edges and so waits for marks
+abbrev pub mark_warnings : PlanView → List Warning
+mark_warnings plan = where_so (nat_lt long_mark plan.mark && merges_edges plan) (warning.LongMark plan.mark)
+
+-- a hold by which ingress ends its turns early
+abbrev pub hold_warnings : PlanView → List Warning
+hold_warnings plan = where_so (nat_lt plan.hold turn_rows) (warning.ShortHold plan.hold)
+
+-- ---- its stages
+
+-- a stage with its number
+abbrev pub numbered : ℕ → Stage → Numbered
+numbered number s = record { number = number; stage = s }
+
+-- a stage whose keys are split
+abbrev pub split_warnings : Numbered → List Warning
+split_warnings s = where_so (splits_keys s.stage) (warning.SplitKeys s)
+
+-- a stage that adds up rows which are sums already, those of an earlier stage, if there is one
+abbrev pub sums_warnings : Option Numbered → Numbered → List Warning
+sums_warnings None s = []
+sums_warnings (Some sums) s = where_so (adds_up s.stage.op) (warning.SumsOfSums s sums)
+
+-- the first stage in whose rows a trade counts again and again, where this one follows
+abbrev pub first_sums : Option Numbered → Numbered → Option Numbered
+first_sums None s = if counts_again s.stage.op then Some s else None
+first_sums (Some sums) s = Some sums
+
+-- the warnings of stages, numbered from here on, behind stages of which this is the first one that gives such sums
+abbrev pub stage_warnings : Option Numbered → ℕ → List Stage → List Warning
+stage_warnings sums number [] = []
+stage_warnings sums number (s ∷ stages) =
+    split_warnings (numbered number s) ++ sums_warnings sums (numbered number s) ++ stage_warnings (first_sums sums (numbered number s)) (number + 1) stages
+
+-- the warnings of a plan
+abbrev pub plan_warnings : PlanView → List Warning
+plan_warnings plan = mark_warnings plan ++ hold_warnings plan ++ stage_warnings None 1 plan.stages
+
+-- ---- scripts
+
+-- whether an order has its replica down once so many items are merged: it was due, and the replica isn't due back
+abbrev pub is_down_at : ℕ → Order → Bool
+is_down_at items o = nat_le o.at items && not (is_reached items o.back)
+
+-- a stop for which no partner is up when it is due
+abbrev pub stop_warnings : Order → Order → List Warning
+stop_warnings o partner = where_so (not o.kill && is_down_at o.at partner) (warning.Alone o false o.at partner)
+
+-- Whether an order has its replica down once so many items are merged, while the partner is down by another order: a stop that is due no sooner than the other order
+-- waits until the partner is back.
+abbrev pub is_down_beside : Order → ℕ → Order → Bool
+is_down_beside o items partner = is_down_at items partner && (partner.kill || nat_lt partner.at o.at)
+
+-- A back for which no partner is up when it is due. One that is asked for early is due once its replica is down.
+abbrev pub back_warnings : Order → Option ℕ → Order → List Warning
+back_warnings o None partner = []
+back_warnings o (Some back) partner = where_so (is_down_beside o (max o.at back) partner) (warning.Alone o true (max o.at back) partner)
+
+-- an order beside its partner's
+abbrev pub alone_warnings : Order → Order → List Warning
+alone_warnings o partner = stop_warnings o partner ++ back_warnings o o.back partner
+
+-- two orders: whether they make the script unsafe, and where they are of one pair, which is due while no partner is up
+abbrev pub two_warnings : Order → Order → List Warning
+two_warnings x y = where_so (are_unsafe x y) (warning.Unsafe x y) ++ (if are_of_one_pair x.node y.node then alone_warnings x y ++ alone_warnings y x else [])
+
+-- the warnings of each two orders of a script, in the order of its lines
+abbrev pub script_warnings : List Order → List Warning
+script_warnings [] = []
+script_warnings (x ∷ orders) = flat_map (two_warnings x) orders ++ script_warnings orders
+
+-- all warnings of a plan, and of a script where there is one
+abbrev pub warnings : PlanView → Option (List Order) → List Warning
+warnings plan script = plan_warnings plan ++ script_warnings (unwrap_or script [])

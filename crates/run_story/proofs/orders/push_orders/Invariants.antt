@@ -1,0 +1,8 @@
+use Rattle.std.proofs.Common.{◌≡◌, ◌++◌, take}
+use Rattle.std.specs.Prelude.{string_bytes}
+use Rattle.std.specs.List.{flat_map}
+use Rattle.run_story.specs.StoryText.{order_text}
+use Rattle.run_story.proofs.orders.push_orders.Given as goal
+
+abbrev pub invariant-loop-order : goal.invariant-loop-order
+invariant-loop-order l = string_bytes l.text ≡ string_bytes l.initial.text ++ flat_map (order_text l.told) (take l.order-index l.orders)

@@ -1,0 +1,9 @@
+pub mod Cells
+pub mod Keys
+pub mod Marks
+pub mod Nodes
+pub mod Said
+pub mod Signs
+pub mod Ticks
+pub mod Timeline
+pub mod WorkedTimelines

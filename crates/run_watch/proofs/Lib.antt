@@ -1,0 +1,10 @@
+pub mod ByColumn
+pub mod Falls
+pub mod Framed
+pub mod Glimpsed
+pub mod LastFrame
+pub mod Losses
+pub mod Noted
+pub mod SeenLaws
+pub mod Steps
+pub mod WorkedRows

@@ -1,0 +1,30 @@
+use Rattle.std.proofs.Common.{◌≡◌, ◌∙◌, ◌+◌, ◌++◌, ap, append-nil, append_assoc, arith, sym}
+use Rattle.std.specs.List.{flat_map}
+use Rattle.pair_machine.specs.Drain.{partition, parts_below}
+use Rattle.flux_core.specs.CoreView.{flow_in, inputs_of}
+use Rattle.run_watch.specs.Columns.{pair_modes}
+use Rattle.run_watch.proofs.Framed.{pair_named, parts_next, sources_in}
+use Rattle.run_watch.proofs.framing.push_stage.Goals as goal
+
+pub loop-part-init : goal.loop-part-init
+loop-part-init c s stands = sym (append-nil c.args.modes.now.items)
+
+pub loop-part-preserved : goal.loop-part-preserved
+loop-part-preserved c s stands =
+    let f = pair_modes (flow_in c.args.core.now) s in
+    let old = c.args.modes.now.items in
+    c.in_ok-push_pair.ensures s stands
+    ∙ ap (λ t. t ++ f (partition c.args.stage c.loop-part.part)) (c.loop-part.invariant s stands)
+    ∙ append_assoc old (flat_map f (parts_below c.args.stage c.loop-part.part)) (f (partition c.args.stage c.loop-part.part))
+    ∙ ap (λ t. old ++ t) (sym (parts_next f c.args.stage c.loop-part.part))
+
+pub push_pair-requires : goal.push_pair-requires
+push_pair-requires c =
+    pair_named c.args.core.now.plan (inputs_of c.args.core.now) c.args.stage c.loop-part.part c.requires.low c.requires.high (omega (arith, c.loop-part-test.true, c.parts_of-parts.ensures))
+
+pub returns : goal.returns
+returns c s stands =
+    let all : c.loop-part.part ≡ (flow_in c.args.core.now).sources (c.args.stage + 1) =
+    omega (arith, c.loop-part-test.false, c.loop-part.auto.part-end, c.parts_of-parts.ensures, sources_in c.args.core.now (c.args.stage + 1)) in
+    c.loop-part.invariant s stands
+    ∙ ap (λ n. c.args.modes.now.items ++ flat_map (pair_modes (flow_in c.args.core.now) s) (parts_below c.args.stage n)) all

@@ -1,0 +1,11 @@
+pub mod Columns
+pub mod FrameView
+pub mod Glimpses
+pub mod Happenings
+pub mod Looks
+pub mod Pairs
+pub mod Seen
+pub mod Stamps
+pub mod TraceView
+pub mod Watching
+pub mod WorkedRows

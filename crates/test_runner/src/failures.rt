@@ -1,0 +1,89 @@
+// Runs under a script.
+use crate::fixture::{KEPT, Outcome, emits_a_front, is_legal, run};
+use partition_runner::{FreeGate, Ran, Rings};
+use replica_node::Mode;
+use std::alloc::Global;
+use std::process::Abort;
+use std::test::Fail;
+use std::thread::Threads;
+use test_kit::made;
+use tuple_edge::{Event, NodeId, OutOfMemory, Which};
+
+// Replica B of the second stage is stopped and asked for again, and a replica of the first one fails.
+const SCRIPT: &[u8] = b"stop 2.0.b at 20 back 60\nkill 1.1.a at 30 back never\n";
+
+const STOPPED: NodeId = NodeId::Replica {
+    stage: 2,
+    part: 0,
+    which: Which::B,
+};
+
+const FAILED: NodeId = NodeId::Replica {
+    stage: 1,
+    part: 1,
+    which: Which::A,
+};
+
+// How often an event stands among others.
+fn times(events: &[Event], event: Event) -> usize {
+    let mut times = 0usize;
+    for other in events {
+        if *other == event {
+            times = times.saturating_add(1);
+        }
+    }
+    times
+}
+
+// How often each event of the script happened.
+fn fired(events: &[Event]) -> [usize; 3] {
+    [
+        times(events, Event::AskStop { node: STOPPED }),
+        times(events, Event::AskBack { node: STOPPED }),
+        times(events, Event::Kill { node: FAILED }),
+    ]
+}
+
+// What a replica does at the end of a run, and in which incarnation.
+fn mode(ran: &Ran, node: NodeId) -> Option<(Mode, u64)> {
+    let replica = ran.replicas.iter().find(|replica| replica.id() == node)?;
+    Some((replica.mode(), replica.inc()))
+}
+
+// A run under the script, by so many workers. It is legal, and emits all of the output.
+fn fails<R: Threads + Sync + Abort>(
+    rt: &R,
+    alloc: Global,
+    threads: u32,
+) -> Result<Outcome, OutOfMemory> {
+    let story = made(alloc, KEPT, 3, 500, SCRIPT)?;
+    let outcome = run(rt, alloc, &story, threads, 1_000_000, &mut Rings, &FreeGate)?;
+    let legal = is_legal(alloc, &story, &outcome)?;
+    assert!(rt; legal, "{threads}");
+    assert!(rt; emits_a_front(&story, &outcome.ran), "{threads}");
+    assert!(rt; outcome.ran.egress.done(), "{threads}");
+    Ok(outcome)
+}
+
+// One worker fires each order once: one replica is gone, and the other is in its second incarnation.
+#[test]
+fn each_order_fires_once(rt: HostRuntime) -> Result<(), Fail> {
+    let outcome = fails(&rt, rt.alloc(), 1)?;
+    assert_eq!(rt; fired(&outcome.events), [1, 1, 1]);
+    assert_eq!(rt; mode(&outcome.ran, FAILED), Some((Mode::Gone, 1)));
+    let inc = mode(&outcome.ran, STOPPED).map(|(_, inc)| inc);
+    assert_eq!(rt; inc, Some(2));
+    Ok(())
+}
+
+// Several workers fire none of them twice.
+#[test]
+fn no_order_fires_twice(rt: HostRuntime) -> Result<(), Fail> {
+    for threads in [2, 8] {
+        let outcome = fails(&rt, rt.alloc(), threads)?;
+        for times in fired(&outcome.events) {
+            assert!(rt; times <= 1, "{threads}");
+        }
+    }
+    Ok(())
+}
