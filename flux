@@ -1,12 +1,12 @@
 #!/usr/bin/env bash
-# Runs flux with the words as given, in the caller's folder, and ends with its status; by its second name, flux_live, it runs that
-# program. Where the program isn't built, or was built from other sources, it is proved and built first, crates side by side, and
+# Runs flux with the words as given, in the caller's folder, and ends with its status; by its other names, flux_live and flux_look, it
+# runs those programs. Where the program isn't built, or was built from other sources, it is proved and built first, crates side by side, and
 # standard error tells how far that is; a build that fails ends with status 70. Words that need no program are answered here.
 set -u
 top=${BASH_SOURCE[0]}
 name=flux
 while :; do
-  [ "${top##*/}" != flux_live ] || name=flux_live
+  case ${top##*/} in flux_live | flux_look) name=${top##*/} ;; esac
   [[ $top == */* ]] || top=./$top
   [ -L "$top" ] || break
   link=$(readlink "$top")
@@ -14,9 +14,12 @@ while :; do
   top=$link
 done
 top=$(CDPATH='' cd -P -- "${top%/*}/" && pwd)
-main=$top/crates/flux_main
-program=$main/out/flux_main
-[ "$name" = flux ] || main=$top/crates/live_main program=$top/crates/live_main/out/live_main
+case $name in
+  flux) main=$top/crates/flux_main ;;
+  flux_live) main=$top/crates/live_main ;;
+  flux_look) main=$top/crates/look_main ;;
+esac
+program=$main/out/${main##*/}
 # The sums of all that the program is made from, and of the program.
 stamp=$main/out/launcher.sum
 # The files and folders that the sum goes over; its time is that from which on a change would not be in the sum.
@@ -29,7 +32,8 @@ HOW_LONG="from nothing that took 23 minutes on four processors, 58 processor min
 [ "$name" = flux ] || HOW_LONG="where flux is built that takes a few minutes, and from nothing some more than flux, which took 23 on four processors"
 # As the program says it; .ci/run compares them.
 usage='flux: usage: eval PLAN TRADES [--cash C] | run PLAN TRADES [options] | replay PLAN TRADES EVENTS [--cash C] | make START COUNT | trial PLAN START COUNT [options] | move PLAN TRADES MOVES | trio PLAN TRADES EVENTS'
-[ "$name" = flux ] || usage='flux_live: usage: PLAN TRADES [SCRIPT]'
+[ "$name" != flux_live ] || usage='flux_live: usage: PLAN TRADES [SCRIPT]'
+[ "$name" != flux_look ] || usage='flux_look: usage: check PLAN [TRADES] [--cash C] [--script S] | story PLAN TRADES EVENTS [--cash C] [--script S] | timeline PLAN TRADES EVENTS [--cash C] [--svg]'
 
 help() {
   cat <<'TEXT'
@@ -47,17 +51,18 @@ flux: a parallel stream dataflow over trades that survives failures, and whose e
   flux --help                         writes this; so do flux help and flux -h
   flux --version                      writes the commit; so does flux -V
 
-A second program, flux_live, writes the rows while a run goes on: ./flux_live --help.
+Two more programs go with it: flux_live writes the rows while a run goes on, and flux_look says what a plan
+will do and what a run did: ./flux_live --help, ./flux_look --help.
 
 Try it, in this repository:
 
   ./flux run examples/failures/large.txt examples/failures/blotter.csv --script examples/failures/script.txt
 
 The exit status is 0 where the whole text was written, 2 for words that have no form or a journal that is
-one of the inputs, 3 for an input that is refused, 4 for a file that can't be read, 5 for an output that
-took not all or a journal that was not saved, 6 where a pair was lost, 8 for want of memory, and 70 where
-the program could not be built. docs/TUTORIAL.md leads from a plan to a failure that is survived, and
-docs/FORMATS.md has the formats.
+one of the inputs, 3 for an input or an event that is refused, 4 for a file that can't be read, 5 for an
+output that took not all or a journal that was not saved, 6 where a pair was lost, 8 for want of memory, and
+70 where the program could not be built. docs/TUTORIAL.md leads from a plan to a failure that is survived,
+and docs/FORMATS.md has the formats.
 TEXT
 }
 
@@ -76,17 +81,15 @@ as CSV: the same text as eval, whatever fails under a safe script.
   --turns T     how many turns each thread does at most, 0 to 10000000; 200000 without the option. What is
                 left then is done on the caller's thread
   --journal J   the file to which the journal is saved: all events, in one order in which they are legal.
-                flux replay reads it. A file that is one of the inputs is refused, before anything is read
+                flux replay, flux_look story and flux_look timeline read it. A file that is one of the
+                inputs is refused, before anything is read
 
 An option stands anywhere behind run, once, as --threads 2 or as --threads=2. A name isn't empty and doesn't
 begin with "-".
 
 A script is safe where no pair has two orders of which one is a kill. 1.0.a and 1.0.b are the two replicas of
 the pair 1.0: if the script has a line for each of them, and one of the two lines is a kill, it isn't safe.
-This names each pair for which a script that is accepted isn't safe, and says nothing of a safe script:
-
-  awk '$1 == "kill" || $1 == "stop" { split($2, n, "."); pair = n[1] + 0 "." n[2] + 0; orders[pair]++
-    if ($1 == "kill") kills[pair]++ } END { for (pair in kills) if (orders[pair] > 1) print pair }' SCRIPT
+./flux_look check PLAN --script SCRIPT warns of a script that isn't safe.
 
 Under a script that isn't safe a pair may be lost. Then the exit status is 6, and the rows that were emitted
 before are written, without the last line.
@@ -121,8 +124,8 @@ help_trial() {
   cat <<'TEXT'
 flux trial PLAN START COUNT [options]
 
-Runs a plan as run does, over the trades of flux make START COUNT, and writes a summary: how many trades
-came in and how many rows went out, and the sums of their quantities and values.
+Runs a plan as run does, over the trades of flux make START COUNT, and writes a summary: how many trades and
+movements came in and how many rows went out, and the sums of the rows' quantities and values.
 
   PLAN        the file with the plan, of at most 65,536 bytes
   START       the number that the trades are made from, 0 to 2147483647
@@ -239,6 +242,93 @@ Try it, in this repository:
 TEXT
 }
 
+help_look() {
+  cat <<'TEXT'
+flux_look: what a plan will do, and what a run did, in words and pictures for people
+
+  flux_look check PLAN [TRADES] [--cash C] [--script S]      says what a plan does and warns; of each input
+                                                             that has a fault it says where and what
+  flux_look story PLAN TRADES EVENTS [--cash C] [--script S] tells what happened in a run, a line each
+  flux_look timeline PLAN TRADES EVENTS [--cash C] [--svg]   draws it, as text or as SVG
+  flux_look COMMAND --help                                   says more of a command; so do flux_look help COMMAND
+                                                             and flux_look COMMAND -h
+  flux_look --help                                           writes this; so do flux_look help and flux_look -h
+  flux_look --version                                        writes the commit; so does flux_look -V
+
+Try it, in this repository:
+
+  ./flux_look check examples/failures/large.txt examples/failures/blotter.csv --script examples/failures/script.txt
+
+The exit status is 0 where the whole text was written, 1 where check warns, 2 for words that have no form, 3
+for an input that has a fault or an event that is refused, 4 for a file that can't be read, 5 for an output
+that took not all, 8 for want of memory, and 70 where the program could not be built.
+TEXT
+}
+
+help_check() {
+  cat <<'TEXT'
+flux_look check PLAN [TRADES] [--cash C] [--script S]
+
+Says in plain sentences what a plan does, stage by stage, and warns of what is hardly meant. Where a file has
+a fault, it says the first fault of each file, and nothing else.
+
+  PLAN        the file with the plan, of at most 65,536 bytes
+  TRADES      the file with the trades, CSV of at most 16,777,216 bytes and 100,000 trades
+  --cash C    the file with the cash movements, for a plan of version 2
+  --script S  the file with the failure script, of at most 65,536 bytes; it is read where the plan has no fault
+
+An option stands anywhere behind check, once, as --cash C or as --cash=C. The exit status is 0 where nothing
+is warned of, 1 where something is, and 3 where a file has a fault.
+
+Try it, in this repository:
+
+  ./flux_look check examples/failures/large.txt --script examples/failures/script.txt
+TEXT
+}
+
+help_story() {
+  cat <<'TEXT'
+flux_look story PLAN TRADES EVENTS [--cash C] [--script S]
+
+Tells what happened in a run, in order: failures, stops, requests, who was named leader, catch-ups, lost pairs.
+
+  PLAN        the file with the plan, of at most 65,536 bytes
+  TRADES      the file with the trades, CSV of at most 16,777,216 bytes and 100,000 trades
+  EVENTS      the file with the events, of at most 536,870,912 bytes and 20,000,000 events: the journal of a
+              run, or a list written by hand
+  --cash C    the file with the cash movements, for a plan of version 2; without the option there are none
+  --script S  the file with the failure script of the run: at the end it says which of its orders never fired
+
+An event that is no step of the nodes is refused as by flux replay, with its line and the reason.
+
+Try it, in this repository:
+
+  ./flux_look story examples/replay/total.txt examples/replay/trades.csv examples/replay/comeback.txt
+TEXT
+}
+
+help_timeline() {
+  cat <<'TEXT'
+flux_look timeline PLAN TRADES EVENTS [--cash C] [--svg]
+
+Draws what happened in a run: a lane for ingress, for each replica and for egress, over the places of the list
+of events, which are cut into at most 100 columns. Below it stands what each letter means.
+
+  PLAN        the file with the plan, of at most 65,536 bytes
+  TRADES      the file with the trades, CSV of at most 16,777,216 bytes and 100,000 trades
+  EVENTS      the file with the events, of at most 536,870,912 bytes and 20,000,000 events: the journal of a
+              run, or a list written by hand
+  --cash C    the file with the cash movements, for a plan of version 2; without the option there are none
+  --svg       draws it as SVG, in at most 960 columns
+
+An event that is no step of the nodes is refused as by flux replay, with its line and the reason.
+
+Try it, in this repository:
+
+  ./flux_look timeline examples/replay/total.txt examples/replay/trades.csv examples/replay/comeback.txt
+TEXT
+}
+
 version() {
   local commit
   commit=$([ -e "$top/.git" ] && git -C "$top" describe --tags --always --dirty 2>/dev/null) || commit="of a commit that isn't known"
@@ -247,7 +337,21 @@ version() {
 
 answer() { "$1" 2>/dev/null || { echo "$name: cannot write" >&2; exit 5; }; exit 0; }
 stop() { echo "$name: $1" >&2; exit 70; }
-is_command() { [ "$name" = flux ] && case ${1-} in run | eval | replay | make | trial | move | trio) ;; *) return 1 ;; esac; }
+is_command() {
+  case $name,${1-} in
+    flux,run | flux,eval | flux,replay | flux,make | flux,trial | flux,move | flux,trio) ;;
+    flux_look,check | flux_look,story | flux_look,timeline) ;;
+    *) return 1 ;;
+  esac
+}
+# Writes the help of the program as a whole.
+answer_help() {
+  case $name in
+    flux) answer help ;;
+    flux_live) answer help_live ;;
+    flux_look) answer help_look ;;
+  esac
+}
 
 # Ends with 2, and says which help to ask for: that of the command where the first word is one.
 end_with_2() {
@@ -446,14 +550,14 @@ build() {
 
 case $#,${1-} in
   0,) echo "$usage" >&2; end_with_2 ;;
-  1,--help | 1,-h | 1,help) [ "$name" = flux ] || answer help_live; answer help ;;
+  1,--help | 1,-h | 1,help) answer_help ;;
   1,--version | 1,-V) answer version ;;
   2,--help | 2,-h | 2,help) ! is_command "$2" || answer "help_$2" ;;
 esac
 # No file can have such a name.
 for it in "${@:2}"; do
   [[ $it == --help || $it == -h ]] || continue
-  [ "$name" = flux ] || answer help_live
+  [ "$name" != flux_live ] || answer help_live
   ! is_command "$1" || answer "help_$1"
 done
 if [ "$name" = flux ]; then

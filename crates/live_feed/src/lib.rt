@@ -3,7 +3,7 @@
 //! It promises that what is put onto the wire is a front of the text of the plan's output, each row once and in order,
 //! whatever fails; and that it is all of it, or that the answer says why not: a pair was lost, the wire took not all, or
 //! no memory was to be had. It may never return, and that any row is put before the run ends isn't promised. It stands
-//! on `partition_runner`, which turns the nodes with a tap beside egress, on `core_drain`, which brings what is left to
+//! on `partition_runner`, which turns the nodes with a tap beside egress, on `drained_run`, which brings what is left to
 //! its end, and on `row_channel` and `row_wire` for what lies between the tap and the wire.
 #![tactic(auto)]
 

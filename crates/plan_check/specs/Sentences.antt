@@ -84,7 +84,7 @@ plan_sentences plan = settings_text plan ++ stages_text 1 plan.stages
 
 -- how many rows come in
 abbrev pub count_sentence : ℕ → List ℕ
-count_sentence rows = codes "Rows that come in: " ++ decimal rows ++ codes ".\n"
+count_sentence rows = codes "Trades that come in: " ++ decimal rows ++ codes ".\n"
 
 -- the same, where trades are given
 abbrev pub trades_sentences : Option TradesView → List ℕ

@@ -25,7 +25,7 @@ pub struct Checked {
 fn push_count(text: &mut String, rows: usize) -> Result<(), OutOfMemory>
     ensures { OnOk result (string_bytes text.new ≡ string_bytes text.old ++ count_sentence rows) }
 {
-    write!(text, "Rows that come in: {rows}.\n")?;
+    write!(text, "Trades that come in: {rows}.\n")?;
     Ok(())
 }
 

@@ -91,7 +91,7 @@ abbrev pub order_word : (kill : Bool) → Word
 order_word true = codes "kill"
 order_word false = codes "stop"
 
--- an order whose replica never fell
+-- an order that never fired
 abbrev pub unfired_text : Order → (fired : Bool) → List ℕ
 unfired_text o true = []
 unfired_text o false = codes "never: " ++ order_word o.kill ++ codes " " ++ node_name o.node ++ codes " at " ++ decimal o.at ++ codes "\n"

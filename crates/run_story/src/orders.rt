@@ -79,7 +79,7 @@ fn order_word(kill: bool) -> &'static str
     if kill { "kill" } else { "stop" }
 }
 
-// Appends an order whose replica never fell.
+// Appends an order that never fired.
 fn push_unfired(text: &mut String, order: &Order, fired: bool) -> Result<(), OutOfMemory>
     ensures { OnOk result (string_bytes text.new ≡ string_bytes text.old ++ unfired_text order.now fired) }
 {

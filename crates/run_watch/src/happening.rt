@@ -51,8 +51,8 @@ pub enum Happening {
         target: u64,
         entries: u64,
     },
-    /// A replica has caught up: it took so many entries of its partner's state, and so many items that it held
-    /// meanwhile were folded in.
+    /// A replica has caught up: it took so many entries of its partner's state, and held so many items meanwhile, of
+    /// which those that follow were folded in.
     CaughtUp {
         node: NodeId,
         inc: u64,

@@ -1,7 +1,9 @@
-// A call of `flux` over files and sinks in memory.
+// A call over files and sinks in memory.
 use crate::hold::Hold;
+use crate::line::Program;
 use flux_outside::{MemFiles, MemSink};
 use flux_top::flux;
+use look_top::flux_look;
 use std::alloc::Global;
 use std::thread::Threads;
 use tuple_edge::OutOfMemory;
@@ -86,10 +88,11 @@ fn words_of(alloc: Global, line: &str) -> Result<Vec<String>, OutOfMemory> {
     Ok(words)
 }
 
-/// Calls `flux` with the words of a line over these files.
+/// Calls a program with the words of a line over these files.
 pub(crate) fn call<R: Threads + Sync>(
     rt: &R,
     alloc: Global,
+    program: Program,
     line: &str,
     files: &mut MemFiles,
     sinks: &Sinks,
@@ -98,6 +101,9 @@ pub(crate) fn call<R: Threads + Sync>(
     let words = words_of(alloc, line)?;
     let mut out = sinks.out.make(alloc)?;
     let mut err = sinks.err.make(alloc)?;
-    let status = flux(rt, alloc, &words, files, &mut out, &mut err, gate);
+    let status = match program {
+        Program::Flux => flux(rt, alloc, &words, files, &mut out, &mut err, gate),
+        Program::Look => flux_look(alloc, &words, files, &mut out, &mut err),
+    };
     Ok(Called { status, out, err })
 }

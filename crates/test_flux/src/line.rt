@@ -4,7 +4,7 @@
 //   file NAME         a file, whose content is in the lines that follow: before the first case a file of all cases
 //   |TEXT             TEXT and a line feed. `!TEXT` is TEXT alone; `*N|TEXT` and `*N!TEXT` are that N times
 //   case NAME         a case: all up to the next one belongs to it
-//   call WORDS        a call of `flux`; `''` is an empty word
+//   call WORDS        a call of `flux`; `''` is an empty word. `look WORDS` is one of `flux_look`
 //   fails N..         the calls of files with these numbers fail, counted from 1 over the whole case
 //   keep out NAME     the output of the next call becomes a file too
 //   last, rows        of the next call's output only the last line, or only the rows, are shown
@@ -27,7 +27,7 @@ pub(crate) enum Line<'a> {
         ends: bool,
         text: &'a str,
     },
-    Call(&'a str),
+    Call(Program, &'a str),
     Keep(&'a str),
     Last,
     Rows,
@@ -35,6 +35,13 @@ pub(crate) enum Line<'a> {
     Out(&'a str),
     Err(&'a str),
     Asks(Question, &'a str),
+}
+
+/// What is called.
+#[derive(Clone, Copy)]
+pub(crate) enum Program {
+    Flux,
+    Look,
 }
 
 /// What is asked of a file.
@@ -53,7 +60,8 @@ fn line_of<'a>(word: &str, rest: &'a str) -> Option<Line<'a>> {
     match word {
         "case" | "fails" | "with" | "range" => Some(Line::Nothing),
         "file" => Some(Line::File(rest)),
-        "call" => Some(Line::Call(rest)),
+        "call" => Some(Line::Call(Program::Flux, rest)),
+        "look" => Some(Line::Call(Program::Look, rest)),
         "keep" => Some(Line::Keep(rest.strip_prefix("out ")?)),
         "last" => Some(Line::Last),
         "rows" => Some(Line::Rows),

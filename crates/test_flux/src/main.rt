@@ -1,8 +1,8 @@
-//! The program `test_flux FILE..`: it reads cases, each of them files and the words of calls of `flux`, makes the calls over
-//! files and sinks in memory, and writes what came of each: what `flux` wrote and said, and its status. What has to
-//! come stands in the file `stdout`.
+//! The program `test_flux FILE..`: it reads cases, each of them files and the words of calls of `flux` or `flux_look`, makes
+//! the calls over files and sinks in memory, and writes what came of each: what was written and said, and the status. What
+//! has to come stands in the file `stdout`.
 //!
-//! It stands on flux_top for `flux`, and on flux_outside for files and sinks. The form of a case is told in `line.rt`.
+//! It stands on flux_top and look_top for the calls, and on flux_outside for files and sinks. The form of a case is told in `line.rt`.
 #![tactic(auto)]
 
 mod call;

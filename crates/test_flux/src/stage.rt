@@ -2,7 +2,7 @@
 use crate::call::{Called, Sinks, call};
 use crate::content::push_times;
 use crate::hold::Hold;
-use crate::line::{Line, Question};
+use crate::line::{Line, Program, Question};
 use crate::show::{last_of, push_line, push_text, rows_of};
 use flux_outside::MemFiles;
 use std::alloc::Global;
@@ -70,7 +70,7 @@ impl Stage {
         self.end_file()?;
         match line {
             Line::File(name) => self.name = Some(String::from_str(self.alloc, name)?),
-            Line::Call(words) => self.take_call(rt, written, words)?,
+            Line::Call(program, words) => self.take_call(rt, written, program, words)?,
             Line::Keep(name) => self.keep = Some(String::from_str(self.alloc, name)?),
             Line::Last => self.part = Part::Last,
             Line::Rows => self.part = Part::Rows,
@@ -105,10 +105,12 @@ impl Stage {
         &mut self,
         rt: &R,
         written: &str,
+        program: Program,
         words: &str,
     ) -> Result<(), OutOfMemory> {
         let gate = Hold::new(self.holds);
-        let called = call(rt, self.alloc, words, &mut self.files, &self.sinks, &gate)?;
+        let files = &mut self.files;
+        let called = call(rt, self.alloc, program, words, files, &self.sinks, &gate)?;
         self.keep_output(called.out.taken())?;
         self.show(written, &called)?;
         self.show_gate(&gate)?;
@@ -143,8 +145,13 @@ impl Stage {
 
     // Shows a call and what came of it.
     fn show(&mut self, written: &str, called: &Called) -> Result<(), OutOfMemory> {
-        let words = written.strip_prefix("call").unwrap_or(written);
-        push_line(&mut self.shown, "$", words.as_bytes())?;
+        match written.strip_prefix("look") {
+            Some(words) => push_line(&mut self.shown, "$ flux_look", words.as_bytes())?,
+            None => {
+                let words = written.strip_prefix("call").unwrap_or(written);
+                push_line(&mut self.shown, "$", words.as_bytes())?;
+            }
+        }
         self.show_output(called.out.taken())?;
         push_text(self.alloc, &mut self.shown, "! ", called.err.taken())?;
         let status = called.status;

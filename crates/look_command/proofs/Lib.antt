@@ -1,0 +1,5 @@
+pub mod Cash
+pub mod Judged
+pub mod Told
+pub mod Watched
+pub mod Ways

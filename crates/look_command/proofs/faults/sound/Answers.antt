@@ -1,0 +1,9 @@
+use Rattle.std.proofs.Common.{ap, ◌∙◌}
+use Rattle.look_course.specs.Answers.{answer}
+use Rattle.look_command.proofs.Judged.{sound_is}
+use Rattle.look_command.proofs.faults.sound.Goals as goal
+
+pub returns : goal.returns
+returns c =
+    ap (λ e. answer e c.in_ok-checked.checked.text.items) c.ending_after-ending.ensures
+    ∙ sound_is c.args.plan.now _ _ _ _ c.in_ok-checked.checked.text.items c.in_ok-checked.checked.warnings c.accepted.ensures c.accepted-2.ensures c.in_ok-checked.ensures.text c.in_ok-checked.ensures.warnings

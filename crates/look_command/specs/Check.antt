@@ -1,0 +1,143 @@
+-- The course of `check`: the files that are named are read one after the other, whatever the others say, and then all of them are
+-- judged. Movements are read unless the plan is one of version 1, and a script is read for a plan without a fault.
+use Rattle.std.specs.Prelude.{ℕ, ◌-◌, ◌==◌, ◌||◌, Bool, false, true, List, [], ◌++◌, length, Option, None, Some, Ok, Err, if◌then◌else◌}
+use Rattle.tuple_edge.specs.declared.row.Row.{Row}
+use Rattle.plan_reader.specs.Limits.{max_plan_bytes}
+use Rattle.plan_reader.specs.PlanView.{PlanView}
+use Rattle.pair_machine.specs.declared.order.Order.{Order}
+use Rattle.failure_script.specs.Limits.{max_script_bytes}
+use Rattle.trade_text.specs.Limits.{max_input_bytes, max_inputs}
+use Rattle.trade_text.specs.TradesView.{TradesView}
+use Rattle.command_course.specs.Course.{Reading, Way}
+use Rattle.command_course.specs.Inputs.{cash_from, plan_from, trades_from}
+use Rattle.command_course.specs.Lines.{not_in_plan_line}
+use Rattle.run_command.specs.Scripts.{script_from}
+use Rattle.plan_check.specs.Text.{check_text}
+use Rattle.plan_check.specs.Warnings.{warnings}
+use Rattle.look_course.specs.Answers.{AnswerView, answer}
+use Rattle.look_course.specs.Trying.{Named, named_of, tried_of, tries, tries_named}
+use Rattle.look_command.specs.Kinds.{told_from}
+use Rattle.look_command.specs.declared.faults.Said.{Said}
+use Rattle.input_faults.specs.RecordFaults.{cash_fault, trades_fault}
+use Rattle.input_faults.specs.WordFaults.{plan_fault, script_fault}
+use Rattle.look_course.specs.declared.answer.Ending.{Ending}
+use Rattle.look_course.specs.declared.answer.Ending.TheVariants.{Done, Faulty, Warned}
+
+-- ---- what a file says, or its fault, with the place and what may stand there
+
+abbrev pub plan_told : List ℕ → List ℕ → Reading PlanView
+plan_told = told_from max_plan_bytes plan_fault plan_from
+
+abbrev pub trades_told : List ℕ → List ℕ → Reading TradesView
+trades_told = told_from max_input_bytes trades_fault trades_from
+
+-- of movements of which so many have room
+abbrev pub cash_told : (room : ℕ) → List ℕ → List ℕ → Reading (List Row)
+cash_told room = told_from max_input_bytes (cash_fault room) (cash_from room)
+
+abbrev pub script_told : PlanView → List ℕ → List ℕ → Reading (List Order)
+script_told plan = told_from max_script_bytes (script_fault plan) (script_from plan)
+
+-- what the files say
+pub record Given : Type 0 where
+  pub plan : Reading PlanView
+  pub trades : Named TradesView
+  pub cash : Named (List Row)
+  pub script : Named (List Order)
+
+-- for how many cash movements trades leave room; trades that have a fault, or that are not given, leave all of it
+abbrev pub room_beside : Named TradesView → ℕ
+room_beside None = max_inputs
+room_beside (Some (Err line)) = max_inputs
+room_beside (Some (Ok trades)) = max_inputs - length trades.rows
+
+-- whether a plan was read that has no cash movements: one of version 1
+abbrev pub is_without_cash : Reading PlanView → Bool
+is_without_cash (Ok plan) = plan.version == 1
+is_without_cash (Err line) = false
+
+-- A plan of version 1 has no cash movements: their file is not read, and that it is given is the fault. Of another plan so many movements may be given.
+abbrev pub tries_cash : Reading PlanView → (room : ℕ) → Option (List ℕ) → Way (Named (List Row))
+tries_cash plan room None next = next None
+tries_cash (Err line) room (Some name) next = tries_named max_input_bytes (cash_told room) (Some name) next
+tries_cash (Ok plan) room (Some name) next = if plan.version == 1 then next (Some (Err (not_in_plan_line name))) else tries_named max_input_bytes (cash_told room) (Some name) next
+
+-- a script is one for a plan: it is not read where that has a fault
+abbrev pub tries_script : Reading PlanView → Option (List ℕ) → Way (Named (List Order))
+tries_script (Ok plan) script next = tries_named max_script_bytes (script_told plan) script next
+tries_script (Err line) script next = next None
+
+-- ---- the judgement
+
+-- whether a file has a fault
+abbrev pub is_faulty : {A : Type 0} → Reading A → Bool
+is_faulty (Ok value) = false
+is_faulty (Err line) = true
+
+abbrev pub is_named_faulty : {A : Type 0} → Named A → Bool
+is_named_faulty None = false
+is_named_faulty (Some said) = is_faulty said
+
+-- whether one of the files has a fault
+abbrev pub has_fault : Given → Bool
+has_fault given = is_faulty given.plan || is_named_faulty given.trades || is_named_faulty given.cash || is_named_faulty given.script
+
+-- the line of a fault
+abbrev pub fault_line : {A : Type 0} → Reading A → List ℕ
+fault_line (Ok value) = []
+fault_line (Err line) = line
+
+abbrev pub named_line : {A : Type 0} → Named A → List ℕ
+named_line None = []
+named_line (Some said) = fault_line said
+
+-- the lines of the faults of all files, in order
+abbrev pub fault_lines : Given → List ℕ
+fault_lines given = fault_line given.plan ++ (named_line given.trades ++ (named_line given.cash ++ named_line given.script))
+
+-- what a file says that has no fault
+abbrev pub accepted : {A : Type 0} → Named A → Option A
+accepted None = None
+accepted (Some (Err line)) = None
+accepted (Some (Ok value)) = Some value
+
+-- how a check ends that found so many warnings
+abbrev pub ending_after : ℕ → Ending
+ending_after count = if count == 0 then Done else Warned
+
+-- what is said of files that have no fault
+abbrev pub sound_answer : PlanView → Option TradesView → Option (List Order) → AnswerView
+sound_answer plan trades script = answer (ending_after (length (warnings plan script))) (check_text plan trades script)
+
+-- what is said of a plan and of the files beside it
+abbrev pub judged : Reading PlanView → Given → AnswerView
+judged (Err line) given = answer Faulty (fault_lines given)
+judged (Ok plan) given = if has_fault given then answer Faulty (fault_lines given) else sound_answer plan (accepted given.trades) (accepted given.script)
+
+abbrev pub judgement : Given → AnswerView
+judgement given = judged given.plan given
+
+-- ---- the course
+
+abbrev pub given : Reading PlanView → Named TradesView → Named (List Row) → Named (List Order) → Given
+given plan trades cash script = record { plan = plan; trades = trades; cash = cash; script = script }
+
+-- the script comes last, and then all are judged
+abbrev pub checks_script : Option (List ℕ) → Reading PlanView → Named TradesView → Named (List Row) → Way AnswerView
+checks_script script plan trades cash next = tries_script plan script (λ orders. next (judgement (given plan trades cash orders)))
+
+-- before it the movements, and before them the trades
+abbrev pub checks_cash : (cash script : Option (List ℕ)) → Reading PlanView → Named TradesView → Way AnswerView
+checks_cash cash script plan trades next = tries_cash plan (room_beside trades) cash (λ movements. checks_script script plan trades movements next)
+
+abbrev pub checks_trades : (trades cash script : Option (List ℕ)) → Reading PlanView → Way AnswerView
+checks_trades trades cash script plan next = tries_named max_input_bytes trades_told trades (λ them. checks_cash cash script plan them next)
+
+-- `check`: the plan comes first
+abbrev pub check_way : (plan : List ℕ) → (trades cash script : Option (List ℕ)) → Way AnswerView
+check_way plan trades cash script next = tries max_plan_bytes plan_told plan (λ it. checks_trades trades cash script it next)
+
+-- ---- as the code holds it
+
+abbrev pub given_of : Said → Given
+given_of said = given (tried_of said.plan) (named_of said.trades) (named_of said.cash) (named_of said.script)

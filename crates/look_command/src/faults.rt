@@ -1,0 +1,153 @@
+// What is said of files that were read: their faults, or what they ask for.
+ghost use Rattle.look_command.specs.Check.{accepted, ending_after, fault_line, fault_lines, given_of, has_fault, is_faulty, is_named_faulty, judged, judgement, named_line, sound_answer};
+ghost use Rattle.look_course.specs.Answers.{answer, answer_of};
+ghost use Rattle.look_course.specs.Trying.{named_of, tried_of};
+ghost use Rattle.look_course.specs.declared.answer.Ending.TheVariants.{Faulty};
+ghost use Rattle.std.specs.Prelude.{◌≡◌, ◌++◌, IfOk, Ok, OnOk, option_map};
+
+use failure_script::Script;
+use look_course::{Answer, Ending};
+use plan_check::write_check;
+use plan_reader::Plan;
+use std::alloc::Global;
+use trade_text::{Cash, Trades};
+use tuple_edge::OutOfMemory;
+
+/// What files say, or the lines of their faults; those that aren't named say nothing.
+#[derive(Drop)]
+pub(crate) struct Said {
+    pub(crate) plan: Result<Plan, String>,
+    pub(crate) trades: Option<Result<Trades, String>>,
+    pub(crate) cash: Option<Result<Cash, String>>,
+    pub(crate) script: Option<Result<Script, String>>,
+}
+
+// Whether a file has a fault.
+fn is_faulty<T>(said: &Result<T, String>) -> bool
+    ensures { result ≡ is_faulty (tried_of said.now) }
+{
+    match said {
+        Ok(_) => false,
+        Err(_) => true,
+    }
+}
+
+// The same of a file that may be named.
+fn is_named_faulty<T>(said: &Option<Result<T, String>>) -> bool
+    ensures { result ≡ is_named_faulty (named_of said.now) }
+{
+    match said {
+        None => false,
+        Some(said) => is_faulty(said),
+    }
+}
+
+// Whether one of the files has a fault.
+fn has_fault(said: &Said) -> bool
+    ensures { result ≡ has_fault (given_of said.now) }
+{
+    is_faulty(&said.plan)
+        || is_named_faulty(&said.trades)
+        || is_named_faulty(&said.cash)
+        || is_named_faulty(&said.script)
+}
+
+// Appends the line of a fault.
+fn push_fault<T>(text: &mut Vec<u8>, said: &Result<T, String>) -> Result<(), OutOfMemory>
+    ensures { OnOk result (text.new.items ≡ text.old.items ++ fault_line (tried_of said.now)) }
+{
+    match said {
+        Ok(_) => Ok(()),
+        Err(line) => {
+            text.extend_from_slice(line.as_bytes())?;
+            Ok(())
+        }
+    }
+}
+
+// The same of a file that may be named.
+fn push_named<T>(text: &mut Vec<u8>, said: &Option<Result<T, String>>) -> Result<(), OutOfMemory>
+    ensures { OnOk result (text.new.items ≡ text.old.items ++ named_line (named_of said.now)) }
+{
+    match said {
+        None => Ok(()),
+        Some(said) => push_fault(text, said),
+    }
+}
+
+// The lines of all faults.
+fn fault_text(alloc: Global, said: &Said) -> Result<Vec<u8>, OutOfMemory>
+    ensures { IfOk result (λ text. text.items ≡ fault_lines (given_of said.now)) }
+{
+    let mut text = Vec::new(alloc);
+    push_fault(&mut text, &said.plan)?;
+    push_named(&mut text, &said.trades)?;
+    push_named(&mut text, &said.cash)?;
+    push_named(&mut text, &said.script)?;
+    Ok(text)
+}
+
+// What is said of files one of which has a fault.
+fn faulty(alloc: Global, said: &Said) -> Result<Answer, OutOfMemory>
+    ensures { IfOk result (λ it. answer_of it ≡ answer Faulty (fault_lines (given_of said.now))) }
+{
+    let text = fault_text(alloc, said)?;
+    Ok(Answer {
+        text,
+        ending: Ending::Faulty,
+    })
+}
+
+// What a file says that has no fault.
+fn accepted<T>(said: &Option<Result<T, String>>) -> Option<&T>
+    ensures { option_map (λ value. value.now) result ≡ accepted (named_of said.now) }
+{
+    match said {
+        None => None,
+        Some(Err(_)) => None,
+        Some(Ok(value)) => Some(value),
+    }
+}
+
+// How a check ends that found so many warnings.
+fn ending_after(count: u64) -> Ending
+    ensures { result ≡ ending_after count }
+{
+    if count == 0 {
+        Ending::Done
+    } else {
+        Ending::Warned
+    }
+}
+
+// What is said of a plan, where no file has a fault.
+fn sound(alloc: Global, plan: &Plan, said: &Said) -> Result<Answer, OutOfMemory>
+    ensures { IfOk result (λ it. answer_of it ≡ sound_answer plan.now (accepted (named_of said.now.trades)) (accepted (named_of said.now.script))) }
+{
+    let checked = write_check(alloc, plan, accepted(&said.trades), accepted(&said.script))?;
+    let ending = ending_after(checked.warnings);
+    Ok(Answer {
+        text: checked.text,
+        ending,
+    })
+}
+
+// What is said of files whose plan has no fault.
+fn planned(alloc: Global, plan: &Plan, said: &Said) -> Result<Answer, OutOfMemory>
+    ensures { IfOk result (λ it. answer_of it ≡ judged (Ok plan.now) (given_of said.now)) }
+{
+    if has_fault(said) {
+        return faulty(alloc, said);
+    }
+    sound(alloc, plan, said)
+}
+
+/// What is said of files: the faults, where one of them has any.
+pub(crate) fn judged(alloc: Global, said: &Said) -> Result<Answer, OutOfMemory>
+    ensures { IfOk result (λ it. answer_of it ≡ judgement (given_of said.now)) }
+{
+    match &said.plan {
+        Ok(plan) => planned(alloc, plan, said),
+        Err(_) => faulty(alloc, said),
+    }
+}

@@ -1,0 +1,18 @@
+//! The commands of `flux_look`: `check`, `story` and `timeline`.
+//!
+//! Each gives the text that it writes, and how it ends; the clauses say which files it reads, and that the text is the
+//! one that their bytes have. A story and a timeline refuse what `flux replay` refuses. It stands on look_course for the
+//! courses, on plan_check for what is said of a plan, on input_faults for what is said of a fault, and on run_watch,
+//! run_story, run_timeline and lane_chart for what is told of a run.
+#![tactic(auto)]
+
+mod check;
+mod ended;
+mod faults;
+mod kinds;
+mod story;
+mod timeline;
+
+pub use check::check_report;
+pub use story::story_text;
+pub use timeline::timeline_text;

@@ -1,0 +1,116 @@
+// The command `story`.
+ghost use Rattle.command_course.specs.Feeds.{feed_of};
+ghost use Rattle.command_course.specs.Steps.{GivesBy, HasReadCause, IsWant, StopsBy};
+ghost use Rattle.flux_core.specs.CoreView.{flow_in, inputs_of};
+ghost use Rattle.flux_core.specs.Stands.{StandsFor};
+ghost use Rattle.flux_outside.specs.Outside.{StopsAtWant};
+ghost use Rattle.look_command.specs.Courses.{story_telling, story_way, tells_story};
+ghost use Rattle.look_course.specs.Answers.{answer_of};
+ghost use Rattle.look_course.specs.declared.report.ReportError.TheVariants as report_error;
+ghost use Rattle.pair_machine.specs.Machine.{State};
+ghost use Rattle.run_story.specs.StoryText.{is_done, story_text};
+ghost use Rattle.run_watch.specs.Watching.{emitted_in};
+ghost use Rattle.std.specs.Prelude.{◌≡◌, IfErr, IfOk, OnOk, option_map};
+
+use crate::ended::ended;
+use command_course::{Feed, Stop, feed_at};
+use failure_script::Script;
+use flux_core::Core;
+use flux_outside::Files;
+use look_course::{Answer, Report, ReportError, reported_at};
+use run_command::script_at;
+use run_journal::Lined;
+use run_story::write_story;
+use run_watch::{Watched, watch};
+use std::alloc::Global;
+
+// A story is told event by event: it wants no columns.
+const COLUMNS: u32 = 1;
+
+/// What `story` writes: what happened in a run, from its events.
+#[tactic(auto, using(crate::proofs::Ways::wants_on))]
+pub fn story_text<F: Files>(
+    alloc: Global,
+    files: &mut F,
+    plan: &str,
+    trades: &str,
+    events: &str,
+    cash: Option<&str>,
+    script: Option<&str>,
+) -> Result<Answer, Stop>
+    ensures gives { IfOk result (λ answer. GivesBy (F.contents files.old) (F.calls files.old) (F.calls files.new) (story_way plan.now trades.now events.now (option_map (λ n. n.now) cash.entry) (option_map (λ n. n.now) script.entry)) (answer_of answer)) }
+    ensures stops { IfErr result (λ stop. StopsBy (F.contents files.old) (F.calls files.old) (F.calls files.new) (story_way plan.now trades.now events.now (option_map (λ n. n.now) cash.entry) (option_map (λ n. n.now) script.entry)) stop) }
+    ensures cause { IfErr result (λ stop. HasReadCause (F.read_faults files.old) (F.read_faults files.new) stop) }
+    ensures still { OnOk result (F.read_faults files.new ≡ F.read_faults files.old) }
+    ensures wants { StopsAtWant (F.wants files.old) (F.wants files.new) (IsWant result) }
+    ensures contents { F.contents files.new ≡ F.contents files.old }
+    ensures saves { F.save_faults files.new ≡ F.save_faults files.old }
+{
+    match feed_at(alloc, files, plan, trades, cash) {
+        Ok(feed) => fed_story(alloc, files, &feed, events, script),
+        Err(stop) => Err(stop),
+    }
+}
+
+// The same, once plan, trades and movements were read.
+#[tactic(auto, using(crate::proofs::Ways::wants_on))]
+fn fed_story<F: Files>(
+    alloc: Global,
+    files: &mut F,
+    feed: &Feed,
+    events: &str,
+    script: Option<&str>,
+) -> Result<Answer, Stop>
+    ensures gives { IfOk result (λ answer. GivesBy (F.contents files.old) (F.calls files.old) (F.calls files.new) (tells_story events.now (option_map (λ n. n.now) script.entry) (feed_of feed.now)) (answer_of answer)) }
+    ensures stops { IfErr result (λ stop. StopsBy (F.contents files.old) (F.calls files.old) (F.calls files.new) (tells_story events.now (option_map (λ n. n.now) script.entry) (feed_of feed.now)) stop) }
+    ensures cause { IfErr result (λ stop. HasReadCause (F.read_faults files.old) (F.read_faults files.new) stop) }
+    ensures still { OnOk result (F.read_faults files.new ≡ F.read_faults files.old) }
+    ensures wants { StopsAtWant (F.wants files.old) (F.wants files.new) (IsWant result) }
+    ensures contents { F.contents files.new ≡ F.contents files.old }
+    ensures saves { F.save_faults files.new ≡ F.save_faults files.old }
+{
+    match script_at(alloc, files, &feed.plan, script) {
+        Ok(script) => reported_at(alloc, files, feed, events, &Story { script: &script }),
+        Err(stop) => Err(stop),
+    }
+}
+
+// The story of a run, which may be one under a script.
+#[derive(Drop)]
+struct Story<'a> {
+    script: &'a Script,
+}
+
+impl<'a> Report for Story<'a> {
+    ghost tells = { λ story. story_telling story.script.now };
+
+    fn report(
+        &self,
+        alloc: Global,
+        feed: &Feed,
+        core: &mut Core,
+        events: &[Lined],
+    ) -> Result<Vec<u8>, ReportError> {
+        match watch(alloc, core, events, COLUMNS) {
+            Ok(watched) => told(alloc, self.script, &watched, core),
+            Err(error) => Err(ended(error)),
+        }
+    }
+}
+
+// The text of a run that was watched.
+fn told(
+    alloc: Global,
+    script: &Script,
+    watched: &Watched,
+    core: &Core,
+) -> Result<Vec<u8>, ReportError>
+    ensures text { IfOk result (λ text. (s : State) → StandsFor core.now s → text.items
+        ≡ story_text watched.now.told.items script.now (emitted_in core.now.plan (inputs_of core.now) s) (is_done (flow_in core.now) s)) }
+    ensures want { IfErr result (λ error. error ≡ report_error.OutOfMemory) }
+{
+    match write_story(alloc, Some(script), watched, core) {
+        Ok(text) => Ok(text),
+        Err(_) => Err(ReportError::OutOfMemory),
+    }
+}

@@ -1,0 +1,80 @@
+// The reading of a file, whatever it says.
+ghost use Rattle.command_course.specs.Lines.{cannot_read_line};
+ghost use Rattle.command_course.specs.Steps.{GivesBy, HasReadCause, IsUnreadBy, IsWant, StopsBy};
+ghost use Rattle.flux_outside.specs.Outside.{StopsAtWant};
+ghost use Rattle.look_course.specs.Trying.{IsTried, named_of, tried_of, tries, tries_named};
+ghost use Rattle.std.specs.Prelude.{◌≡◌, IfErr, IfOk, OnOk, option_map};
+
+use command_course::{Input, Stop, refused};
+use flux_outside::{FileStop, Files, Got};
+use std::alloc::Global;
+
+/// Reads a file of a kind, and gives what it says, or the line of its fault.
+#[tactic(auto, using(crate::proofs::Tries::tried_whole, crate::proofs::Tries::tried_long, crate::proofs::Tries::untried_whole, crate::proofs::Tries::untried_long))]
+pub fn tried_at<F: Files, I: Input>(
+    alloc: Global,
+    files: &mut F,
+    name: &str,
+    input: &I,
+) -> Result<Result<I::Value, String>, Stop>
+    ensures gives { IfOk result (λ tried. GivesBy (F.contents files.old) (F.calls files.old) (F.calls files.new) (tries (I.most input.now) (I.reading input.now) name.now) (tried_of tried)) }
+    ensures stops { IfErr result (λ stop. StopsBy (F.contents files.old) (F.calls files.old) (F.calls files.new) (tries (I.most input.now) (I.reading input.now) name.now) stop) }
+    ensures cause { IfErr result (λ stop. HasReadCause (F.read_faults files.old) (F.read_faults files.new) stop) }
+    ensures still { OnOk result (F.read_faults files.new ≡ F.read_faults files.old) }
+    ensures wants { StopsAtWant (F.wants files.old) (F.wants files.new) (IsWant result) }
+    ensures contents { F.contents files.new ≡ F.contents files.old }
+    ensures saves { F.save_faults files.new ≡ F.save_faults files.old }
+{
+    let mut bytes = Vec::new(alloc);
+    match files.read(name, input.most(), &mut bytes) {
+        Err(FileStop::Failed) => Err(unread(alloc, name)),
+        Err(FileStop::OutOfMemory) => Err(Stop::OutOfMemory),
+        Ok(Got::TooLong { seen }) => tried(Err(input.too_long(alloc, name, seen))),
+        Ok(Got::Whole) => tried(input.value(alloc, name, &bytes)),
+    }
+}
+
+/// What was read, where a refusal is a fault and no reason to stop.
+pub fn tried<T>(read: Result<T, Stop>) -> Result<Result<T, String>, Stop>
+    ensures { IsTried read result }
+{
+    match read {
+        Ok(value) => Ok(Ok(value)),
+        Err(Stop::Refused { line }) => Ok(Err(line)),
+        Err(stop) => Err(stop),
+    }
+}
+
+/// Reads a file of a kind where it is named, and gives what it says, or the line of its fault.
+pub fn tried_if_named<F: Files, I: Input>(
+    alloc: Global,
+    files: &mut F,
+    name: Option<&str>,
+    input: &I,
+) -> Result<Option<Result<I::Value, String>>, Stop>
+    ensures gives { IfOk result (λ tried. GivesBy (F.contents files.old) (F.calls files.old) (F.calls files.new) (tries_named (I.most input.now) (I.reading input.now) (option_map (λ n. n.now) name.entry)) (named_of tried)) }
+    ensures stops { IfErr result (λ stop. StopsBy (F.contents files.old) (F.calls files.old) (F.calls files.new) (tries_named (I.most input.now) (I.reading input.now) (option_map (λ n. n.now) name.entry)) stop) }
+    ensures cause { IfErr result (λ stop. HasReadCause (F.read_faults files.old) (F.read_faults files.new) stop) }
+    ensures still { OnOk result (F.read_faults files.new ≡ F.read_faults files.old) }
+    ensures wants { StopsAtWant (F.wants files.old) (F.wants files.new) (IsWant result) }
+    ensures contents { F.contents files.new ≡ F.contents files.old }
+    ensures saves { F.save_faults files.new ≡ F.save_faults files.old }
+{
+    match name {
+        None => Ok(None),
+        Some(name) => match tried_at(alloc, files, name, input) {
+            Ok(tried) => Ok(Some(tried)),
+            Err(stop) => Err(stop),
+        },
+    }
+}
+
+// The line that a file can't be read.
+fn unread(alloc: Global, name: &str) -> Stop
+    ensures { IsUnreadBy result (cannot_read_line name.now) }
+{
+    match refused(alloc, name, "cannot read") {
+        Stop::Refused { line } => Stop::CannotRead { line },
+        other => other,
+    }
+}

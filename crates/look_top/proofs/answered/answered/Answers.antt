@@ -1,0 +1,46 @@
+use Rattle.std.proofs.Common.{◌∙◌, ap, map, option_map, string_bytes, sym}
+use Rattle.look_command.specs.Courses.{way_of}
+use Rattle.look_course.specs.declared.answer.Answer.{Answer}
+use Rattle.look_words.specs.Forms.{request_of}
+use Rattle.look_top.proofs.Answering.{asked_none, asked_of, asks_something, own_cause, own_stops, own_wants}
+use Rattle.look_top.proofs.answered.answered.Goals as goal
+
+pub returns-in-Ok-clause-comes : goal.returns-in-Ok-clause-comes
+returns-in-Ok-clause-comes g c =
+    record {
+      way = way_of (request_of c.in-Some.command);
+      is_asked = asked_of (map string_bytes c.args.words.now) (request_of c.in-Some.command) (sym c.read_words.ensures ∙ ap (option_map request_of) c.in-Some.is);
+      fact = c.in-Ok.ensures.gives;
+    }
+
+pub returns-in-None-clause-stops : goal.returns-in-None-clause-stops
+returns-in-None-clause-stops g c = asked_none (map string_bytes c.args.words.now) (sym c.read_words.ensures ∙ ap (option_map request_of) c.in-None.is)
+
+pub returns-in-Ok-clause-usage : goal.returns-in-Ok-clause-usage
+returns-in-Ok-clause-usage g c = λ none. absurd
+    (asks_something (map string_bytes c.args.words.now) (way_of (request_of c.in-Some.command)) (asked_of (map string_bytes c.args.words.now) (request_of c.in-Some.command) (sym c.read_words.ensures ∙ ap (option_map request_of) c.in-Some.is)) none)
+
+pub returns-in-Ok-clause-unasked : goal.returns-in-Ok-clause-unasked
+returns-in-Ok-clause-unasked g c = λ none. absurd
+    (asks_something (map string_bytes c.args.words.now) (way_of (request_of c.in-Some.command)) (asked_of (map string_bytes c.args.words.now) (request_of c.in-Some.command) (sym c.read_words.ensures ∙ ap (option_map request_of) c.in-Some.is)) none)
+
+pub returns-in-Err-clause-usage : goal.returns-in-Err-clause-usage
+returns-in-Err-clause-usage g c = λ none. absurd
+    (asks_something (map string_bytes c.args.words.now) (way_of (request_of c.in-Some.command)) (asked_of (map string_bytes c.args.words.now) (request_of c.in-Some.command) (sym c.read_words.ensures ∙ ap (option_map request_of) c.in-Some.is)) none)
+
+pub returns-in-Err-clause-unasked : goal.returns-in-Err-clause-unasked
+returns-in-Err-clause-unasked g c = λ none. absurd
+    (asks_something (map string_bytes c.args.words.now) (way_of (request_of c.in-Some.command)) (asked_of (map string_bytes c.args.words.now) (request_of c.in-Some.command) (sym c.read_words.ensures ∙ ap (option_map request_of) c.in-Some.is)) none)
+
+pub returns-in-Err-clause-stops : goal.returns-in-Err-clause-stops
+returns-in-Err-clause-stops g c =
+    own_stops (g.F.Files.contents c.args.files.now) (g.F.Files.calls c.args.files.now) (g.F.Files.calls c.answer_of.new.files) (map string_bytes c.args.words.now) (way_of (request_of c.in-Some.command))
+    (asked_of (map string_bytes c.args.words.now) (request_of c.in-Some.command) (sym c.read_words.ensures ∙ ap (option_map request_of) c.in-Some.is)) c.in-Err.stop c.own_stop.result c.in-Err.ensures.stops c.own_stop.ensures
+
+pub returns-in-Err-clause-cause : goal.returns-in-Err-clause-cause
+returns-in-Err-clause-cause g c =
+    own_cause (g.F.Files.read_faults c.args.files.now) (g.F.Files.read_faults c.answer_of.new.files) c.in-Err.stop c.own_stop.result c.in-Err.ensures.cause c.own_stop.ensures
+
+pub returns-in-Err-clause-wants : goal.returns-in-Err-clause-wants
+returns-in-Err-clause-wants g c =
+    own_wants Answer (g.F.Files.wants c.args.files.now) (g.F.Files.wants c.answer_of.new.files) c.in-Err.stop c.own_stop.result c.own_stop.ensures c.in-Err.ensures.wants

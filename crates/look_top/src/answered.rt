@@ -1,0 +1,81 @@
+// What words come to, before anything of it is written.
+ghost use Rattle.command_course.specs.Steps.{GivesBy, HasReadCause, IsWant, StopsBy};
+ghost use Rattle.command_course.specs.declared.stop.Stop.TheVariants.{Usage};
+ghost use Rattle.flux_outside.specs.Outside.{StopsAtWant};
+ghost use Rattle.look_command.specs.Courses.{way_of};
+ghost use Rattle.look_course.specs.Answers.{answer_of};
+ghost use Rattle.look_top.specs.Asked.{asked};
+ghost use Rattle.look_top.specs.Clauses.{ComesTo, StopsBefore};
+ghost use Rattle.look_words.specs.Forms.{request_of};
+ghost use Rattle.std.specs.Prelude.{◌≡◌, Err, IfErr, IfOk, None, OnOk, map, string_bytes};
+
+use crate::own::own_stop;
+use command_course::Stop;
+use flux_outside::Files;
+use look_command::{check_report, story_text, timeline_text};
+use look_course::Answer;
+use look_words::{LookCommand, read_words};
+use std::alloc::Global;
+
+/// What the words' command comes to, where they have a form.
+pub(crate) fn answered<F: Files>(
+    alloc: Global,
+    words: &[String],
+    files: &mut F,
+) -> Result<Answer, Stop>
+    ensures comes { IfOk result (λ answer. ComesTo (F.contents files.old) (F.calls files.old) (F.calls files.new) (map string_bytes words.now) (answer_of answer)) }
+    ensures usage { asked (map string_bytes words.now) ≡ None → result ≡ Err Usage }
+    ensures unasked { asked (map string_bytes words.now) ≡ None → files.new ≡ files.old }
+    ensures stops { IfErr result (λ stop. StopsBefore (F.contents files.old) (F.calls files.old) (F.calls files.new) (map string_bytes words.now) stop) }
+    ensures cause { IfErr result (λ stop. HasReadCause (F.read_faults files.old) (F.read_faults files.new) stop) }
+    ensures still { OnOk result (F.read_faults files.new ≡ F.read_faults files.old) }
+    ensures wants { StopsAtWant (F.wants files.old) (F.wants files.new) (IsWant result) }
+    ensures contents { F.contents files.new ≡ F.contents files.old }
+    ensures saves { F.save_faults files.new ≡ F.save_faults files.old }
+{
+    match read_words(words) {
+        None => Err(Stop::Usage),
+        Some(command) => match answer_of(alloc, files, command) {
+            Ok(answer) => Ok(answer),
+            Err(stop) => Err(own_stop(alloc, stop)),
+        },
+    }
+}
+
+// What a command comes to.
+fn answer_of<F: Files>(
+    alloc: Global,
+    files: &mut F,
+    command: LookCommand<'_>,
+) -> Result<Answer, Stop>
+    ensures gives { IfOk result (λ answer. GivesBy (F.contents files.old) (F.calls files.old) (F.calls files.new) (way_of (request_of command.entry)) (answer_of answer)) }
+    ensures stops { IfErr result (λ stop. StopsBy (F.contents files.old) (F.calls files.old) (F.calls files.new) (way_of (request_of command.entry)) stop) }
+    ensures cause { IfErr result (λ stop. HasReadCause (F.read_faults files.old) (F.read_faults files.new) stop) }
+    ensures still { OnOk result (F.read_faults files.new ≡ F.read_faults files.old) }
+    ensures wants { StopsAtWant (F.wants files.old) (F.wants files.new) (IsWant result) }
+    ensures contents { F.contents files.new ≡ F.contents files.old }
+    ensures saves { F.save_faults files.new ≡ F.save_faults files.old }
+{
+    match command {
+        LookCommand::Check {
+            plan,
+            trades,
+            cash,
+            script,
+        } => check_report(alloc, files, plan, trades, cash, script),
+        LookCommand::Story {
+            plan,
+            trades,
+            events,
+            cash,
+            script,
+        } => story_text(alloc, files, plan, trades, events, cash, script),
+        LookCommand::Timeline {
+            plan,
+            trades,
+            events,
+            cash,
+            svg,
+        } => timeline_text(alloc, files, plan, trades, events, cash, svg),
+    }
+}

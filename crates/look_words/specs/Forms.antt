@@ -1,0 +1,47 @@
+-- The commands of `flux_look`, and the forms of their words.
+use Rattle.std.specs.Prelude.{◌||◌, Bool, List, [], ◌∷◌, codes, Option, None, option_and_then, option_map, is_some, if◌then◌else◌}
+use Rattle.std.specs.Str.{bytes_eq}
+use Rattle.command_line.specs.Forms.{three}
+use Rattle.command_line.specs.Words.{Text}
+use Rattle.look_words.specs.Parts.{Parts, text_in}
+use Rattle.look_words.specs.Reading.{given}
+use Rattle.look_words.specs.declared.command.LookCommand.{LookCommand}
+use Rattle.look_words.specs.declared.command.LookCommand.TheVariants as command
+
+-- a command, with the names of its files, and whether a drawing is to be SVG
+pub data Request : Type 0 where
+  Check : (plan : Text) (trades cash script : Option Text) → Request
+  Story : (plan trades events : Text) (cash script : Option Text) → Request
+  Timeline : (plan trades events : Text) (cash : Option Text) (svg : Bool) → Request
+
+-- `check PLAN [TRADES] [--cash C] [--script S]`
+unfoldable pub check_form : Parts → Option Request
+check_form parts = if is_some parts.third || parts.svg then None else option_map (λ plan. Check plan parts.second parts.cash parts.script) parts.first
+
+-- `story PLAN TRADES EVENTS [--cash C] [--script S]`
+unfoldable pub story_form : Parts → Option Request
+story_form parts = if parts.svg then None else option_map (λ names. Story names.0 names.1 names.2 parts.cash parts.script) (three parts.first parts.second parts.third)
+
+-- `timeline PLAN TRADES EVENTS [--cash C] [--svg]`
+unfoldable pub timeline_form : Parts → Option Request
+timeline_form parts = if is_some parts.script then None else option_map (λ names. Timeline names.0 names.1 names.2 parts.cash parts.svg) (three parts.first parts.second parts.third)
+
+-- what a command of this name asks for with these parts
+unfoldable pub request : Text → Parts → Option Request
+request command parts =
+    if bytes_eq command (codes "check") then check_form parts
+    else if bytes_eq command (codes "story") then story_form parts
+    else if bytes_eq command (codes "timeline") then timeline_form parts
+    else None
+
+-- What words ask for, if they have a form: the first word is the command, and an option stands anywhere behind it.
+unfoldable pub form : List Text → Option Request
+form [] = None
+form (command ∷ words) = option_and_then (request command) (given words)
+
+-- ---- as the code holds it
+
+abbrev pub request_of : LookCommand → Request
+request_of (command.Check plan trades cash script) = Check plan.now (text_in trades) (text_in cash) (text_in script)
+request_of (command.Story plan trades events cash script) = Story plan.now trades.now events.now (text_in cash) (text_in script)
+request_of (command.Timeline plan trades events cash svg) = Timeline plan.now trades.now events.now (text_in cash) svg

@@ -1,0 +1,48 @@
+// An option: its name, and its value where that stands in the same word.
+ghost use Rattle.command_line.specs.Words.{behind_dash, behind_dashes, option_of, value_in};
+ghost use Rattle.look_words.specs.Parts.{named_of};
+ghost use Rattle.std.specs.List.{before_first};
+ghost use Rattle.std.specs.Prelude.{◌≡◌, ◌==◌, option_map};
+
+/// A name and, behind `=`, a value.
+#[derive(Clone, Copy)]
+pub(crate) struct Named<'a> {
+    pub(crate) name: &'a str,
+    pub(crate) value: Option<&'a str>,
+}
+
+// What stands behind a first `-`, and behind a first `--`.
+fn behind_dash(word: &str) -> Option<&str>
+    ensures { option_map (λ text. text.now) result ≡ behind_dash word.now }
+{
+    word.strip_prefix('-')
+}
+
+fn behind_dashes(word: &str) -> Option<&str>
+    ensures { option_map (λ text. text.now) result ≡ behind_dashes word.now }
+{
+    behind_dash(behind_dash(word)?)
+}
+
+// The name and the value in a text.
+fn named_in(text: &str) -> Named<'_>
+    ensures { named_of result ≡ (before_first (λ b. b == 61) text.now, value_in text.now) }
+{
+    match text.split_once('=') {
+        None => Named {
+            name: text,
+            value: None,
+        },
+        Some((name, value)) => Named {
+            name,
+            value: Some(value),
+        },
+    }
+}
+
+/// The option that a word is: `--NAME` or `--NAME=VALUE`.
+pub(crate) fn option_of(word: &str) -> Option<Named<'_>>
+    ensures { option_map named_of result ≡ option_of word.now }
+{
+    Some(named_in(behind_dashes(word)?))
+}
