@@ -2,6 +2,7 @@
 use Rattle.std.specs.Prelude.{ℕ, ◌&&◌, nat_le, not, Bool, List, [], ◌∷◌, codes, length, Option, Some, None, option_and_then, option_map, is_some, if◌then◌else◌}
 use Rattle.std.specs.Str.{bytes_eq}
 use Rattle.text_words.specs.Numbers.{number_of}
+pub use Rattle.tuple_edge.specs.Limits.{max_threads}
 use Rattle.command_line.specs.Words.{Kept, Text, given, kept_as}
 
 -- what `run` and `trial` are told by their options
@@ -28,12 +29,9 @@ pub data Request : Type 0 where
 abbrev pub max_digits : ℕ
 max_digits = 10
 
--- how many threads there are: at least, at most, and without the option
+-- how many threads there are: at least (a run says at most how many), and without the option
 abbrev pub min_threads : ℕ
 min_threads = 1
-
-abbrev pub max_threads : ℕ
-max_threads = 16
 
 abbrev pub default_threads : ℕ
 default_threads = 4

@@ -6,11 +6,10 @@ ghost use Rattle.command_line.specs.Views.{AreInRange, IsInRange, options_in, pa
 use crate::numbers::{number_or, number_within};
 use crate::parts::Parts;
 use crate::{Command, RunOptions};
+use tuple_edge::MAX_THREADS;
 
-/// How many threads there are: at least, at most, and where the option isn't given.
+/// How many threads there are: at least, and where the option isn't given.
 const MIN_THREADS: u32 = 1;
-
-const MAX_THREADS: u32 = 16;
 
 const DEFAULT_THREADS: u32 = 4;
 

@@ -5,6 +5,7 @@ ghost use Rattle.pair_machine.specs.Output.{output};
 ghost use Rattle.partition_runner.specs.Ran.{IsLegalRun};
 ghost use Rattle.std.specs.Prelude.{◌≤◌, IfOk};
 ghost use Rattle.trade_text.specs.TradesView.{inputs_in};
+ghost use Rattle.tuple_edge.specs.Limits.{max_threads};
 
 use crate::ended::Ended;
 use core_drain::drain;
@@ -33,6 +34,7 @@ pub fn finish_run(
     ensures goes_on { IfOk result (λ ended. IsPrefix ran.egress.emitted ended.rows) }
     ensures front { IsPrefix ran.egress.emitted (output plan.now (inputs_in trades.now)) }
 {
+    // This call's clause says that a plan is within the limits.
     let _stages = plan.stages();
     let Ran {
         ingress,
@@ -69,7 +71,7 @@ pub fn run_and_drain<R: Threads + Sync, G: Gate>(
     gate: &G,
 ) -> Result<Ended, OutOfMemory>
     requires some { 1 ≤ threads }
-    requires few { threads ≤ 16 }
+    requires few { threads ≤ max_threads }
     ensures { IfOk result (IsEnded plan.now (inputs_in trades.now) script.now) }
 {
     let ran = run_nodes(rt, alloc, plan, trades, script, threads, turns, gate)?;

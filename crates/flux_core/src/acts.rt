@@ -9,10 +9,11 @@ ghost use Rattle.plan_reader.specs.PlanView.{PlanView};
 ghost use Rattle.replica_node.specs.ReplicaView.{node_of};
 ghost use Rattle.std.specs.Prelude.{◌≡◌, ◌≤◌, ◌++◌, [], IfErr, OnErr, OnOk};
 ghost use Rattle.stream_ops.specs.Times.{IsTimely};
+ghost use Rattle.tuple_edge.specs.Limits.{most_packets};
 ghost use Rattle.tuple_edge.specs.declared.node.NodeId.TheVariants as name;
 
 use crate::error::ApplyError;
-use ingress_egress::{Egress, Ingress, Made};
+use ingress_egress::{Egress, Ingress};
 use pair_control::PairControl;
 use plan_reader::Plan;
 use replica_node::{Mode, Replica};
@@ -103,8 +104,8 @@ fn ingress_makes(node: &mut Ingress) -> Result<(), ApplyError>
     ensures inputs { node.new.inputs ≡ node.old.inputs }
 {
     match node.make()? {
-        Made::Did => Ok(()),
-        Made::NoMoreRows => Err(ApplyError::NoMoreRows),
+        Worked::Did => Ok(()),
+        Worked::Idle => Err(ApplyError::NoMoreRows),
     }
 }
 
@@ -251,7 +252,7 @@ pub(crate) fn control_acts(
     task: &Task,
     out: &mut Outbox,
 ) -> Result<(), ApplyError>
-    requires room { 24 ≤ out.old.spare }
+    requires room { most_packets ≤ out.old.spare }
     ensures acts { OnOk result (ActsSo plan.now (control.node_of node.old) task.now (ControllerIs node.old) (ControllerIs node.new)
         (appended out.old.packets out.new.packets)) }
     ensures packets { out.new.packets ≡ out.old.packets ++ appended out.old.packets out.new.packets }
@@ -276,7 +277,7 @@ fn control_takes(
     body: &Body,
     out: &mut Outbox,
 ) -> Result<(), ApplyError>
-    requires room { 24 ≤ out.old.spare }
+    requires room { most_packets ≤ out.old.spare }
     ensures acts { OnOk result (ActsSo plan.now (control.node_of node.old) (task.Take from body.now) (ControllerIs node.old) (ControllerIs node.new)
         (appended out.old.packets out.new.packets)) }
     ensures packets { out.new.packets ≡ out.old.packets ++ appended out.old.packets out.new.packets }

@@ -56,6 +56,7 @@ impl Core {
     pub fn known(&self)
         ensures { IsCore self.now }
     {
+        // To look into it is all that this takes.
         let _plan = &self.plan;
     }
 

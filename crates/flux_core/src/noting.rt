@@ -16,9 +16,7 @@ use ingress_egress::{Egress, Ingress};
 use pair_control::PairControl;
 use plan_reader::Plan;
 use replica_node::Replica;
-
-// How many packets an event may make a node send; the most are a controller's 19.
-const MOST_PACKETS: usize = 24;
+use tuple_edge::MOST_PACKETS;
 
 // Ingress does what an event asks.
 pub(crate) fn ingress_notes(

@@ -2,7 +2,7 @@
 use Rattle.std.proofs.Common.{◌≡◌, ℕ, zero, suc, ◌<◌, ◌≤◌, ◌⊎◌, inl, inr, Bool, true, false, refl, sym, ◌∙◌, ap, subst, arith}
 use Rattle.std.specs.Prelude.{Option, None, Some, IfSome, IfNone, IsTrue, nat_le, if◌then◌else◌, length}
 use borrow.Author.Tests.{leb-true, leb-false, le-leb}
-use Rattle.flux_producer.specs.Due.{IsLeast, NoneWaits, Waits, due_at, due_to, sooner, soonest_below}
+use Rattle.flux_producer.specs.Due.{IsLeast, NoneWaits, Waits, due_at, due_of, due_to, sooner, soonest_below}
 use Rattle.flux_producer.specs.ProducerView.{ProducerView, buffer_at, cursor_at}
 use Rattle.flux_producer.specs.declared.due.Due.{Due}
 
@@ -147,3 +147,11 @@ due_least p o is = least_by p o (subst (SoonestOf (due_to p) (length p.edges)) (
 -- where there is none, nothing waits
 pub due_none : (p : ProducerView) (o : Option Due) → o ≡ soonest_below (due_to p) (length p.edges) → IfNone o (IsTrue p.leads → NoneWaits p)
 due_none p o is = none_by p o (subst (SoonestOf (due_to p) (length p.edges)) (sym is) (soonest (due_to p) (length p.edges)))
+
+-- what is due is the least of what waits
+due_where : (p : ProducerView) (d : Due) (leads : Bool) → (if leads then soonest_below (due_to p) (length p.edges) else None) ≡ Some d → IsLeast p d
+due_where p d true is = due_least p (Some d) (sym is)
+due_where p d false is = let never : ⊥ = cc in absurd never
+
+pub due_of-least : (p : ProducerView) (d : Due) → due_of p ≡ Some d → IsLeast p d
+due_of-least p d is = due_where p d p.leads is

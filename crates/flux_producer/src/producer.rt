@@ -319,8 +319,25 @@ impl Producer {
         ensures gives { (all : ℕ → List Item) → StandsFor self.old all → IfSome result (λ s. slice_get (all s.0.to) (s.0.number - 1) ≡ Some s.1) }
     {
         let due = self.due()?;
-        let item = self.edges[due.to as usize].send(due.copy)?;
+        let item = self.send(due);
         Some((due, item))
+    }
+
+    /// Gives the item that is due, and goes on to the next number. What is due is not looked for again.
+    pub fn send(&mut self, due: Due) -> Item
+        requires { due_of self.old ≡ Some due }
+        ensures item { item_at (buffer_at self.old due.to) due.number ≡ Some result }
+        ensures sent { self.new ≡ sent_on self.old due.to due.copy }
+        ensures stands { (all : ℕ → List Item) → StandsFor self.old all → StandsFor self.new all }
+
+        // It is the item that was produced on its edge with that number.
+        ensures above { (buffer_at self.old due.to).low < due.number }
+        ensures gives { (all : ℕ → List Item) → StandsFor self.old all → slice_get (all due.to) (due.number - 1) ≡ Some result }
+    {
+        let Some(item) = self.edges[due.to as usize].send(due.copy) else {
+            unreachable!()
+        };
+        item
     }
 
     /// How many out-edges there are.

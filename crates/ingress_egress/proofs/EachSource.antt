@@ -11,7 +11,7 @@ use Rattle.node_edges.specs.OutEdges.{HasMade}
 use Rattle.ingress_egress.specs.IngressStands.{IsMade}
 use Rattle.ingress_egress.specs.IngressView.{AreWide, IngressView, MayMake, producer_in}
 use Rattle.ingress_egress.specs.IngressView as code
-use Rattle.ingress_egress.specs.declared.making.Made.TheVariants as made
+use Rattle.tuple_edge.specs.declared.event.Worked.TheVariants as worked
 use Rattle.node_edges.proofs.OnEdges.{made_so, none_made}
 use Rattle.pair_machine.specs.CountLaws.{made_for}
 use Rattle.pair_machine.specs.Ingress.{row_of_source}
@@ -149,7 +149,7 @@ at_get (r ∷ rows) (suc n) d l = at_get rows n d (omega arith)
 
 pub make_is : (i : IngressView) (z : List ProducerView) (o : Option Input) (stamp : ℕ) → stamp ≡ i.makes + 1 → o ≡ slice_get i.inputs i.makes → i.makes ≤ length i.inputs → length z ≡ length i.producers
     → ((q : ℕ) → q < length i.producers → HasMade (λ t. edge_to (Some i.first) t (made_for q i.mark stamp o)) (producer_in i.producers q) (producer_in z q))
-    → IsMade i (record i { makes = stamp; producers = z }) made.Did
+    → IsMade i (record i { makes = stamp; producers = z }) worked.Did
 make_is i z o stamp next input within many m = (
   within,
   record {

@@ -3,7 +3,7 @@
 use Rattle.std.proofs.Common.{◌≡◌, ◌<◌, ◌≤◌, ◌+◌, inl, inr, ℕ, zero, suc, Bool, true, false, IsTrue, List, [], ◌∷◌, ◌++◌, Option, None, Some, Result, Ok, Err, length, map, refl, sym, ap, ◌∙◌, subst, arith}
 use Rattle.std.specs.Prelude.{◌%◌, ◌==◌, IfOk, OnErr, ◌-◌, if◌then◌else◌, is_some, nat_le, slice_get, replicate, slice_index_or, slice_set}
 use Rattle.std.proofs.Math.ListN.{length-set}
-use Rattle.std.proofs.lemmas.Bool.{eqb-true, eq-eqb, le-leb, lt-ltb, true≢false}
+use Rattle.std.proofs.lemmas.Bool.{eqb-true, eq-eqb, le-leb, lt-ltb}
 use Rattle.std.proofs.lemmas.List.{get_or-set_same, get_or-set_other, length-append, length-map}
 use Rattle.tuple_edge.specs.declared.memory.OutOfMemory.{OutOfMemory}
 use Rattle.tuple_edge.specs.declared.item.Item.{Item}
@@ -34,8 +34,8 @@ use Rattle.pair_machine.proofs.Found.{FoundIn, first_found}
 use Rattle.node_edges.specs.OutEdges.{HasMade, which_at, with_items}
 use Rattle.ingress_egress.specs.IngressStands.{IsMade, IsOfPlan}
 use Rattle.ingress_egress.specs.IngressView.{AreWide, HasMadeAtMost, HaveMadeAtMost, IngressView, MayMake, contents_in, new_producers, producer_at, producer_in, sending_due, sending_first, source_due, taking, tuples_of, with_producer, working}
-use Rattle.ingress_egress.specs.declared.making.Made.{Made}
-use Rattle.ingress_egress.specs.declared.making.Made.TheVariants as made
+use Rattle.tuple_edge.specs.declared.event.Worked.{Worked}
+use Rattle.tuple_edge.specs.declared.event.Worked.TheVariants as worked
 use Rattle.ingress_egress.proofs.EachSource.{alike, at_set, edges_alike, edges_many, wide_alike}
 use Rattle.ingress_egress.proofs.IngressSteps.{many, opened_at}
 
@@ -77,12 +77,12 @@ works_alike i (Some q) = sends_alike i q (due_of (producer_at i q))
 pub works_of_plan : (plan : PlanView) (i : IngressView) → IsOfPlan plan i → IsOfPlan plan (working i).after
 works_of_plan plan i = alike_of_plan plan i (working i).after (works_alike i (source_due i))
 
-made_of_plan : (plan : PlanView) (old new : IngressView) (m : Made) → IsMade old new m → IsOfPlan plan old → IsOfPlan plan new
-made_of_plan plan old new made.Did m = alike_of_plan plan old new (record { first = m.1.first; sources = m.1.sources })
-made_of_plan plan old new made.NoMoreRows m = subst (IsOfPlan plan) (sym m.1)
+made_of_plan : (plan : PlanView) (old new : IngressView) (m : Worked) → IsMade old new m → IsOfPlan plan old → IsOfPlan plan new
+made_of_plan plan old new worked.Did m = alike_of_plan plan old new (record { first = m.1.first; sources = m.1.sources })
+made_of_plan plan old new worked.Idle m = subst (IsOfPlan plan) (sym m.1)
 
 -- also where only the room changed
-pub make_of_plan : (r : Result Made OutOfMemory) (old new : IngressView) → IfOk r (IsMade old new) → OnErr r (contents_in new ≡ contents_in old)
+pub make_of_plan : (r : Result Worked OutOfMemory) (old new : IngressView) → IfOk r (IsMade old new) → OnErr r (contents_in new ≡ contents_in old)
     → (plan : PlanView) → IsOfPlan plan old → IsOfPlan plan new
 make_of_plan (Ok m) old new h k plan = made_of_plan plan old new m h
 make_of_plan (Err e) old new h k plan = alike_of_plan plan old new (record {
@@ -129,13 +129,6 @@ found_first i = first_found (length i.producers) (λ q. is_some (due_of (produce
 
 pub works_linked : (plan : PlanView) (i : IngressView) → IsOfPlan plan i → AreWide i.first.parts i.producers → GoOverLinks plan node.Ingress (working i).sent
 works_linked plan i is wide = first_linked plan i is wide (source_due i) (found_first i)
-
--- the first source that has something due has something due
-pub is_due : (i : IngressView) (q : ℕ) → Some q ≡ source_due i → due_of (producer_at i q) ≡ None → ⊥
-is_due i q first none =
-    let found : FoundIn (λ k. is_some (due_of (producer_at i k))) (length i.producers) (Some q) =
-    subst (FoundIn (λ k. is_some (due_of (producer_at i k))) (length i.producers)) (sym first) (found_first i) in
-    true≢false (sym found.0 ∙ ap is_some none)
 
 one_item : (q : ℕ) (d : Due) (o : Option Item) → length (tuples_of q d o) ≤ 1
 one_item q d None = omega arith

@@ -1,10 +1,10 @@
 -- Each event of ingress in code is a step of the machine's ingress, and a step in a course.
 use Rattle.std.proofs.Common.{◌≡◌, ◌<◌, ◌≤◌, ◌+◌, ◌⊎◌, inl, inr, ℕ, zero, suc, Bool, true, false, List, [], ◌∷◌, ◌++◌, Option, None, Some, Result, Ok, Err, length, refl, sym, ap, ◌∙◌, subst, arith}
-use Rattle.std.specs.Prelude.{◌==◌, IfOk, OnOk, if◌then◌else◌, is_some, nat_lt, slice_get, take}
+use Rattle.std.specs.Prelude.{◌==◌, IfOk, OnOk, if◌then◌else◌, is_some, nat_lt, slice_get, slice_index_or, take}
 use Rattle.std.specs.Option.{option_or}
 use Rattle.std.proofs.Math.ListN.{length-set}
 use Rattle.std.proofs.lemmas.Bool.{eqb-true, eq-eqb, ltb-true, lt-ltb, true≢false}
-use Rattle.std.proofs.lemmas.List.{get_or-set_same, get_or-set_other, length-append, length-replicate}
+use Rattle.std.proofs.lemmas.List.{get_or-set_same, get_or-set_other, get_or_default, length-append, length-replicate}
 use Rattle.tuple_edge.specs.Input.{Input}
 use Rattle.tuple_edge.specs.declared.event.Event.TheVariants as event
 use Rattle.tuple_edge.specs.declared.event.Worked.{Worked}
@@ -50,8 +50,6 @@ use Rattle.node_edges.proofs.Producers.{few_in_pairs, few_of_pair}
 use Rattle.ingress_egress.specs.IngressStands.{IsAdmitted, IsDone, IsMade, IsMadeIn, IsRefused, IsTaken, IsWorked, StandsFor}
 use Rattle.ingress_egress.specs.IngressView.{AreWide, HasMadeNext, IngressView, made_next, new_producer, new_producers, producer_at, producer_in, sending_due, sending_first, taking, tuple_of, tuples_of, with_producer, working}
 use Rattle.ingress_egress.specs.IngressView as code
-use Rattle.ingress_egress.specs.declared.making.Made.{Made}
-use Rattle.ingress_egress.specs.declared.making.Made.TheVariants as made
 
 -- ---- searches
 
@@ -318,9 +316,9 @@ module _ (plan : PlanView) (rows : List Input) where
 -- ---- what calls have found and done
 
 -- what was made is a step of the machine
-pub make_done : (r : Result Made OutOfMemory) (old new : IngressView) → IfOk r (IsMade old new) → IfOk r (λ m. (plan : PlanView) (rows : List Input) → IsPlan plan → IsMadeIn plan rows old new m)
-make_done (Ok made.Did) old new h = λ plan rows is. make_course plan rows is old new h.0 h.1
-make_done (Ok made.NoMoreRows) old new h = λ plan rows is. make_refused plan rows old h.0
+pub make_done : (r : Result Worked OutOfMemory) (old new : IngressView) → IfOk r (IsMade old new) → IfOk r (λ m. (plan : PlanView) (rows : List Input) → IsPlan plan → IsMadeIn plan rows old new m)
+make_done (Ok worked.Did) old new h = λ plan rows is. make_course plan rows is old new h.0 h.1
+make_done (Ok worked.Idle) old new h = λ plan rows is. make_refused plan rows old h.0
 make_done (Err e) old new h = tt
 
 -- the first number of which a test holds, below any bound above it
@@ -333,6 +331,10 @@ found_at (suc n) q test none l holds = by (below_or q n l) (λ k. found_at n q t
     by (inr same) before =
         (λ i. option_or (first_below test (same i)) (if test (same i) then Some (same i) else None))
         ∙ (λ i. option_or (none i) (if holds i then Some q else None))
+
+-- what the code reads of its producers at a place is the producer there
+pub producer_there : (i : IngressView) (producers : List ProducerView) (q : ℕ) (y : ProducerView) → producers ≡ i.producers → q < length i.producers → y ≡ slice_index_or producers q y → y ≡ producer_at i q
+producer_there i producers q y same within at = at ∙ ap (λ ps. slice_index_or ps q y) same ∙ get_or_default i.producers q y _ within
 
 -- what was due of the first source was sent
 pub did_send : (i : IngressView) (q : ℕ) (d : Sending) (item : Item) → Some q ≡ code.source_due i → due_of (producer_at i q) ≡ Some d

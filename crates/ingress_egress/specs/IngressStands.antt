@@ -22,8 +22,6 @@ use Rattle.pair_machine.specs.Messages.{Act, Makes, Works, NoMoreRows, NothingDu
 use Rattle.pair_machine.specs.Numbers.{Node}
 use Rattle.node_edges.specs.OutEdges.{ProducerStands}
 use Rattle.ingress_egress.specs.IngressView.{HasMadeNext, IngressView, producer_at}
-use Rattle.ingress_egress.specs.declared.making.Made.{Made}
-use Rattle.ingress_egress.specs.declared.making.Made.TheVariants as made
 
 -- ingress stands for a node's numbers: it has the plan's inputs, first stage and mark, and the producer of each source stands for its
 -- numbers, where so many items were made as the first makes give
@@ -65,14 +63,14 @@ IsWorked plan rows old new sent worked.Did = IsDone plan rows old new sent (even
 IsWorked plan rows old new sent worked.Idle = IsRefused plan rows old Works NothingDue
 
 -- a make; where there was none, all was made
-abbrev pub IsMadeIn : PlanView → List Input → IngressView → IngressView → Made → Type 0
-IsMadeIn plan rows old new made.Did = IsDone plan rows old new [] event.Make
-IsMadeIn plan rows old new made.NoMoreRows = IsRefused plan rows old Makes NoMoreRows
+abbrev pub IsMadeIn : PlanView → List Input → IngressView → IngressView → Worked → Type 0
+IsMadeIn plan rows old new worked.Did = IsDone plan rows old new [] event.Make
+IsMadeIn plan rows old new worked.Idle = IsRefused plan rows old Makes NoMoreRows
 
 -- the next input, or the end, was made into items; there was none where the end was made already
-abbrev pub IsMade : IngressView → IngressView → Made → Type 0
-IsMade old new made.Did = (old.makes ≤ length old.inputs) × HasMadeNext old new
-IsMade old new made.NoMoreRows = (length old.inputs < old.makes) × (new ≡ old)
+abbrev pub IsMade : IngressView → IngressView → Worked → Type 0
+IsMade old new worked.Did = (old.makes ≤ length old.inputs) × HasMadeNext old new
+IsMade old new worked.Idle = (length old.inputs < old.makes) × (new ≡ old)
 
 -- ---- which packets it may be given
 

@@ -39,8 +39,9 @@ impl Egress {
         plan.links(LinkId { from, to }) && self.may_take(from, body)
     }
 
-    // All that `on` asks for of egress itself.
-    fn may_take(&self, from: NodeId, body: &Body) -> bool
+    /// All that `on` asks for of egress itself: `admits` without the look at the plan. It is for one who knows that the
+    /// packet came over a link of the plan. It takes no memory.
+    pub fn may_take(&self, from: NodeId, body: &Body) -> bool
         ensures { IsTrue result ↔ egress.IsAdmitted self.now from body.now }
     {
         self.is_from_last(from) && self.is_carried(from, body)
@@ -86,8 +87,9 @@ impl Ingress {
         plan.links(LinkId { from, to }) && self.may_take(from, body)
     }
 
-    // All that `on` asks for of ingress itself.
-    fn may_take(&self, from: NodeId, body: &Body) -> bool
+    /// All that `on` asks for of ingress itself: `admits` without the look at the plan. It is for one who knows that the
+    /// packet came over a link of the plan. It takes no memory.
+    pub fn may_take(&self, from: NodeId, body: &Body) -> bool
         ensures { IsTrue result ↔ ingress.IsAdmitted self.now from body.now }
     {
         match (from, *body) {

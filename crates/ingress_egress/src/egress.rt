@@ -77,6 +77,7 @@ impl Egress {
         // For the machine's laws: in each plan, whatever message the body stands for.
         ensures course { OnOk result ((plan : PlanView) (rows : List Input) → IsPlan plan → IsTaken plan rows self.old self.new from body.now) }
     {
+        // From whichever replica it comes, it is taken alike. Contracts name the sender.
         let _sender = from;
         match *body {
             Body::Tuple { edge, number, item } => self.offer(edge.from, number, item),
@@ -171,7 +172,7 @@ impl Egress {
     pub fn may_work(&self) -> bool
         ensures { IsTrue result ↔ MayWork self.now }
     {
-        !self.consumer.ready() || self.consumer.merge().count() < NUMBER_LIMIT - 1
+        self.consumer.merge().count() < NUMBER_LIMIT - 1 || !self.consumer.ready()
     }
 
     /// Whether the next item of an edge may be pulled: its number is within its limit. It takes no memory.

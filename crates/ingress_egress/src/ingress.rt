@@ -1,22 +1,18 @@
 // Ingress as a node: what it is, and what can be read of it.
 ghost use Rattle.flux_producer.specs.Due.{due_of};
-ghost use Rattle.ack_buffer.specs.Buffer.{item_at};
-ghost use Rattle.flux_producer.specs.ProducerView.{buffer_at, sent_on};
 ghost use Rattle.ingress_egress.specs.IngressStands.{IsAdmitted, IsMade, IsMadeIn, IsOfPlan, IsTaken, IsWorked, StandsFor};
-ghost use Rattle.pair_machine.specs.Consumers.{first_below};
-ghost use Rattle.ingress_egress.specs.IngressView.{AreWide, contents_in, new_producers, producer_at, producer_in, source_due, taking, tuple_of, working};
+ghost use Rattle.ingress_egress.specs.IngressView.{AreWide, contents_in, new_producers, producer_at, source_due, taking, tuple_of, working};
 ghost use Rattle.trade_text.specs.TradesView.{inputs_in};
 ghost use Rattle.pair_machine.specs.Machine.{new_node};
 ghost use Rattle.pair_machine.specs.Receivers.{GoOverLinks, appended};
 ghost use Rattle.plan_reader.specs.PlanView.{IsPlan, PlanView};
 ghost use Rattle.stream_ops.specs.Times.{IsTime};
-ghost use Rattle.std.specs.Prelude.{◌≡◌, ◌<◌, ◌≤◌, ◌+◌, ◌++◌, ◌∷◌, [], All, List, None, Some, IfNone, IfOk, IfSome, OnErr, OnOk, is_some, length, slice_get, slice_set};
+ghost use Rattle.std.specs.Prelude.{◌≡◌, ◌<◌, ◌≤◌, ◌+◌, ◌++◌, ◌∷◌, [], All, List, None, Some, IfNone, IfOk, IfSome, OnErr, OnOk, length, slice_get};
 ghost use Rattle.tuple_edge.specs.Input.{Input};
 ghost use Rattle.tuple_edge.specs.declared.event.Worked.TheVariants.{Idle};
 ghost use Rattle.tuple_edge.specs.declared.node.NodeId.TheVariants as node;
-ghost use Rattle.tuple_edge.specs.Limits.{edge_limit};
 
-use crate::making::{Made, given_at, make_with_room};
+use crate::making::{given_at, make_with_room};
 use flux_producer::{Due, Producer};
 use node_edges::{copy_of, which_at};
 use plan_reader::{Plan, Stage};
@@ -132,10 +128,10 @@ impl Ingress {
     }
 
     /// Makes the next input into an item on the edge of its source that routing names, and where a mark
-    /// is due into one on every edge of every source; after the inputs it makes the end on every edge.
-    /// It sends nothing, and may always be called. After want of memory only the room of the buffers may
+    /// is due into one on every edge of every source; after the inputs it makes the end on every edge. Idle exactly
+    /// where the end was made before. It sends nothing, and may always be called. After want of memory only the room of the buffers may
     /// have changed. A row that no mark follows costs the same however many edges there are.
-    pub fn make(&mut self) -> Result<Made, OutOfMemory>
+    pub fn make(&mut self) -> Result<Worked, OutOfMemory>
         ensures made { IfOk result (IsMade self.old self.new) }
         ensures unchanged { OnErr result (contents_in self.new ≡ contents_in self.old) }
         ensures of_plan { (plan : PlanView) → IsOfPlan plan self.old → IsOfPlan plan self.new }
@@ -146,18 +142,18 @@ impl Ingress {
     }
 
     // Makes the next input, or the end, into items.
-    fn make_next(&mut self) -> Result<Made, OutOfMemory>
+    fn make_next(&mut self) -> Result<Worked, OutOfMemory>
         ensures made { IfOk result (IsMade self.old self.new) }
         ensures unchanged { OnErr result (contents_in self.new ≡ contents_in self.old) }
     {
         if self.makes > self.rows.len() as u64 {
-            return Ok(Made::NoMoreRows);
+            return Ok(Worked::Idle);
         }
         let input = given_at(&self.rows, &self.sources, self.makes as usize);
         let stamp = self.makes + 1;
         make_with_room(&mut self.producers, &self.first, self.mark, stamp, input)?;
         self.makes = stamp;
-        Ok(Made::Did)
+        Ok(Worked::Did)
     }
 
     /// Sends what is due of the first source that has something due. Idle exactly where none has. It may
@@ -190,23 +186,28 @@ impl Ingress {
         ensures unchanged { OnErr result ((self.new ≡ self.old) × (out.new ≡ out.old)) }
         ensures wide { AreWide self.old.first.parts self.old.producers }
     {
-        let Some(source) = self.source_due() else {
+        let Some((source, due)) = self.source_due() else {
             return Ok(Worked::Idle);
         };
         out.reserve(1)?;
-        let Some((due, item)) = send_from(&mut self.producers, source) else {
-            unreachable!()
-        };
+        let item = self.producers[source as usize].send(due);
         push_tuple(source, due, item, out);
         Ok(Worked::Did)
     }
 
-    // The first source that has something due.
-    fn source_due(&self) -> Option<u32>
-        ensures value { result ≡ source_due self.now }
-        ensures there { IfSome result (λ q. q < length self.now.producers) }
+    // The first source that has something due, with what is due of it.
+    fn source_due(&self) -> Option<(u32, Due)>
+        ensures none { IfNone result (source_due self.now ≡ None) }
+        ensures source { IfSome result (λ s. source_due self.now ≡ Some s.0) }
+        ensures there { IfSome result (λ s. s.0 < length self.now.producers) }
+        ensures due { IfSome result (λ s. due_of (producer_at self.now s.0) ≡ Some s.1) }
     {
-        first_due(&self.producers)
+        for source in 0..self.producers.len() {
+            if let Some(due) = self.producers[source].due() {
+                return Some((source as u32, due));
+            }
+        }
+        None
     }
 
     /// How many sources there are.
@@ -238,44 +239,6 @@ impl Ingress {
     {
         &self.producers[source as usize]
     }
-}
-
-// The first producer that has something due.
-fn first_due(producers: &[Producer]) -> Option<u32>
-    requires { length producers.now < edge_limit }
-    ensures value { result ≡ first_below (λ q. is_some (due_of (producer_in producers.now q))) (length producers.now) }
-    ensures there { IfSome result (λ q. q < length producers.now) }
-{
-    for source in 0..producers.len() {
-        if has_due(producers, source) {
-            return Some(source as u32);
-        }
-    }
-    None
-}
-
-// Whether a source has something due.
-fn has_due(producers: &[Producer], source: usize) -> bool
-    requires { source < length producers.now }
-    ensures { result ≡ is_some (due_of (producer_in producers.now source)) }
-{
-    match producers[source].due() {
-        None => false,
-        Some(_due) => true,
-    }
-}
-
-// Gives what is due of a source with its item, and goes on to the next number.
-fn send_from(producers: &mut Vec<Producer>, source: u32) -> Option<(Due, Item)>
-    requires { source < length producers.old.items }
-    ensures none { IfNone result (due_of (producer_in producers.old.items source) ≡ None) }
-    ensures unchanged { IfNone result (producers.new.items ≡ producers.old.items) }
-    ensures due { IfSome result (λ s. due_of (producer_in producers.old.items source) ≡ Some s.0) }
-    ensures item { IfSome result (λ s. item_at (buffer_at (producer_in producers.old.items source) s.0.to) s.0.number ≡ Some s.1) }
-    ensures sent { IfSome result (λ s. producers.new.items
-        ≡ slice_set producers.old.items source (sent_on (producer_in producers.old.items source) s.0.to s.0.copy)) }
-{
-    producers[source as usize].send_due()
 }
 
 // Sends an item of a source to the replica that it is due to.

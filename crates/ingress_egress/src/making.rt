@@ -14,13 +14,6 @@ use flux_producer::Producer;
 use plan_reader::Stage;
 use tuple_edge::{Item, OutOfMemory, Row, route};
 
-/// What came of a make: an input, or the end, was made into items, or there is none left.
-#[derive(Clone, Copy, Debug, PartialEq, Eq)]
-pub enum Made {
-    Did,
-    NoMoreRows,
-}
-
 /// An input: a row with its source.
 #[derive(Clone, Copy)]
 pub struct Given {

@@ -9,9 +9,7 @@ use claim_board::{Board, BoardSeat};
 use run_node::{Acts, Links, Node, RunNames, Tap};
 use std::thread;
 use std::thread::Threads;
-
-// A run has no more workers.
-const MOST_WORKERS: usize = 16;
+use tuple_edge::MAX_THREADS;
 
 // Each seat in a thread of its own.
 fn work_each<N: RunNames, A: Acts + Send, M: Links, T: Tap + Send, R: Threads + Sync, G: Gate>(
@@ -39,7 +37,7 @@ fn work_each<N: RunNames, A: Acts + Send, M: Links, T: Tap + Send, R: Threads + 
             ensures { IsBack board.entry.now seat.old seat.new }
         {
             // The remainder is the index itself. It shows that the cast loses nothing.
-            let worker = (index % MOST_WORKERS) as u32;
+            let worker = (index % MAX_THREADS as usize) as u32;
             work(board, seat, worker, nodes, shared)
         },
     );

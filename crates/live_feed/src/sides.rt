@@ -11,6 +11,7 @@ ghost use Rattle.row_wire.specs.Written.{IsWritten, TakesFront, Told};
 ghost use Rattle.std.specs.Prelude.{◌≡◌, ◌≤◌, ◌⊎◌, [], IsTrue, is_some, length, take};
 ghost use Rattle.trade_text.specs.Text.{part_text};
 ghost use Rattle.trade_text.specs.TradesView.{inputs_in};
+ghost use Rattle.tuple_edge.specs.Limits.{max_threads};
 
 use crate::answer::Live;
 use crate::end::end_of;
@@ -220,7 +221,7 @@ fn live_over<N: RunNames, C: ChannelNames, R: Threads + Wait + Sync, W: Wire + S
     requires trades { inputs_in trades.now ≡ N.inputs }
     requires script { script.now ≡ N.script }
     requires some { 1 ≤ threads }
-    requires few { threads ≤ 16 }
+    requires few { threads ≤ max_threads }
     requires sends { sends_to sender ≡ C.channel }
     requires receives { receives_from receiver ≡ C.channel }
     requires sent { rows_sent sender ≡ [] }
@@ -257,7 +258,7 @@ fn live_named<N: RunNames, R: Threads + Wait + Sync, W: Wire + Send, G: Gate>(
     requires trades { inputs_in trades.now ≡ N.inputs }
     requires script { script.now ≡ N.script }
     requires some { 1 ≤ threads }
-    requires few { threads ≤ 16 }
+    requires few { threads ≤ max_threads }
     ensures { LivesSo N.plan N.inputs N.script trades.now.symbols (record { taken = W.taken out.old; faults = W.faults out.old }) (record { taken = W.taken out.new; faults = W.faults out.new }) result }
 {
     let Ok((sender, receiver)) = row_channel(alloc) else {
@@ -285,7 +286,7 @@ pub fn live<R: Threads + Wait + Sync, W: Wire + Send, G: Gate>(
     out: &mut W,
 ) -> Live
     requires some { 1 ≤ threads }
-    requires few { threads ≤ 16 }
+    requires few { threads ≤ max_threads }
     // Why the answer is given: Done where the whole text was put; Lost where that pair is the first lost one of a state that a legal list within the script
     // reaches, and just that state's rows were put; WriteFault where the wire's count of faults rose and a proper front of the text was put.
     ensures answers { AnswersSo plan.now (inputs_in trades.now) script.now trades.now.symbols (record { taken = W.taken out.old; faults = W.faults out.old }) (record { taken = W.taken out.new; faults = W.faults out.new }) result }

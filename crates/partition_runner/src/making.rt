@@ -86,6 +86,7 @@ fn finished<N: RunNames, M: Links, T: Tap>(
     requires links { HaveTheirLinks plan.now drafts.items }
     ensures { IfOk result (λ nodes. map (name_of id_of) nodes.items ≡ drafts.items) }
 {
+    // The clauses of these calls say that a plan and the times of trades are within the limits.
     let _stages = plan.stages();
     let _rows = trades.rows();
     let mut nodes = Vec::with_capacity(alloc, drafts.len())?;

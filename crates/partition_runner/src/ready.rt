@@ -123,6 +123,7 @@ pub(crate) fn run_ready<N: RunNames, M: Links, T: Tap + Send, R: Threads + Sync,
     ensures tap { TapOfSome T.given rows_of (Some result.tap) (parts_in result.parts.items) }
     ensures room { AreSorted [] result.room }
 {
+    // This call's clause says that a plan is within the limits.
     let _stages = plan.stages();
     let Ready {
         board,

@@ -4,6 +4,7 @@ ghost use Rattle.pair_machine.specs.Output.{output};
 ghost use Rattle.partition_runner.specs.Ran.{IsLegalRun};
 ghost use Rattle.std.specs.Prelude.{◌≡◌, ◌≤◌, [], IfOk, MatchResult};
 ghost use Rattle.trade_text.specs.TradesView.{inputs_in};
+ghost use Rattle.tuple_edge.specs.Limits.{max_threads};
 
 use crate::ran::Ran;
 use crate::ready::{Ended, Ready, make_ready, run_ready};
@@ -39,9 +40,10 @@ pub fn ready_tapped<N: RunNames, T: Tap + Send>(
     requires trades { inputs_in trades.now ≡ N.inputs }
     requires script { script.now ≡ N.script }
     requires some { 1 ≤ threads }
-    requires few { threads ≤ 16 }
+    requires few { threads ≤ max_threads }
     requires tap { T.given tap ≡ [] }
 {
+    // Whoever makes it ready says under which script it will run.
     let _orders = script.orders();
     let ready = make_ready(alloc, plan, trades, threads, &mut Rings, tap)?;
     Ok(Tapped { ready })
@@ -97,6 +99,7 @@ pub fn run_tapped<R: Threads + Sync, G: Gate, N: RunNames, T: Tap + Send>(
     ensures run { IfOk result.0 (IsLegalRun plan.now (inputs_in trades.now) script.now) }
     ensures tap { MatchResult result.0 (λ ran. IsPrefix (T.given result.1) ran.egress.emitted) (λ _. IsPrefix (T.given result.1) (output plan.now (inputs_in trades.now))) }
 {
+    // The trades are those of the names that it was made ready under.
     let _rows = trades.rows();
     let Tapped { ready } = ready;
     run_named(rt, plan, script, turns, gate, &mut Rings, ready)
@@ -142,7 +145,7 @@ pub fn run_over<R: Threads + Sync, M: Links, G: Gate>(
     gate: &G,
 ) -> Result<Ran, OutOfMemory>
     requires some { 1 ≤ threads }
-    requires few { threads ≤ 16 }
+    requires few { threads ≤ max_threads }
     ensures { IfOk result (IsLegalRun plan.now (inputs_in trades.now) script.now) }
 {
     run_with::<Brand, R, M, G>(rt, alloc, plan, trades, script, threads, turns, links, gate)
@@ -160,7 +163,7 @@ pub fn run_nodes<R: Threads + Sync, G: Gate>(
     gate: &G,
 ) -> Result<Ran, OutOfMemory>
     requires some { 1 ≤ threads }
-    requires few { threads ≤ 16 }
+    requires few { threads ≤ max_threads }
     ensures { IfOk result (IsLegalRun plan.now (inputs_in trades.now) script.now) }
 {
     run_over(

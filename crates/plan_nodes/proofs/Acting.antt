@@ -36,7 +36,8 @@ use Rattle.replica_node.specs.ReplicaView.{ReplicaView, node_of}
 use Rattle.replica_node.specs.Rules.{contents_in}
 use Rattle.replica_node.specs.StandsFor as replica
 use Rattle.plan_nodes.specs.States.{HasActed, IsOfPlan, StandsFor, id_of, rows_of}
-use Rattle.run_node.specs.Tasks.{DoesStep, event_of, most_packets, packet_of}
+use Rattle.tuple_edge.specs.Limits.{most_packets}
+use Rattle.run_node.specs.Tasks.{DoesStep, event_of, packet_of}
 use Rattle.run_node.specs.declared.acts.Task.{Task}
 use Rattle.run_node.specs.declared.acts.Task.TheVariants as task
 use Rattle.plan_nodes.specs.declared.state.NodeState.{NodeState}
@@ -161,11 +162,11 @@ back_at r = back_here (node_of r.role)
 pub replica_works : (old new : ReplicaView) (t : Task) (result : Result Worked OutOfMemory) (before after : OutboxView) → t ≡ task.Work → before.packets ≡ [] →
     IfOk result (λ w. w ≡ Idle → (new ≡ old) × (after ≡ before)) → OnErr result ((contents_in new ≡ contents_in old) × (after.packets ≡ before.packets)) → length after.packets ≤ length before.packets + 1 →
     ((plan : PlanView) → replica.IsOfPlan plan old.role → GoOverLinks plan (node_of old.role) (appended before.packets after.packets)) → new.role ≡ old.role →
-    IfOk result (λ w. (plan : PlanView) (inputs : List Input) → IsPlan plan → course.IsWorked plan inputs old new (appended before.packets after.packets) w) → HasActed (state.Replica old) (state.Replica new) t result after.packets
+    IfOk result (λ w. w ≡ Did → (plan : PlanView) (inputs : List Input) → IsPlan plan → course.IsWorked plan inputs old new (appended before.packets after.packets) w) → HasActed (state.Replica old) (state.Replica new) t result after.packets
 replica_works old new t (Ok Did) before after is none idle err few linked role worked =
     let all : after.packets ≡ appended before.packets after.packets = sym (appended_is before.packets after.packets after.packets none refl) in
     let short : length before.packets ≡ 0 = ap length none in
-    replica_steps old new t task.Work after.packets (appended before.packets after.packets) is all refl (λ plan inputs hp ht clock. worked plan inputs hp clock) (omega arith) linked role
+    replica_steps old new t task.Work after.packets (appended before.packets after.packets) is all refl (λ plan inputs hp ht clock. worked refl plan inputs hp clock) (omega arith) linked role
 replica_works old new t (Ok Idle) before after is none idle err few linked role worked =
     let z = idle refl in
     idled (state.Replica old) (state.Replica new) t after.packets (ap state.Replica z.0) (ap (λ (o : OutboxView). o.packets) z.1 ∙ none)
@@ -232,7 +233,7 @@ ingress_works old new t (Ok Idle) before after is none packets idle err few link
 ingress_works old new t (Err e) before after is none packets idle err few linked of_plan worked =
     failed (state.Ingress old) (state.Ingress new) t after.packets e (ap (λ (o : OutboxView). o.packets) err.1 ∙ none) (λ plan inputs x h. subst (λ v. ingress.StandsFor plan inputs v x) (sym err.0) h) refl of_plan (all_rows [])
 
-pub ingress_makes : (old new : IngressView) (t : Task) (out : List (NodeId × Body)) → t ≡ task.Make → out ≡ [] →
+ingress_makes : (old new : IngressView) (t : Task) (out : List (NodeId × Body)) → t ≡ task.Make → out ≡ [] →
     ((plan : PlanView) (inputs : List Input) → IsPlan plan → ingress.IsDone plan inputs old new [] event.Make) → ((plan : PlanView) → ingress.IsOfPlan plan old → ingress.IsOfPlan plan new) →
     HasActed (state.Ingress old) (state.Ingress new) t (Ok Did) out
 ingress_makes old new t out is none made of_plan =
@@ -241,6 +242,14 @@ ingress_makes old new t out is none made of_plan =
     subst (λ x. HasActed (state.Ingress old) (state.Ingress new) x (Ok Did) out) (sym is)
     (acted (state.Ingress old) (state.Ingress new) task.Make out refl step (omega arith) (λ plan h. subst (GoOverLinks plan node.Ingress) (sym none) tt) refl of_plan (all_rows []))
 
-pub ingress_fails : (old new : IngressView) (t : Task) (e : OutOfMemory) (out : List (NodeId × Body)) → out ≡ [] → ingress_contents new ≡ ingress_contents old →
+ingress_fails : (old new : IngressView) (t : Task) (e : OutOfMemory) (out : List (NodeId × Body)) → out ≡ [] → ingress_contents new ≡ ingress_contents old →
     ((plan : PlanView) → ingress.IsOfPlan plan old → ingress.IsOfPlan plan new) → HasActed (state.Ingress old) (state.Ingress new) t (Err e) out
 ingress_fails old new t e out none same of_plan = failed (state.Ingress old) (state.Ingress new) t out e none (λ plan inputs x h. ingress_stays plan inputs old new x same h) refl of_plan (all_rows [])
+
+-- whatever came of a make
+pub ingress_made : (old new : IngressView) (t : Task) (result : Result Worked OutOfMemory) (out : List (NodeId × Body)) → t ≡ task.Make → out ≡ [] →
+    IfOk result (ingress.IsMade old new) → OnErr result (ingress_contents new ≡ ingress_contents old) → ((plan : PlanView) → ingress.IsOfPlan plan old → ingress.IsOfPlan plan new) →
+    IfOk result (λ m. (plan : PlanView) (inputs : List Input) → IsPlan plan → ingress.IsMadeIn plan inputs old new m) → HasActed (state.Ingress old) (state.Ingress new) t result out
+ingress_made old new t (Ok Did) out is none made err of_plan course = ingress_makes old new t out is none course of_plan
+ingress_made old new t (Ok Idle) out is none made err of_plan course = idled (state.Ingress old) (state.Ingress new) t out (ap state.Ingress made.1) none
+ingress_made old new t (Err e) out is none made err of_plan course = ingress_fails old new t e out none err of_plan

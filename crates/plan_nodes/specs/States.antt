@@ -27,7 +27,8 @@ use Rattle.replica_node.specs.Phases.{mode_in}
 use Rattle.replica_node.specs.ReplicaView.{ReplicaView, node_of}
 use Rattle.replica_node.specs.StandsFor as replica
 use Rattle.replica_node.specs.declared.phase.Mode.TheVariants as mode
-use Rattle.run_node.specs.Tasks.{DoesStep, event_of, most_packets}
+use Rattle.tuple_edge.specs.Limits.{most_packets}
+use Rattle.run_node.specs.Tasks.{DoesStep, event_of}
 use Rattle.run_node.specs.declared.acts.Task.{Task}
 use Rattle.run_node.specs.declared.acts.Task.TheVariants as task
 use Rattle.plan_nodes.specs.declared.state.NodeState.{NodeState}

@@ -49,6 +49,7 @@ fn control_of(alloc: Global, plan: &Plan, stage: u32, part: u32) -> Result<PairC
     ensures of_plan { IfOk result (λ c. control.IsOfPlan plan.now c) }
     ensures stands { IfOk result (λ c. (inputs : List Input) → control.StandsFor (flow_of plan.now inputs) c (new_node (node.Control stage part))) }
 {
+    // This call's clause says that a plan is within the limits.
     let _stages = plan.stages();
     let edges = plan.sources(stage);
     PairControl::new(alloc, stage, part, edges)

@@ -5,13 +5,13 @@ ghost use Rattle.pair_machine.specs.Scripts.{HasMerged};
 ghost use Rattle.plan_reader.specs.PlanView.{PlanView};
 ghost use Rattle.replica_node.specs.StandsFor as replica;
 ghost use Rattle.plan_nodes.specs.States.{ControlMay, EachHoldsFew, EgressMay, HasActed, HoldsFew, IngressMay, IsOfPlan, MayDo, ReplicaMay, StandsFor, WantsRows, has_merged_end, id_of, rows_of};
-ghost use Rattle.run_node.specs.Tasks.{most_packets};
+ghost use Rattle.tuple_edge.specs.Limits.{most_packets};
 ghost use Rattle.plan_nodes.specs.declared.state.NodeState.TheVariants as state;
 ghost use Rattle.std.specs.Prelude.{◌≡◌, ◌≤◌, ◌↔◌, [], IfSome, IsTrue, List};
 ghost use Rattle.tuple_edge.specs.Input.{Input};
 
 use flux_producer::Producer;
-use ingress_egress::{Egress, Ingress, Made};
+use ingress_egress::{Egress, Ingress};
 use pair_control::PairControl;
 use plan_reader::Plan;
 use replica_node::{Mode, Replica};
@@ -55,19 +55,19 @@ impl Acts for NodeState {
         }
     }
 
-    fn may(&self, plan: &Plan, task: &Task) -> bool {
+    fn may(&self, task: &Task) -> bool {
         match self {
-            NodeState::Ingress(node) => ingress_may(node, plan, task),
-            NodeState::Replica(node) => replica_may(node, plan, task),
-            NodeState::Control(node) => control_may(node, plan, task),
-            NodeState::Egress(node) => egress_may(node, plan, task),
+            NodeState::Ingress(node) => ingress_may(node, task),
+            NodeState::Replica(node) => replica_may(node, task),
+            NodeState::Control(node) => control_may(node, task),
+            NodeState::Egress(node) => egress_may(node, task),
         }
     }
 
-    fn act(&mut self, task: &Task, out: &mut Outbox) -> Result<Worked, OutOfMemory> {
+    fn act(&mut self, task: &Task, rise: u64, out: &mut Outbox) -> Result<Worked, OutOfMemory> {
         match self {
             NodeState::Ingress(node) => ingress_acts(node, task, out),
-            NodeState::Replica(node) => replica_acts(node, task, out),
+            NodeState::Replica(node) => replica_acts(node, task, rise, out),
             NodeState::Control(node) => control_acts(node, task, out),
             NodeState::Egress(node) => egress_acts(node, task, out),
         }
@@ -103,22 +103,22 @@ impl Acts for NodeState {
 }
 
 // Whether ingress may do it.
-fn ingress_may(node: &Ingress, plan: &Plan, task: &Task) -> bool
+fn ingress_may(node: &Ingress, task: &Task) -> bool
     ensures { IsTrue result → IngressMay node.now task.now }
 {
     match task {
-        Task::Take { from, packet, .. } => node.admits(plan, *from, &packet.body),
+        Task::Take { from, packet, .. } => node.may_take(*from, &packet.body),
         Task::Work | Task::Make => true,
         Task::Kill | Task::AskStop | Task::AskBack => false,
     }
 }
 
 // Whether a replica may do it.
-fn replica_may(node: &Replica, plan: &Plan, task: &Task) -> bool
+fn replica_may(node: &Replica, task: &Task) -> bool
     ensures { IsTrue result → ReplicaMay node.now task.now }
 {
     match task {
-        Task::Take { from, packet, .. } => node.admits(plan, *from, &packet.body),
+        Task::Take { from, packet, .. } => node.may_take(*from, &packet.body),
         Task::Work => node.may_work(),
         Task::Make => false,
         Task::Kill | Task::AskStop | Task::AskBack => node.mode() == Mode::Running,
@@ -126,21 +126,21 @@ fn replica_may(node: &Replica, plan: &Plan, task: &Task) -> bool
 }
 
 // Whether a controller may do it.
-fn control_may(node: &PairControl, plan: &Plan, task: &Task) -> bool
+fn control_may(node: &PairControl, task: &Task) -> bool
     ensures { IsTrue result → ControlMay node.now task.now }
 {
     match task {
-        Task::Take { from, packet, .. } => node.admits(plan, *from, &packet.body),
+        Task::Take { from, packet, .. } => node.may_take(*from, &packet.body),
         Task::Work | Task::Make | Task::Kill | Task::AskStop | Task::AskBack => false,
     }
 }
 
 // Whether egress may do it.
-fn egress_may(node: &Egress, plan: &Plan, task: &Task) -> bool
+fn egress_may(node: &Egress, task: &Task) -> bool
     ensures { IsTrue result → EgressMay node.now task.now }
 {
     match task {
-        Task::Take { from, packet, .. } => node.admits(plan, *from, &packet.body),
+        Task::Take { from, packet, .. } => node.may_take(*from, &packet.body),
         Task::Work => node.may_work(),
         Task::Make | Task::Kill | Task::AskStop | Task::AskBack => false,
     }
@@ -158,17 +158,18 @@ fn ingress_acts(node: &mut Ingress, task: &Task, out: &mut Outbox) -> Result<Wor
             Ok(Worked::Did)
         }
         Task::Work => node.work(out),
-        Task::Make => match node.make() {
-            Err(want) => Err(want),
-            Ok(Made::Did) => Ok(Worked::Did),
-            Ok(Made::NoMoreRows) => Ok(Worked::Idle),
-        },
+        Task::Make => node.make(),
         Task::Kill | Task::AskStop | Task::AskBack => Ok(Worked::Idle),
     }
 }
 
 // A replica takes a packet, works, fails or asks.
-fn replica_acts(node: &mut Replica, task: &Task, out: &mut Outbox) -> Result<Worked, OutOfMemory>
+fn replica_acts(
+    node: &mut Replica,
+    task: &Task,
+    rise: u64,
+    out: &mut Outbox,
+) -> Result<Worked, OutOfMemory>
     requires may { ReplicaMay node.old task.now }
     requires empty { out.old.packets ≡ [] }
     requires room { most_packets ≤ out.old.spare }
@@ -179,7 +180,7 @@ fn replica_acts(node: &mut Replica, task: &Task, out: &mut Outbox) -> Result<Wor
             node.on(*from, &packet.body, out)?;
             Ok(Worked::Did)
         }
-        Task::Work => node.work(out),
+        Task::Work => node.work_or_wait(rise, out),
         Task::Make => Ok(Worked::Idle),
         Task::Kill => {
             node.kill(out);

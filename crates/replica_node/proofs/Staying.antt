@@ -6,6 +6,7 @@ use Rattle.std.proofs.lemmas.Bool.{lt-ltb}
 use Rattle.std.proofs.lemmas.List.{length-append, length-map}
 use Rattle.std.proofs.lemmas.Option.{slice_get_within}
 use Rattle.tuple_edge.specs.declared.event.Worked.{Worked}
+use Rattle.tuple_edge.specs.declared.event.Worked.TheVariants as worked
 use Rattle.tuple_edge.specs.declared.item.Item.{Item}
 use Rattle.tuple_edge.specs.declared.memory.OutOfMemory.{OutOfMemory}
 use Rattle.tuple_edge.specs.declared.node.NodeId.{NodeId}
@@ -24,7 +25,7 @@ use Rattle.stream_ops.specs.Entries.{last_place}
 use Rattle.state_mover.specs.declared.mover.Moved.{Moved}
 use Rattle.state_mover.specs.declared.mover.Moved.TheVariants as moved
 use Rattle.replica_node.specs.IsReplica.{IsMoving, IsPhase, IsRunning}
-use Rattle.replica_node.specs.Rules.{Merges, MergesOrMoves, Moves, MovesOrSends, Reports, SendsOrReports, Works, contents_in_phase, contents_in_running, part_given, sent_due, told_one}
+use Rattle.replica_node.specs.Rules.{IsSure, Merges, MergesOrMoves, Moves, MovesOrSends, Reports, SendsOrReports, Works, contents_in_phase, contents_in_running, part_given, sent_due, told_one}
 use Rattle.replica_node.specs.declared.phase.Phase.{Phase}
 use Rattle.replica_node.specs.declared.phase.Phase.TheVariants as phase
 use Rattle.replica_node.specs.declared.phase.Running.{Running}
@@ -150,3 +151,11 @@ pub done_stays : (role : Role) (result : Result Worked OutOfMemory) (p after : P
     → IfOk result (λ did. Works role p after (appended before later) did) → OnErr result ((contents_in_phase after ≡ contents_in_phase p) × (later ≡ before)) → IsPhase role after
 done_stays role (Ok did) p after before later merges is works same = work_stays role merges p after (appended before later) did is works
 done_stays role (Err e) p after before later merges is works same = room_stays role p after same.0 is
+
+-- the same of a call that may have waited for a mark to rise
+pub waited_stays : (Z : Type 0) (role : Role) (rise : ℕ) (result : Result Worked OutOfMemory) (p after : Phase) (before later : List (NodeId × Body)) → MergesStay role → IsPhase role p
+    → IfOk result (λ did. IsSure rise did → Works role p after (appended before later) did) → IfOk result (λ did. did ≡ worked.Idle → (after ≡ p) × Z)
+    → OnErr result ((contents_in_phase after ≡ contents_in_phase p) × (later ≡ before)) → IsPhase role after
+waited_stays Z role rise (Ok worked.Did) p after before later merges is works idle same = work_stays role merges p after (appended before later) worked.Did is (works tt)
+waited_stays Z role rise (Ok worked.Idle) p after before later merges is works idle same = after_is role after p (idle refl).0 is
+waited_stays Z role rise (Err e) p after before later merges is works idle same = room_stays role p after same.0 is

@@ -1,5 +1,5 @@
 -- A replica's piece of work is a step of its course, and where it had none the machine refuses one.
-use Rattle.std.proofs.Common.{◌≡◌, ◌≤◌, ◌+◌, ◌++◌, [], arith, length, List, Err, Ok, Result, refl, sym, ap, ◌∙◌, subst}
+use Rattle.std.proofs.Common.{◌≡◌, ◌≤◌, ◌+◌, ◌++◌, ℕ, [], arith, length, List, Err, Ok, Result, refl, sym, ap, ◌∙◌, subst}
 use Rattle.std.specs.Prelude.{IfOk, OnErr, drop}
 use Rattle.std.proofs.lemmas.List.{append-nil, drop_at, length-append}
 use Rattle.tuple_edge.specs.declared.event.Worked.{Worked}
@@ -8,6 +8,7 @@ use Rattle.tuple_edge.specs.declared.memory.OutOfMemory.{OutOfMemory}
 use Rattle.tuple_edge.specs.declared.node.NodeId.{NodeId}
 use Rattle.tuple_edge.specs.declared.packet.Body.{Body}
 use Rattle.tuple_edge.specs.Input.{Input}
+use Rattle.tuple_edge.specs.Outbox.{OutboxView}
 use Rattle.plan_reader.specs.PlanView.{IsPlan, PlanView}
 use Rattle.pair_machine.specs.Contents.{BodyStands}
 use Rattle.pair_machine.specs.Counts.{flow_of}
@@ -18,7 +19,7 @@ use Rattle.pair_machine.proofs.Delivered.{delivered}
 use Rattle.replica_node.specs.Course.{IsWorked}
 use Rattle.replica_node.specs.IsReplica.{IsReplica, IsRunning}
 use Rattle.replica_node.specs.ReplicaView.{ReplicaView, node_of}
-use Rattle.replica_node.specs.Rules.{IsWorkOf, contents_in}
+use Rattle.replica_node.specs.Rules.{IsSure, IsWorkOf, contents_in}
 use Rattle.replica_node.specs.StandsFor.{IsOfPlan, StandsFor}
 use Rattle.replica_node.specs.declared.phase.Phase.{Phase}
 use Rattle.replica_node.specs.declared.phase.Running.{Running}
@@ -70,3 +71,40 @@ work_few (Ok did) old new before later work same more =
     let many : length later ≡ length before + length (appended before later) = ap length more ∙ length-append before (appended before later) in
     omega (arith, one, many)
 work_few (Err e) old new before later work same more = let many : length later ≡ length before = ap length same.1 in omega (arith, many)
+
+-- ---- of a call, which may have waited for a mark to rise
+
+-- one that waits for no rise says what it did
+pub waits_for_none : (r : Result Worked OutOfMemory) (P : Worked → Type 0) → IfOk r (λ w. IsSure 1 w → P w) → IfOk r P
+waits_for_none (Ok worked.Did) P sure = sure tt
+waits_for_none (Ok worked.Idle) P sure = sure (omega arith)
+waits_for_none (Err e) P sure = tt
+
+pub waited_worked : (r : Result Worked OutOfMemory) (rise : ℕ) (P : Worked → Type 0) → IfOk r (λ w. IsSure rise w → P w) → IfOk r (λ w. w ≡ worked.Did → P w)
+waited_worked (Ok worked.Did) rise P sure = λ did. sure tt
+waited_worked (Ok worked.Idle) rise P sure = λ did. let z : ⊥ = cc in absurd z
+waited_worked (Err e) rise P sure = tt
+
+pub waited_done : (r : Result Worked OutOfMemory) (old new : ReplicaView) (sent : List (NodeId × Body))
+    → ((plan : PlanView) (rows : List Input) → IsPlan plan → IsOfPlan plan old.role → (r : Running) (x : RunningNumbers) → IsRunning old.role r → MergesSo plan rows old.role r x)
+    → IsReplica old → IfOk r (λ w. w ≡ worked.Did → IsWorkOf old new sent w) → IfOk r (λ w. w ≡ worked.Did → (plan : PlanView) (rows : List Input) → IsPlan plan → IsWorked plan rows old new sent w)
+waited_done (Ok w) old new sent merges sound work = λ did plan rows is_plan.
+    work_course plan rows is_plan old new sent w (λ x r of_plan running. merges plan rows is_plan of_plan r x running) sound (work did)
+waited_done (Err e) old new sent merges sound work = tt
+
+-- what waited sent nothing
+pub waited_linked : (r : Result Worked OutOfMemory) (old new : ReplicaView) (before after : OutboxView) → IsReplica old → IfOk r (λ w. w ≡ worked.Did → IsWorkOf old new (appended before.packets after.packets) w)
+    → IfOk r (λ w. w ≡ worked.Idle → (new ≡ old) × (after ≡ before)) → OnErr r ((contents_in new ≡ contents_in old) × (after.packets ≡ before.packets))
+    → (plan : PlanView) → IsOfPlan plan old.role → GoOverLinks plan (node_of old.role) (appended before.packets after.packets)
+waited_linked (Ok worked.Did) old new before after sound work idle same plan of_plan =
+    works_linked plan old.role of_plan old.phase new.phase (appended before.packets after.packets) worked.Did sound.1 (work refl).works
+waited_linked (Ok worked.Idle) old new before after sound work idle same plan of_plan =
+    subst (GoOverLinks plan (node_of old.role)) (sym (none_appended before.packets after.packets (ap (λ (o : OutboxView). o.packets) (idle refl).1))) tt
+waited_linked (Err e) old new before after sound work idle same plan of_plan = subst (GoOverLinks plan (node_of old.role)) (sym (none_appended before.packets after.packets same.1)) tt
+
+pub waited_few : (r : Result Worked OutOfMemory) (old new : ReplicaView) (before after : OutboxView) → IfOk r (λ w. w ≡ worked.Did → IsWorkOf old new (appended before.packets after.packets) w)
+    → IfOk r (λ w. w ≡ worked.Idle → (new ≡ old) × (after ≡ before)) → OnErr r ((contents_in new ≡ contents_in old) × (after.packets ≡ before.packets))
+    → after.packets ≡ before.packets ++ appended before.packets after.packets → length after.packets ≤ length before.packets + 1
+waited_few (Ok worked.Did) old new before after work idle same more = work_few (Ok worked.Did) old new before.packets after.packets (work refl) same more
+waited_few (Ok worked.Idle) old new before after work idle same more = let many : length after.packets ≡ length before.packets = ap (λ (o : OutboxView). length o.packets) (idle refl).1 in omega (arith, many)
+waited_few (Err e) old new before after work idle same more = work_few (Err e) old new before.packets after.packets work same more

@@ -1,5 +1,5 @@
 -- The rules of a replica: what each packet, each piece of work and each failure makes of it, and what it sends.
-use Rattle.std.specs.Prelude.{◌≡◌, ◌<◌, ◌+◌, ℕ, List, [], ◌∷◌, ◌++◌, Option, None, Some, false, length}
+use Rattle.std.specs.Prelude.{◌≡◌, ◌<◌, ◌≤◌, ◌+◌, ℕ, List, [], ◌∷◌, ◌++◌, Option, None, Some, false, length, max}
 use Rattle.tuple_edge.specs.declared.event.Worked.{Worked}
 use Rattle.tuple_edge.specs.declared.event.Worked.TheVariants as worked
 use Rattle.tuple_edge.specs.declared.item.Item.{Item}
@@ -12,7 +12,7 @@ use Rattle.tuple_edge.specs.declared.row.Row.{Row}
 use Rattle.tuple_edge.specs.Item.{stamp_of}
 use Rattle.ack_buffer.specs.Buffer.{item_at}
 use Rattle.merge_order.specs.MergeView.{after_next, item_of, least, mark_of}
-use Rattle.flux_consumer.specs.ConsumerView.{over, report_of, telling, with_merge}
+use Rattle.flux_consumer.specs.ConsumerView.{ConsumerView, over, report_of, telling, told_of, with_merge}
 use Rattle.flux_producer.specs.Due.{due_of}
 use Rattle.flux_producer.specs.ProducerView.{buffer_at, contents_of, over_buffers, sent_on}
 use Rattle.flux_producer.specs.declared.due.Due.{Due}
@@ -188,6 +188,29 @@ Works role (phase.Gone inc) after sent did = (after ≡ phase.Gone inc) × (sent
 pub record IsWorkOf (old new : ReplicaView) (sent : List (NodeId × Body)) (did : Worked) : Type 0 where
   pub role : new.role ≡ old.role
   pub works : Works old.role old.phase new.phase sent did
+
+-- ---- work that leaves marks for later
+
+-- no mark rose by so much since it was told, or by anything at all
+abbrev pub NoneRose : ℕ → ConsumerView → Type 0
+NoneRose rise c = (q : ℕ) → q < length c.merge.marks → mark_of c.merge q < told_of c q + max rise 1
+
+-- nothing is due but to report marks of which none rose by so much
+pub record IsRunningWaiting (rise : ℕ) (r : Running) : Type 0 where
+  pub merge : item_of (least r.consumer.merge.waiting) ≡ None
+  pub move : r.mover ≡ None
+  pub send : due_of r.producer ≡ None
+  pub report : NoneRose rise r.consumer
+
+-- the same of a replica, which has nothing to report where it doesn't run
+abbrev pub IsWaiting : ℕ → Phase → Type 0
+IsWaiting rise (phase.Running r) = IsRunningWaiting rise r
+IsWaiting rise p = Unit {0}
+
+-- where a call did nothing, that says that nothing is due only if it waited for no rise
+abbrev pub IsSure : ℕ → Worked → Type 0
+IsSure rise worked.Did = Unit {0}
+IsSure rise worked.Idle = rise ≤ 1
 
 -- ---- the room of its edges left aside
 

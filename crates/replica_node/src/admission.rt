@@ -154,8 +154,9 @@ impl Replica {
         plan.links(LinkId { from, to }) && self.may_take(from, body)
     }
 
-    // All that `on` asks for of the replica itself.
-    fn may_take(&self, from: NodeId, body: &Body) -> bool
+    /// All that `on` asks for of the replica itself: `admits` without the look at the plan. It is for one who knows that
+    /// the packet came over a link of the plan. It takes no memory.
+    pub fn may_take(&self, from: NodeId, body: &Body) -> bool
         ensures { IsTrue result ↔ IsAdmitted self.now from body.now }
     {
         let (role, phase) = (self.role(), self.phase());

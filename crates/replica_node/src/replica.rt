@@ -13,7 +13,7 @@ ghost use Rattle.replica_node.specs.Course.{AreTimely, IsDone, IsTaken, IsWorked
 ghost use Rattle.replica_node.specs.IsReplica.{IsMoving, IsReplica, IsRole};
 ghost use Rattle.replica_node.specs.Phases.{count_in, inc_in, item_pulled, mode_in, newcomer_in, opening, running_in, served_in};
 ghost use Rattle.replica_node.specs.ReplicaView.{node_of, partition_of, partner_of, with_phase};
-ghost use Rattle.replica_node.specs.Rules.{IsTakenBy, IsWorkOf, TakesMemory, back_asked, contents_in, down_sent, dying, stop_asked};
+ghost use Rattle.replica_node.specs.Rules.{IsSure, IsTakenBy, IsWaiting, IsWorkOf, TakesMemory, back_asked, contents_in, down_sent, dying, stop_asked};
 ghost use Rattle.replica_node.specs.StandsFor.{IsOfPlan, StandsFor};
 ghost use Rattle.replica_node.specs.declared.phase.Mode.TheVariants as mode;
 ghost use Rattle.replica_node.specs.declared.phase.Running.{Running as RunningPart};
@@ -22,7 +22,7 @@ ghost use Rattle.std.specs.Prelude.{◌≡◌, ◌≢◌, ◌<◌, ◌≤◌, �
 ghost use Rattle.op_spec.specs.Times.{IsTimely};
 ghost use Rattle.tuple_edge.specs.Input.{Input};
 ghost use Rattle.tuple_edge.specs.declared.event.Event.TheVariants as event;
-ghost use Rattle.tuple_edge.specs.declared.event.Worked.TheVariants.{Idle};
+ghost use Rattle.tuple_edge.specs.declared.event.Worked.TheVariants.{Did, Idle};
 ghost use Rattle.tuple_edge.specs.declared.node.NodeId.TheVariants as node;
 
 use crate::phase::{Mode, Phase, Running};
@@ -132,7 +132,29 @@ impl Replica {
         ensures course { IfOk result (λ w. (plan : PlanView) (rows : List Input) → IsPlan plan
             → IsWorked plan rows self.old self.new (appended out.old.packets out.new.packets) w) }
     {
-        self.do_first(out)
+        self.do_first(1, out)
+    }
+
+    /// Does what [`Replica::work`] does, but where nothing is due except marks to report, it waits until some mark rose by
+    /// `rise` since it was told. So marks that rise one by one needn't be reported one by one.
+    pub fn work_or_wait(&mut self, rise: u64, out: &mut Outbox) -> Result<Worked, OutOfMemory>
+        requires fits { MayWorkIn self.old.phase }
+        ensures worked { IfOk result (λ w. w ≡ Did → IsWorkOf self.old self.new (appended out.old.packets out.new.packets) w) }
+        ensures waits { IfOk result (λ w. w ≡ Idle → IsWaiting rise self.old.phase) }
+        ensures risen { IfOk result (λ w. w ≡ Did → IsWaiting rise self.old.phase → ⊥) }
+        ensures packets { out.new.packets ≡ out.old.packets ++ appended out.old.packets out.new.packets }
+        ensures idle { IfOk result (λ w. w ≡ Idle → (self.new ≡ self.old) × (out.new ≡ out.old)) }
+        ensures unchanged { OnErr result ((contents_in self.new ≡ contents_in self.old) × (out.new.packets ≡ out.old.packets)) }
+        // It sends over links of its plan alone, and stays the same replica.
+        ensures few { length out.new.packets ≤ length out.old.packets + 1 }
+        ensures linked { (plan : PlanView) → IsOfPlan plan self.old.role
+            → GoOverLinks plan (node_of self.old.role) (appended out.old.packets out.new.packets) }
+        ensures role { self.new.role ≡ self.old.role }
+        // For the machine's laws, in each plan.
+        ensures course { IfOk result (λ w. w ≡ Did → (plan : PlanView) (rows : List Input) → IsPlan plan
+            → IsWorked plan rows self.old self.new (appended out.old.packets out.new.packets) w) }
+    {
+        self.do_first(rise, out)
     }
 
     /// Whether a piece of work may be done: the count of merged items stays within its limit. It takes
@@ -143,7 +165,7 @@ impl Replica {
         match self.phase.running() {
             None => true,
             Some(running) => {
-                !running.consumer.ready() || running.consumer.merge().count() < NUMBER_LIMIT - 1
+                running.consumer.merge().count() < NUMBER_LIMIT - 1 || !running.consumer.ready()
             }
         }
     }
@@ -254,17 +276,19 @@ impl Replica {
         }
     }
 
-    // Does the first piece of work that is due.
-    fn do_first(&mut self, out: &mut Outbox) -> Result<Worked, OutOfMemory>
+    // Does the first piece of work that is due, or waits for a mark to rise.
+    fn do_first(&mut self, rise: u64, out: &mut Outbox) -> Result<Worked, OutOfMemory>
         requires fits { MayWorkIn self.old.phase }
-        ensures worked { IfOk result (IsWorkOf self.old self.new (appended out.old.packets out.new.packets)) }
+        ensures worked { IfOk result (λ w. IsSure rise w → IsWorkOf self.old self.new (appended out.old.packets out.new.packets) w) }
+        ensures waits { IfOk result (λ w. w ≡ Idle → IsWaiting rise self.old.phase) }
+        ensures risen { IfOk result (λ w. w ≡ Did → IsWaiting rise self.old.phase → ⊥) }
         ensures packets { out.new.packets ≡ out.old.packets ++ appended out.old.packets out.new.packets }
         ensures idle { IfOk result (λ w. w ≡ Idle → (self.new ≡ self.old) × (out.new ≡ out.old)) }
         ensures unchanged { OnErr result ((contents_in self.new ≡ contents_in self.old) × (out.new.packets ≡ out.old.packets)) }
         ensures role { self.new.role ≡ self.old.role }
         ensures sound { IsReplica self.old }
     {
-        self.phase.work(&self.role, &mut self.rows, out)
+        self.phase.work(&self.role, &mut self.rows, rise, out)
     }
 
     // Which replica it is.

@@ -1,7 +1,7 @@
 -- What was emitted, after packets were sent.
 use Rattle.std.proofs.Common.{◌≡◌, ◌<◌, ◌||◌, ℕ, zero, suc, Bool, true, false, List, [], ◌∷◌, ◌++◌, length, get_or, set, take, refl, sym, ap, ◌∙◌, arith, append_assoc, append-nil, true≢false}
 use Rattle.std.specs.Prelude.{None, Some, if◌then◌else◌, slice_get}
-use Rattle.run_node.specs.FirstLinks.{IsFirstTo, identity_to}
+use Rattle.run_node.specs.FirstLinks.{IsFirstTo, identity_to, receivers}
 use Rattle.tuple_edge.specs.declared.node.NodeId.{NodeId}
 use Rattle.tuple_edge.specs.declared.packet.Body.{Body}
 use Rattle.tuple_edge.specs.declared.packet.Packet.{Packet}
@@ -12,6 +12,7 @@ use Rattle.pair_machine.proofs.Names.{is_node-true, node_self}
 use Rattle.run_node.specs.Ends.{OutEndView, OutLink, emitted_to, leads_to, links_of}
 use Rattle.run_node.specs.NodeView.{out_names}
 use Rattle.run_node.specs.Sends.{with_all_sent, with_sent}
+use Rattle.run_node.proofs.Places.{get_there}
 
 abbrev one_if : Bool → Packet → List Packet
 one_if true p = p ∷ []
@@ -64,7 +65,19 @@ names-with_sent to p (l ∷ ls) = go (is_node l.to to) (names-with_sent to p ls)
     go true old = refl
     go false old = ap (λ x. (l.to, l.identity) ∷ x) old
 
+pub receivers-with_sent : (to : NodeId) (p : Packet) (ls : List OutLink) → receivers (with_sent to p ls) ≡ receivers ls
+receivers-with_sent to p [] = refl
+receivers-with_sent to p (l ∷ ls) = go (is_node l.to to) (receivers-with_sent to p ls)
+  where
+    go : (b : Bool) → receivers (with_sent to p ls) ≡ receivers ls → receivers (if b then (record l { emitted = l.emitted ++ p ∷ [] }) ∷ ls else l ∷ with_sent to p ls) ≡ l.to ∷ receivers ls
+    go true old = refl
+    go false old = ap (λ x. l.to ∷ x) old
+
 -- ---- all packets of an event
+
+pub receivers-with_all_sent : (clock : ℕ) (xs : List (NodeId × Body)) (ls : List OutLink) → receivers (with_all_sent clock xs ls) ≡ receivers ls
+receivers-with_all_sent clock [] ls = refl
+receivers-with_all_sent clock (x ∷ xs) ls = receivers-with_all_sent clock xs (with_sent x.0 (record { at = clock; body = x.1 }) ls) ∙ receivers-with_sent x.0 (record { at = clock; body = x.1 }) ls
 
 pub leads-with_all_sent : (clock : ℕ) (n : NodeId) (xs : List (NodeId × Body)) (ls : List OutLink) → leads_to (with_all_sent clock xs ls) n ≡ leads_to ls n
 leads-with_all_sent clock n [] ls = refl
@@ -93,9 +106,14 @@ emitted-with_all_sent clock n (x ∷ xs) ls h =
 
 -- ---- one packet, by the place of its link
 
-pub sent_nowhere : (to : NodeId) (p : Packet) (es : List OutEndView) → Each (λ e. is_node e.link.to to ≡ false) es → with_sent to p (links_of es) ≡ links_of es
+pub sent_nowhere : (to : NodeId) (p : Packet) (ls : List OutLink) → identity_to (out_names ls) to ≡ None → with_sent to p ls ≡ ls
 sent_nowhere to p [] h = refl
-sent_nowhere to p (e ∷ es) h = let n = h.0 in simp n (ap (λ l. e.link ∷ l) (sent_nowhere to p es h.1))
+sent_nowhere to p (l ∷ ls) h = go (is_node l.to to) h (sent_nowhere to p ls)
+  where
+    go : (b : Bool) → (if b then Some l.identity else identity_to (out_names ls) to) ≡ None → (identity_to (out_names ls) to ≡ None → with_sent to p ls ≡ ls)
+        → (if b then (record l { emitted = l.emitted ++ p ∷ [] }) ∷ ls else l ∷ with_sent to p ls) ≡ l ∷ ls
+    go true none rest = let never : ⊥ = cc none in absurd never
+    go false none rest = ap (λ ks. l ∷ ks) (rest none)
 
 pub sent_at_place : (to : NodeId) (p : Packet) (es : List OutEndView) (i : ℕ) (d new : OutEndView) → i < length es →
     Each (λ e. is_node e.link.to to ≡ false) (take i es) → is_node (get_or es i d).link.to to ≡ true → new.link ≡ record (get_or es i d).link { emitted = (get_or es i d).link.emitted ++ p ∷ [] } →
@@ -108,7 +126,13 @@ sent_at_place to p (x ∷ es) (suc i) d new lt none leads e =
 -- ---- the first link to a node
 
 pub first_to : (to : NodeId) (es : List OutEndView) (i : ℕ) (d : OutEndView) → i < length es → Each (λ e. is_node e.link.to to ≡ false) (take i es) → is_node (get_or es i d).link.to to ≡ true → IsFirstTo es to i
-first_to to es i d lt none leads = record { within = lt; identity = λ e at. (both es i e lt none leads at).0; emitted = λ e at. (both es i e lt none leads at).1 }
+first_to to es i d lt none leads = record {
+  within = lt;
+  leads = λ e at. let there = get_there es i d lt in let same : get_or es i d ≡ e = cc in ap (λ (k : OutEndView). is_node k.link.to to) (sym same) ∙ leads;
+  before = none;
+  identity = λ e at. (both es i e lt none leads at).0;
+  emitted = λ e at. (both es i e lt none leads at).1;
+}
   where
     both : (es : List OutEndView) (i : ℕ) (e : OutEndView) → i < length es → Each (λ e. is_node e.link.to to ≡ false) (take i es) → is_node (get_or es i d).link.to to ≡ true → slice_get es i ≡ Some e →
         (identity_to (out_names (links_of es)) to ≡ Some e.link.identity) × (emitted_to (links_of es) to ≡ e.link.emitted)

@@ -48,10 +48,6 @@ abbrev pub DoesStep : {A : Type 0} → (A → NodeId) → (PlanView → List Inp
 DoesStep id stands t old new packets = (plan : PlanView) (inputs : List Input) → IsPlan plan → AreTimely inputs → (clock : ℕ) →
     IsStep (flow_of plan inputs) (BodyStands plan inputs) (Asks (flow_of plan inputs)) (id old) (stands plan inputs old) (stands plan inputs new) (event_of (id old) t) (packet_of t) (λ to. packets_to clock to packets)
 
--- no task sends more packets
-abbrev pub most_packets : ℕ
-most_packets = 24
-
 -- ---- what a script's orders may make a node do once
 
 -- the task stops the node, or asks for that

@@ -1,5 +1,6 @@
 // What a node does.
-ghost use Rattle.run_node.specs.Tasks.{DoesStep, clock_of, event_of, most_packets};
+ghost use Rattle.run_node.specs.Tasks.{DoesStep, clock_of, event_of};
+ghost use Rattle.tuple_edge.specs.Limits.{most_packets};
 ghost use Rattle.run_node.specs.declared.acts.Task.{Task};
 ghost use mathlib.Core.List.{IsPrefix};
 ghost use Rattle.pair_machine.specs.Machine.{at_node, replica_in};
@@ -64,12 +65,14 @@ pub trait Acts: Send + Drop {
     fn id(&self) -> NodeId
         ensures { result ≡ id self.now };
 
-    /// Whether it may do this: no number passes its limit, and a packet is one that it admits.
-    fn may(&self, plan: &Plan, task: &Task) -> bool
+    /// Whether it may do this: no number passes its limit, and a packet is one that it may be given. That the plan has a link
+    /// from its sender is not asked.
+    fn may(&self, task: &Task) -> bool
         ensures { IsTrue result → may self.now task.now };
 
-    /// Does it: the machine's step. Idle where there is nothing to do.
-    fn act(&mut self, task: &Task, out: &mut Outbox) -> Result<Worked, OutOfMemory>
+    /// Does it: the machine's step. Idle where there is nothing to do, and where work is nothing but to report marks of
+    /// which none rose by `rise` since it was told.
+    fn act(&mut self, task: &Task, rise: u64, out: &mut Outbox) -> Result<Worked, OutOfMemory>
         requires may { may self.old task.now }
         requires empty { out.old.packets ≡ [] }
         requires room { most_packets ≤ out.old.spare }

@@ -12,12 +12,11 @@ use crate::names::RunNames;
 use crate::node::Node;
 use crate::tap::Tap;
 use failure_script::Script;
-use plan_reader::Plan;
 use tuple_edge::OutOfMemory;
 
 impl<N: RunNames, A: Acts, M: Links, T: Tap> Node<N, A, M, T> {
     /// Obeys the orders that are due, each once.
-    pub(crate) fn fire(&mut self, plan: &Plan, script: &Script) -> Result<bool, OutOfMemory>
+    pub(crate) fn fire(&mut self, script: &Script) -> Result<bool, OutOfMemory>
         requires { script.now ≡ N.script }
         ensures { name_of A.id self.new ≡ name_of A.id self.old }
     {
@@ -28,21 +27,15 @@ impl<N: RunNames, A: Acts, M: Links, T: Tap> Node<N, A, M, T> {
             return Ok(false);
         };
         let due = script.due_for(self.state.id(), count);
-        let failed = self.obey(plan, due.kill, count, Task::Kill)?;
-        let stopped = self.obey(plan, due.stop, count, Task::AskStop)?;
-        let recalled = self.obey(plan, due.back, count, Task::AskBack)?;
+        let failed = self.obey(due.kill, count, Task::Kill)?;
+        let stopped = self.obey(due.stop, count, Task::AskStop)?;
+        let recalled = self.obey(due.back, count, Task::AskBack)?;
         Ok(failed || stopped || recalled)
     }
 
     // Does what an order wants, if that is due where so many items are merged. A node that doesn't run any more, since
     // it failed in this turn, has merged none.
-    fn obey(
-        &mut self,
-        plan: &Plan,
-        is_due: bool,
-        count: u64,
-        task: Task,
-    ) -> Result<bool, OutOfMemory>
+    fn obey(&mut self, is_due: bool, count: u64, task: Task) -> Result<bool, OutOfMemory>
         requires order { packet_of task ≡ None }
         requires allowed { IsTrue is_due → (x : NodeNumbers) → HasMerged count (replica_in x) → IsAllowedAt N.script (event_of (A.id self.old.state) task) x }
         ensures { name_of A.id self.new ≡ name_of A.id self.old }
@@ -56,6 +49,6 @@ impl<N: RunNames, A: Acts, M: Links, T: Tap> Node<N, A, M, T> {
         if merged < count {
             return Ok(false);
         }
-        self.event(plan, task)
+        self.event(&task)
     }
 }

@@ -17,7 +17,6 @@ mod fired;
 mod firing;
 mod in_end;
 mod kept;
-mod limits;
 mod links;
 mod named;
 mod names;

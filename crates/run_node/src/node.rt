@@ -14,7 +14,8 @@ ghost use Rattle.run_node.specs.Ends.{leads_to, links_of};
 ghost use Rattle.run_node.specs.Fits.{Came, Fit, HasHappened, HasTaken, IsAtHand};
 ghost use Rattle.run_node.specs.NodeView.{name_of};
 ghost use Rattle.run_node.specs.SoundNode.{IsTrueView, TapFits};
-ghost use Rattle.run_node.specs.Tasks.{CameFor, event_of, most_packets};
+ghost use Rattle.run_node.specs.Tasks.{CameFor, event_of};
+ghost use Rattle.tuple_edge.specs.Limits.{most_packets};
 ghost use Rattle.std.specs.Prelude.{◌≡◌, ◌≢◌, ◌≤◌, ◌+◌, [], true, IfSome, IsTrue, None, Ok, OnOk, Some, vec_capacity, vec_len};
 ghost use Rattle.tuple_edge.specs.declared.node.NodeId.{NodeId};
 
@@ -22,7 +23,6 @@ use crate::acts::{Acts, Task};
 use crate::fired::Fired;
 use crate::in_end::InEnd;
 use crate::kept::Kept;
-use crate::limits::MOST_PACKETS;
 use crate::links::Links;
 use crate::names::RunNames;
 use crate::out_end::OutEnd;
@@ -35,10 +35,14 @@ use flux_link::Outlet;
 use plan_reader::Plan;
 use std::alloc::Global;
 use std::marker::{Model, PhantomData};
-use tuple_edge::{NUMBER_LIMIT, OutOfMemory, Outbox, Stamped, Worked};
+use tuple_edge::{MOST_PACKETS, NUMBER_LIMIT, OutOfMemory, Outbox, Stamped, Worked};
 
 // No clock passes it.
 const LAST_CLOCK: u64 = NUMBER_LIMIT - 1;
+
+// Where a mark rose by so much since it was told, reports are always asked for. To ask later would save little, and ingress
+// goes on only while its edges hold few items that are not acknowledged.
+const MOST_RISE: u64 = 32;
 
 // Makes room for what one event adds: an entry of the history, and the packets that it sends.
 fn reserve_event<O: Outlet + Drop>(
@@ -74,6 +78,8 @@ pub struct Node<N: RunNames, A: Acts, M: Links, T: Tap> {
     pub(crate) fired: Fired,
     // Which in-links this turn is still to look at.
     round: Round,
+    // By how much some mark has to rise before this turn reports any.
+    pub(crate) rise: u64,
     pub(crate) tap: Option<T>,
     of: PhantomData<N>,
 }
@@ -127,6 +133,7 @@ impl<N: RunNames, A: Acts, M: Links, T: Tap> Node<N, A, M, T> {
             history: Vec::new(alloc),
             fired: Fired::nothing(),
             round: Round::none(),
+            rise: 1,
             tap,
             of: PhantomData,
         }
@@ -149,6 +156,7 @@ impl<N: RunNames, A: Acts, M: Links, T: Tap> Node<N, A, M, T> {
             history,
             fired: _,
             round: _,
+            rise: _,
             tap,
             of: _,
         } = self;
@@ -156,26 +164,26 @@ impl<N: RunNames, A: Acts, M: Links, T: Tap> Node<N, A, M, T> {
     }
 
     // One event, if it is one: its room first, then what it does, and then what it sends.
-    pub(crate) fn event(&mut self, plan: &Plan, task: Task) -> Result<bool, OutOfMemory>
-        requires came { (arrived : Arrivals) → Fit arrived self.old.ins → CameFor arrived task }
-        requires allowed { (x : NodeNumbers) → A.stands N.plan N.inputs self.old.state x → IsAllowedAt N.script (event_of (A.id self.old.state) task) x }
-        ensures happens { result ≡ Ok true → HasHappened (event_of (A.id self.old.state) task) self.old.history self.new.history }
+    pub(crate) fn event(&mut self, task: &Task) -> Result<bool, OutOfMemory>
+        requires came { (arrived : Arrivals) → Fit arrived self.old.ins → CameFor arrived task.now }
+        requires allowed { (x : NodeNumbers) → A.stands N.plan N.inputs self.old.state x → IsAllowedAt N.script (event_of (A.id self.old.state) task.now) x }
+        ensures happens { result ≡ Ok true → HasHappened (event_of (A.id self.old.state) task.now) self.old.history self.new.history }
         ensures name { name_of A.id self.new ≡ name_of A.id self.old }
         ensures ins { self.new.ins ≡ self.old.ins }
         ensures kept { self.new.kept ≡ self.old.kept }
     {
         let clock = self.clock.max(task.clock());
-        if clock >= LAST_CLOCK || self.fired.repeats(&task) || !self.state.may(plan, &task) {
+        if clock >= LAST_CLOCK || self.fired.repeats(task) || !self.state.may(task) {
             return Ok(false);
         }
         reserve_event(&mut self.history, &mut self.outs, &mut self.outbox)?;
         let event = task.event_at(self.state.id());
-        match self.state.act(&task, &mut self.outbox)? {
+        match self.state.act(task, self.rise, &mut self.outbox)? {
             Worked::Idle => return Ok(false),
             Worked::Did => {}
         }
         self.clock = clock + 1;
-        self.fired = self.fired.after(&task);
+        self.fired = self.fired.after(task);
         self.history.push_reserved(Stamped {
             clock: self.clock,
             event,
@@ -202,7 +210,7 @@ impl<N: RunNames, A: Acts, M: Links, T: Tap> Node<N, A, M, T> {
     }
 
     // Takes the arrival that is kept, or the next one, if it may be taken. What isn't taken stays.
-    pub(crate) fn take(&mut self, plan: &Plan) -> Result<bool, OutOfMemory>
+    pub(crate) fn take(&mut self) -> Result<bool, OutOfMemory>
         ensures name { name_of A.id self.new ≡ name_of A.id self.old }
         ensures takes { result ≡ Ok true → HasTaken A.id self.old self.new }
         ensures stays { result ≢ Ok true → IsAtHand self.old.kept self.old.ins self.new.ins self.new.kept }
@@ -212,14 +220,12 @@ impl<N: RunNames, A: Acts, M: Links, T: Tap> Node<N, A, M, T> {
         };
         let index = arrival.index;
         let packet = arrival.packet;
-        let took = self.event(
-            plan,
-            Task::Take {
-                from,
-                index,
-                packet,
-            },
-        )?;
+        let task = Task::Take {
+            from,
+            index,
+            packet,
+        };
+        let took = self.event(&task)?;
         if took {
             self.kept = None;
         }
@@ -227,13 +233,13 @@ impl<N: RunNames, A: Acts, M: Links, T: Tap> Node<N, A, M, T> {
     }
 
     // One piece of work, if nothing waits.
-    pub(crate) fn work(&mut self, plan: &Plan) -> Result<bool, OutOfMemory>
+    pub(crate) fn work(&mut self) -> Result<bool, OutOfMemory>
         ensures { name_of A.id self.new ≡ name_of A.id self.old }
     {
         if self.outs.some_wait() {
             return Ok(false);
         }
-        self.event(plan, Task::Work)
+        self.event(&Task::Work)
     }
 
     // One row, if one is to be made.
@@ -243,7 +249,7 @@ impl<N: RunNames, A: Acts, M: Links, T: Tap> Node<N, A, M, T> {
         if !self.state.wants_rows(plan) {
             return Ok(false);
         }
-        self.event(plan, Task::Make)
+        self.event(&Task::Make)
     }
 
     // Offers its tap, if it has one, all rows that it emitted.
@@ -256,11 +262,12 @@ impl<N: RunNames, A: Acts, M: Links, T: Tap> Node<N, A, M, T> {
         tap.offer(self.state.emitted());
     }
 
-    // Pushes what waits, and begins a round over its in-links.
-    pub(crate) fn begin_turn(&mut self)
+    // Pushes what waits, and begins a round over its in-links. Small reports are left for later.
+    pub(crate) fn begin_turn(&mut self, plan: &Plan)
         ensures { name_of A.id self.new ≡ name_of A.id self.old }
     {
         self.outs.flush();
         self.round = self.round.renewed(self.ins.len());
+        self.rise = (plan.hold() / 4).clamp(1, MOST_RISE);
     }
 }

@@ -41,6 +41,13 @@ impl<O: Outlet + Drop> OutEnd<O> {
         }
     }
 
+    /// The node to which it leads.
+    pub(crate) fn to(&self) -> NodeId
+        ensures { result ≡ self.now.link.to }
+    {
+        self.to
+    }
+
     /// Whether it leads to this node.
     pub(crate) fn leads_to(&self, to: NodeId) -> bool
         ensures { result ≡ is_node self.now.link.to to }
@@ -57,12 +64,15 @@ impl<O: Outlet + Drop> OutEnd<O> {
         Ok(())
     }
 
-    /// Puts a packet behind those that wait.
+    /// Sends a packet behind those that wait: where none waits and the link has room, at once.
     pub(crate) fn put(&mut self, packet: Packet)
         requires { 1 ≤ self.old.spare }
         ensures link { self.new.link ≡ record self.old.link { emitted = self.old.link.emitted ++ packet ∷ [] } }
         ensures spare { self.old.spare ≤ self.new.spare + 1 }
     {
+        if self.waiting.is_empty() && self.outlet.send(packet).is_ok() {
+            return;
+        }
         self.waiting.push_back_reserved(packet);
     }
 

@@ -5,7 +5,7 @@ ghost use Rattle.std.specs.Prelude.{◌≡◌, ◌≤◌, OnOk, length};
 
 use crate::out_end::OutEnd;
 use crate::place_range::PlaceRange;
-use crate::sending::{flush_all, reserve_all, send_all};
+use crate::sending::{count_firsts, flush_all, reserve_all, send_all};
 use flux_link::Outlet;
 use std::marker::Model;
 use tuple_edge::{OutOfMemory, Outbox};
@@ -21,16 +21,21 @@ pub(crate) struct Outs<O: Outlet + Drop> {
     room: usize,
     // At no other end does a packet wait.
     waiting: PlaceRange,
+    // So many ends from the front on are each the first one to its receiver: all of them, where no two lead to one node.
+    firsts: usize,
+    // Where a receiver was found last. The next one mostly stands there or soon behind.
+    near: usize,
 }
 
 impl<O: Outlet + Drop> Model for Outs<O> {
     ghost use Rattle.run_node.specs.Ends.{HaveRoom, OutsView, links_of};
+    ghost use Rattle.run_node.specs.FirstLinks.{AreFirst, receivers};
 
     ghost Value = { OutsView };
 
     ghost view = { λ o. record { links = links_of o.ends.items; room = o.room } };
 
-    ghost invariant = { λ o. HaveRoom o.room o.ends.items };
+    ghost invariant = { λ o. HaveRoom o.room o.ends.items × AreFirst o.firsts (receivers (links_of o.ends.items)) };
 }
 
 impl<O: Outlet + Drop> Outs<O> {
@@ -42,10 +47,13 @@ impl<O: Outlet + Drop> Outs<O> {
             first: 0,
             beyond: ends.len(),
         };
+        let firsts = count_firsts(&ends);
         Outs {
             ends,
             room: 0,
             waiting,
+            firsts,
+            near: 0,
         }
     }
 
@@ -70,7 +78,14 @@ impl<O: Outlet + Drop> Outs<O> {
         ensures { self.new.links ≡ with_all_sent clock outbox.now.packets self.old.links }
     {
         let left = self.room - outbox.len();
-        self.waiting = send_all(&mut self.ends, outbox, clock, self.waiting);
+        self.waiting = send_all(
+            &mut self.ends,
+            outbox,
+            clock,
+            self.firsts,
+            &mut self.near,
+            self.waiting,
+        );
         self.room = left;
     }
 
@@ -78,6 +93,9 @@ impl<O: Outlet + Drop> Outs<O> {
     pub(crate) fn flush(&mut self)
         ensures { self.new ≡ self.old }
     {
+        if self.waiting.is_empty() {
+            return;
+        }
         self.waiting = flush_all(&mut self.ends, self.waiting);
     }
 

@@ -1,6 +1,6 @@
 // What a node does with all its out-links.
 ghost use Rattle.run_node.specs.Ends.{HaveRoom, links_of};
-ghost use Rattle.run_node.specs.FirstLinks.{IsFirstTo, identity_to};
+ghost use Rattle.run_node.specs.FirstLinks.{AreFirst, IsFirstTo, identity_to, receivers};
 ghost use Rattle.run_node.specs.NodeView.{out_names};
 ghost use Rattle.run_node.specs.Sends.{with_all_sent, with_sent};
 ghost use Rattle.std.specs.Prelude.{◌≡◌, ◌+◌, ℕ, MatchOption, None, OnOk, length};
@@ -42,36 +42,39 @@ pub(crate) fn flush_all<O: Outlet + Drop>(outs: &mut [OutEnd<O>], waiting: Place
     left
 }
 
-/// Puts a packet behind those that wait for its receiver, and gives the place of its link. Where no link leads
-/// there, nothing changes.
+/// Sends a packet to its receiver behind those that wait, and gives the place of its link where one waits then. Where no link
+/// leads there, nothing changes. The search for it begins where the last one ended.
 pub(crate) fn send<O: Outlet + Drop>(
     outs: &mut [OutEnd<O>],
     to: NodeId,
     packet: Packet,
+    firsts: usize,
+    near: &mut usize,
 ) -> Option<usize>
     requires room { HaveRoom 1 outs.old }
+    requires firsts { AreFirst firsts (receivers (links_of outs.old)) }
     ensures links { links_of outs.new ≡ with_sent to packet (links_of outs.old) }
     ensures room { (k : ℕ) → HaveRoom (k + 1) outs.old → HaveRoom k outs.new }
 {
-    for place in 0..outs.len() {
-        let end = &mut outs[place];
-        if end.leads_to(to) {
-            end.put(packet);
-            return Some(place);
-        }
-    }
-    None
+    let place = place_near(outs, to, firsts, *near)?;
+    *near = place;
+    let end = &mut outs[place];
+    end.put(packet);
+    end.waits().then_some(place)
 }
 
-/// Puts all packets of an outbox on their links, in order, each with the clock, and adds their places to
-/// those where some wait.
+/// Puts all packets of an outbox on their links, in order, each with the clock, and adds the places where one
+/// waits then to those where some wait.
 pub(crate) fn send_all<O: Outlet + Drop>(
     outs: &mut [OutEnd<O>],
     outbox: &Outbox,
     clock: u64,
+    firsts: usize,
+    near: &mut usize,
     waiting: PlaceRange,
 ) -> PlaceRange
     requires room { HaveRoom (length outbox.now.packets) outs.old }
+    requires firsts { AreFirst firsts (receivers (links_of outs.old)) }
     ensures links { links_of outs.new ≡ with_all_sent clock outbox.now.packets (links_of outs.old) }
     ensures room { (k : ℕ) → HaveRoom (k + length outbox.now.packets) outs.old → HaveRoom k outs.new }
 {
@@ -80,7 +83,8 @@ pub(crate) fn send_all<O: Outlet + Drop>(
         let Some((to, body)) = outbox.get(nth) else {
             return waiting;
         };
-        if let Some(place) = send(outs, to, Packet { at: clock, body }) {
+        let packet = Packet { at: clock, body };
+        if let Some(place) = send(outs, to, packet, firsts, near) {
             waiting = waiting.with(place);
         }
     }
@@ -98,4 +102,40 @@ pub(crate) fn place_to<O: Outlet + Drop>(outs: &[OutEnd<O>], to: NodeId) -> Opti
         }
     }
     None
+}
+
+// The place of the first link to a node. Each of so many links from the front on is the first one to its receiver, so
+// that one which is found among them, by a search that begins near it, needn't be compared with those before.
+fn place_near<O: Outlet + Drop>(
+    outs: &[OutEnd<O>],
+    to: NodeId,
+    firsts: usize,
+    near: usize,
+) -> Option<usize>
+    requires { AreFirst firsts (receivers (links_of outs.now)) }
+    ensures { MatchOption result (identity_to (out_names (links_of outs.now)) to ≡ None) (λ place. IsFirstTo outs.now to place) }
+{
+    for place in near..firsts.min(outs.len()) {
+        let end = &outs[place];
+        if end.leads_to(to) {
+            return Some(place);
+        }
+    }
+    place_to(outs, to)
+}
+
+/// How many links from the front on are each the first one to its receiver.
+pub(crate) fn count_firsts<O: Outlet + Drop>(outs: &[OutEnd<O>]) -> usize
+    ensures { AreFirst result (receivers (links_of outs.now)) }
+{
+    for place in 0..outs.len() {
+        let end = &outs[place];
+        let Some(first) = place_to(outs, end.to()) else {
+            return place;
+        };
+        if first != place {
+            return place;
+        }
+    }
+    outs.len()
 }

@@ -16,12 +16,13 @@ const PORTION: u64 = 64;
 
 impl<N: RunNames, A: Acts, M: Links, T: Tap> Node<N, A, M, T> {
     /// One turn: it pushes what it can, obeys the script's orders that are due, takes packets, makes rows and does
-    /// work. Then, also where memory is wanting, it offers its tap the rows that it emitted. Whether it did anything.
+    /// work. Marks are reported where one of them rose enough, and where the turn came to nothing else. Then, also where
+    /// memory is wanting, it offers its tap the rows that it emitted. Whether it did anything.
     pub fn turn(&mut self, plan: &Plan, script: &Script) -> Result<bool, OutOfMemory>
         requires { script.now ≡ N.script }
         ensures { name_of A.id self.new ≡ name_of A.id self.old }
     {
-        self.begin_turn();
+        self.begin_turn(plan);
         let result = self.act_some(plan, script);
         self.offer();
         result
@@ -39,19 +40,22 @@ impl<N: RunNames, A: Acts, M: Links, T: Tap> Node<N, A, M, T> {
         requires { script.now ≡ N.script }
         ensures { name_of A.id self.new ≡ name_of A.id self.old }
     {
-        let fired = self.fire(plan, script)?;
-        let took = self.take_some(plan)?;
+        let fired = self.fire(script)?;
+        let took = self.take_some()?;
         let made = self.make_some(plan)?;
-        let did = self.work_some(plan)?;
-        Ok(fired || took || made || did)
+        let did = self.work_some()?;
+        if fired || took || made || did {
+            return Ok(true);
+        }
+        self.report_some()
     }
 
-    fn take_some(&mut self, plan: &Plan) -> Result<bool, OutOfMemory>
+    fn take_some(&mut self) -> Result<bool, OutOfMemory>
         ensures { name_of A.id self.new ≡ name_of A.id self.old }
     {
         let mut some = false;
         for _ in 0..PORTION {
-            if !self.take(plan)? {
+            if !self.take()? {
                 break;
             }
             some = true;
@@ -72,12 +76,20 @@ impl<N: RunNames, A: Acts, M: Links, T: Tap> Node<N, A, M, T> {
         Ok(some)
     }
 
-    fn work_some(&mut self, plan: &Plan) -> Result<bool, OutOfMemory>
+    // Where a turn came to nothing else, marks are reported by however little they rose.
+    fn report_some(&mut self) -> Result<bool, OutOfMemory>
+        ensures { name_of A.id self.new ≡ name_of A.id self.old }
+    {
+        self.rise = 1;
+        self.work_some()
+    }
+
+    fn work_some(&mut self) -> Result<bool, OutOfMemory>
         ensures { name_of A.id self.new ≡ name_of A.id self.old }
     {
         let mut some = false;
         for _ in 0..PORTION {
-            if !self.work(plan)? {
+            if !self.work()? {
                 break;
             }
             some = true;

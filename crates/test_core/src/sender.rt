@@ -1,6 +1,6 @@
 // Ingress, which makes all rows and sends them.
 use crate::again::again;
-use ingress_egress::{Ingress, Made};
+use ingress_egress::Ingress;
 use plan_reader::Plan;
 use std::alloc::Global;
 use trade_text::{Trades, write_output};
@@ -25,7 +25,7 @@ impl Sender {
     // Makes all rows and the end.
     fn make_all(&mut self) -> Result<(), OutOfMemory> {
         for _make in 0..u64::MAX {
-            if again(|| self.ingress.make())? == Made::NoMoreRows {
+            if again(|| self.ingress.make())? == Worked::Idle {
                 return Ok(());
             }
         }

@@ -1,4 +1,7 @@
 // The names of nodes and edges.
+ghost use Rattle.std.specs.Prelude.{◌≡◌};
+ghost use Rattle.tuple_edge.specs.declared.node.NodeId.TheVariants as node;
+
 use tuple_edge::{EdgeId, NodeId, Which};
 
 /// Replica A of the first partition of the first stage.
@@ -26,11 +29,15 @@ pub const FIRST_EDGE: EdgeId = EdgeId {
 };
 
 /// A replica of a partition.
-pub fn replica(stage: u32, part: u32, which: Which) -> NodeId {
+pub fn replica(stage: u32, part: u32, which: Which) -> NodeId
+    ensures { result ≡ node.Replica stage part which }
+{
     NodeId::Replica { stage, part, which }
 }
 
 /// The controller of a partition.
-pub fn control(stage: u32, part: u32) -> NodeId {
+pub fn control(stage: u32, part: u32) -> NodeId
+    ensures { result ≡ node.Control stage part }
+{
     NodeId::Control { stage, part }
 }

@@ -1,4 +1,8 @@
 // The run whose orders are tried.
+ghost use Rattle.pair_machine.specs.Output.{output};
+ghost use Rattle.std.specs.Prelude.{◌≡◌, IfOk};
+ghost use Rattle.trade_text.specs.TradesView.{inputs_in};
+
 use crate::plans::ONE;
 use crate::story::told;
 use plan_reader::Plan;
@@ -21,7 +25,9 @@ pub struct SmallRun {
 
 impl SmallRun {
     /// The one that is tried.
-    pub fn new(alloc: Global) -> Result<SmallRun, OutOfMemory> {
+    pub fn new(alloc: Global) -> Result<SmallRun, OutOfMemory>
+        ensures rows { IfOk result (λ run. run.rows.items ≡ output run.plan (inputs_in run.trades)) }
+    {
         let story = told(alloc, ONE, TRADES, b"")?;
         Ok(SmallRun {
             plan: story.plan,

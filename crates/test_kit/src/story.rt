@@ -1,6 +1,8 @@
 // Plans with their trades and scripts.
-ghost use Rattle.std.specs.Prelude.{◌≤◌, ◌<◌};
+ghost use Rattle.pair_machine.specs.Output.{output};
+ghost use Rattle.std.specs.Prelude.{◌≡◌, ◌≤◌, ◌<◌, IfOk};
 ghost use Rattle.trade_text.specs.Limits.{max_inputs};
+ghost use Rattle.trade_text.specs.TradesView.{inputs_in};
 
 use evaluation::evaluate;
 use failure_script::{Script, read_script};
@@ -20,12 +22,9 @@ pub struct Story {
 }
 
 /// The story of these three texts, where the plan is of version 1; a text that is refused is taken as want of memory.
-pub fn told(
-    alloc: Global,
-    plan: &[u8],
-    trades: &[u8],
-    script: &[u8],
-) -> Result<Story, OutOfMemory> {
+pub fn told(alloc: Global, plan: &[u8], trades: &[u8], script: &[u8]) -> Result<Story, OutOfMemory>
+    ensures output { IfOk result (λ story. story.output.items ≡ output story.plan (inputs_in story.trades)) }
+{
     let Ok(plan) = read_plan(alloc, plan) else {
         return Err(OutOfMemory);
     };
@@ -57,6 +56,7 @@ pub fn made(
 ) -> Result<Story, OutOfMemory>
     requires start { start < 100 }
     requires count { count ≤ max_inputs }
+    ensures output { IfOk result (λ story. story.output.items ≡ output story.plan (inputs_in story.trades)) }
 {
     let trades = make_trades(alloc, start, count)?;
     told(alloc, plan, &trades, script)

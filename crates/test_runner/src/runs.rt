@@ -94,6 +94,21 @@ fn each_number_of_workers_is_legal(rt: HostRuntime) -> Result<(), Fail> {
     Ok(())
 }
 
+// Marks are reported late, but ingress always comes to make its next row, however few items its edges may hold: there are
+// 40 rows more than it may hold at once. From 128 on marks are reported alike.
+#[test]
+fn no_run_stalls_whatever_an_edge_holds(rt: HostRuntime) -> Result<(), Fail> {
+    for hold in 16..=130u32 {
+        let plan = format!(in rt.alloc();
+            "flux 1\nmark 4\nhold {hold}\nstage 1 parts 1 by account total account\n"
+        )?;
+        let story = made(rt.alloc(), plan.as_bytes(), 3, hold + 40, b"")?;
+        let outcome = run(&rt, rt.alloc(), &story, 1, 400, &mut Rings, &FreeGate)?;
+        assert!(rt; outcome.ran.egress.done(), "{hold}");
+    }
+    Ok(())
+}
+
 // What the total answers to the last of so many trades of the three.
 fn total(qty: i64) -> Row {
     Row {

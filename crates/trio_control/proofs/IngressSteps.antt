@@ -41,8 +41,7 @@ use Rattle.trio_control.specs.Contents.{ArePacketsFor, GoOverLinks}
 use Rattle.trio_control.specs.Ingress.{IsMadeIn, IsOfPlan, IsWorked, StandsFor}
 use Rattle.trio_control.specs.IngressView.{HasMadeNext, IngressView, IsAdmitted, IsIngress, IsMade, contents_in, made_next, new_producer, sending, taking, tuples_of, working}
 use Rattle.trio_control.specs.Steps.{IsRefused, IsStep, IsTaken}
-use Rattle.trio_control.specs.declared.ingress.TrioMade.{TrioMade}
-use Rattle.trio_control.specs.declared.ingress.TrioMade.TheVariants as made
+use Rattle.tuple_edge.specs.declared.event.Worked.TheVariants as worked
 
 module _ (plan : PlanView) (inputs : List Input) where
   targets_are : (first : Stage) → slice_get plan.stages 0 ≡ Some first → first.parts ≡ (trio_flow plan inputs).targets 0
@@ -185,9 +184,9 @@ module _ (plan : PlanView) (inputs : List Input) where
 -- ---- what calls have found and done
 
 -- what was made is a step of the machine
-pub make_done : (r : Result TrioMade OutOfMemory) (old new : IngressView) → IfOk r (IsMade old new) → IfOk r (λ m. (plan : PlanView) (inputs : List Input) → IsTrioPlan plan → IsMadeIn plan inputs old new m)
-make_done (Ok made.Did) old new h = λ plan inputs is. make_step plan inputs is old new h.0 h.1
-make_done (Ok made.NoMoreRows) old new h = λ plan inputs is. make_refused plan inputs old h.0
+pub make_done : (r : Result Worked OutOfMemory) (old new : IngressView) → IfOk r (IsMade old new) → IfOk r (λ m. (plan : PlanView) (inputs : List Input) → IsTrioPlan plan → IsMadeIn plan inputs old new m)
+make_done (Ok worked.Did) old new h = λ plan inputs is. make_step plan inputs is old new h.0 h.1
+make_done (Ok worked.Idle) old new h = λ plan inputs is. make_refused plan inputs old h.0
 make_done (Err e) old new h = tt
 
 -- what holds of the work that was to be done holds of the work done
@@ -248,7 +247,7 @@ pub work_inputs : (r : Result Worked OutOfMemory) (old new : IngressView) (Also 
 work_inputs (Ok w) old new Also h k = ap (λ (i : IngressView). i.inputs) h ∙ sending_inputs old (due_of old.producer)
 work_inputs (Err e) old new Also h k = ap (λ (i : IngressView). i.inputs) k.0
 
-pub make_inputs : (r : Result TrioMade OutOfMemory) (old new : IngressView) → IfOk r (IsMade old new) → OnErr r (contents_in new ≡ contents_in old) → new.inputs ≡ old.inputs
-make_inputs (Ok made.Did) old new h k = h.1.inputs
-make_inputs (Ok made.NoMoreRows) old new h k = ap (λ (i : IngressView). i.inputs) h.1
+pub make_inputs : (r : Result Worked OutOfMemory) (old new : IngressView) → IfOk r (IsMade old new) → OnErr r (contents_in new ≡ contents_in old) → new.inputs ≡ old.inputs
+make_inputs (Ok worked.Did) old new h k = h.1.inputs
+make_inputs (Ok worked.Idle) old new h k = ap (λ (i : IngressView). i.inputs) h.1
 make_inputs (Err e) old new h k = ap (λ (i : IngressView). i.inputs) k

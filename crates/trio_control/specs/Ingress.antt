@@ -17,8 +17,6 @@ use Rattle.trio_machine.specs.declared.node.TrioNode.{TrioNode}
 use Rattle.trio_machine.specs.declared.node.TrioNode.TheVariants as node
 use Rattle.trio_control.specs.IngressView.{IngressView}
 use Rattle.trio_control.specs.Steps.{IsRefused, IsStep}
-use Rattle.trio_control.specs.declared.ingress.TrioMade.{TrioMade}
-use Rattle.trio_control.specs.declared.ingress.TrioMade.TheVariants as made
 
 -- ingress stands for a node's numbers: it has the plan's inputs, first stage and mark, and its producer stands for its numbers, where so
 -- many items were made as the first makes give
@@ -40,6 +38,6 @@ IsWorked plan inputs old new sent worked.Did = IsStep plan inputs node.Ingress (
 IsWorked plan inputs old new sent worked.Idle = IsRefused plan inputs node.Ingress (StandsFor plan inputs old) Works NothingDue
 
 -- a make; where there was none, all was made
-abbrev pub IsMadeIn : PlanView → List Input → IngressView → IngressView → TrioMade → Type 0
-IsMadeIn plan inputs old new made.Did = IsStep plan inputs node.Ingress (StandsFor plan inputs old) (StandsFor plan inputs new) Makes []
-IsMadeIn plan inputs old new made.NoMoreRows = IsRefused plan inputs node.Ingress (StandsFor plan inputs old) Makes NoMoreRows
+abbrev pub IsMadeIn : PlanView → List Input → IngressView → IngressView → Worked → Type 0
+IsMadeIn plan inputs old new worked.Did = IsStep plan inputs node.Ingress (StandsFor plan inputs old) (StandsFor plan inputs new) Makes []
+IsMadeIn plan inputs old new worked.Idle = IsRefused plan inputs node.Ingress (StandsFor plan inputs old) Makes NoMoreRows

@@ -18,8 +18,7 @@ use Rattle.trio_machine.specs.declared.body.TrioBody.TheVariants as body
 use Rattle.trio_machine.specs.declared.node.TrioNode.{TrioNode}
 use Rattle.trio_machine.specs.declared.node.TrioNode.TheVariants as node
 use Rattle.trio_control.specs.Work.{WorkDone}
-use Rattle.trio_control.specs.declared.ingress.TrioMade.{TrioMade}
-use Rattle.trio_control.specs.declared.ingress.TrioMade.TheVariants as made
+use Rattle.tuple_edge.specs.declared.event.Worked.{Worked}
 
 -- the inputs, the first stage, after how many inputs there is a mark, how many inputs, or the end, were made into items, and the producer
 pub record IngressView : Type 0 where
@@ -87,9 +86,9 @@ pub record HasMadeNext (earlier later : IngressView) : Type 0 where
   pub producer : HasMade (made_next earlier) earlier.producer later.producer
 
 -- that was done where an input, or the end, was left; else nothing
-abbrev pub IsMade : IngressView → IngressView → TrioMade → Type 0
-IsMade old new made.Did = (old.makes ≤ length old.inputs) × HasMadeNext old new
-IsMade old new made.NoMoreRows = (length old.inputs < old.makes) × (new ≡ old)
+abbrev pub IsMade : IngressView → IngressView → Worked → Type 0
+IsMade old new worked.Did = (old.makes ≤ length old.inputs) × HasMadeNext old new
+IsMade old new worked.Idle = (length old.inputs < old.makes) × (new ≡ old)
 
 -- ingress, the room of its producer left aside
 abbrev pub contents_in : IngressView → IngressView

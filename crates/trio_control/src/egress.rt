@@ -84,6 +84,7 @@ impl TrioEgress {
         ensures step { OnOk result ((plan : PlanView) (inputs : List Input) → IsTaken plan inputs node.Egress
             (StandsFor plan inputs self.old) (StandsFor plan inputs self.new) from body.now []) }
     {
+        // From whomever it comes, it is taken alike. Contracts name the sender.
         let _sender = from;
         match *body {
             TrioBody::Tuple { edge, number, item } => self.offer(edge.from, number, item),

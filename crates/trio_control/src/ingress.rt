@@ -27,13 +27,6 @@ use std::marker::Model;
 use trio_machine::{TrioBody, TrioNode};
 use tuple_edge::{EdgeId, Item, OutOfMemory, Row, Worked};
 
-/// What came of a make: an input, or the end, was made into items, or there is none left.
-#[derive(Clone, Copy, Debug, PartialEq, Eq)]
-pub enum TrioMade {
-    Did,
-    NoMoreRows,
-}
-
 /// Ingress: it makes the inputs into items, one after another, and sends them, with the marks and the end,
 /// to the first stage. It has one source.
 #[derive(Drop)]
@@ -110,6 +103,7 @@ impl TrioIngress {
         requires admitted { IsAdmitted self.old from body.now }
         ensures { self.new ≡ taking self.old body.now }
     {
+        // From whomever it comes, it is taken alike. Contracts name the sender.
         let _sender = from;
         match *body {
             TrioBody::Ack { edge, upto } => self.producer.ack(edge.to, upto),
@@ -118,9 +112,10 @@ impl TrioIngress {
     }
 
     /// Makes the next input into an item on the edge that routing names, and where a mark is due into one
-    /// on every edge; after the inputs it makes the end on every edge. It sends nothing, and may always be
-    /// called. After want of memory only the room of the buffers may have changed.
-    pub fn make(&mut self) -> Result<TrioMade, OutOfMemory>
+    /// on every edge; after the inputs it makes the end on every edge. Idle exactly where the end was made
+    /// before. It sends nothing, and may always be called. After want of memory only the room of the buffers
+    /// may have changed.
+    pub fn make(&mut self) -> Result<Worked, OutOfMemory>
         ensures made { IfOk result (IsMade self.old self.new) }
         ensures unchanged { OnErr result (contents_in self.new ≡ contents_in self.old) }
         ensures inputs { self.new.inputs ≡ self.old.inputs }
@@ -132,18 +127,18 @@ impl TrioIngress {
     }
 
     // Makes the next input, or the end, into items.
-    fn make_next(&mut self) -> Result<TrioMade, OutOfMemory>
+    fn make_next(&mut self) -> Result<Worked, OutOfMemory>
         ensures made { IfOk result (IsMade self.old self.new) }
         ensures unchanged { OnErr result (contents_in self.new ≡ contents_in self.old) }
     {
         if self.makes > self.rows.len() as u64 {
-            return Ok(TrioMade::NoMoreRows);
+            return Ok(Worked::Idle);
         }
         let input = given_at(&self.rows, self.makes as usize);
         let stamp = self.makes + 1;
         make_with_room(&mut self.producer, &self.first, self.mark, stamp, input)?;
         self.makes = stamp;
-        Ok(TrioMade::Did)
+        Ok(Worked::Did)
     }
 
     /// Sends what is due. Idle exactly where nothing is. It may always be called.

@@ -22,7 +22,7 @@ mod running;
 pub use controller::TrioControl;
 pub use egress::TrioEgress;
 pub use group::GROUP_SIZE;
-pub use ingress::{TrioIngress, TrioMade};
+pub use ingress::TrioIngress;
 pub use outbox::TrioOutbox;
 pub use replica::TrioReplica;
 // Contracts see what a replica is made of.

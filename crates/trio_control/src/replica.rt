@@ -120,6 +120,7 @@ impl TrioReplica {
         ensures unchanged { OnErr result (self.new ≡ self.old) }
         ensures role { self.new.role ≡ self.old.role }
     {
+        // From whomever it comes, it is taken alike. Contracts name the sender.
         let _sender = from;
         match &mut self.running {
             None => Ok(()),

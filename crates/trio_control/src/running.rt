@@ -53,6 +53,7 @@ impl TrioRunning {
         ensures taken { OnOk result (self.new ≡ taken_by body.now self.old) }
         ensures unchanged { OnErr result (self.new ≡ self.old) }
     {
+        // Contracts alone name what it does.
         let _role = role;
         match *body {
             TrioBody::Tuple { edge, number, item } => {
@@ -81,6 +82,7 @@ impl TrioRunning {
         ensures unchanged { OnErr result (self.new ≡ self.old) }
         ensures running { IsRunning role.now self.new }
     {
+        // Contracts alone name what it does.
         let _role = role;
         self.offer_next(edge, item)
     }

@@ -13,7 +13,7 @@ use crate::error::TrioError;
 use crate::member::Member;
 use crate::task::Task;
 use trio_control::{
-    TrioBody, TrioControl, TrioEgress, TrioIngress, TrioMade, TrioNode, TrioOutbox, TrioReplica,
+    TrioBody, TrioControl, TrioEgress, TrioIngress, TrioNode, TrioOutbox, TrioReplica,
 };
 use tuple_edge::{Item, NUMBER_LIMIT, Worked};
 
@@ -104,8 +104,8 @@ fn ingress_makes(node: &mut TrioIngress) -> Result<(), TrioError>
     ensures inputs { node.new.inputs ≡ node.old.inputs }
 {
     match node.make()? {
-        TrioMade::Did => Ok(()),
-        TrioMade::NoMoreRows => Err(TrioError::NoMoreRows),
+        Worked::Did => Ok(()),
+        Worked::Idle => Err(TrioError::NoMoreRows),
     }
 }
 

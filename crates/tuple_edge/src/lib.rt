@@ -8,6 +8,7 @@
 
 mod event;
 mod item;
+mod limits;
 mod memory;
 mod node;
 mod order;
@@ -19,6 +20,7 @@ mod sum;
 
 pub use event::{Drained, Event, History, Stamped, Worked};
 pub use item::{Item, NUMBER_LIMIT};
+pub use limits::{MAX_THREADS, MOST_PACKETS};
 pub use memory::OutOfMemory;
 pub use node::{EdgeId, LinkId, NodeId, Which};
 pub use outbox::Outbox;

@@ -32,8 +32,9 @@ impl PairControl {
         plan.links(LinkId { from, to }) && self.may_take(from, body)
     }
 
-    // All that `on` asks for of the controller itself.
-    fn may_take(&self, from: NodeId, body: &Body) -> bool
+    /// All that `on` asks for of the controller itself: `admits` without the look at the plan. It is for one who knows
+    /// that the packet came over a link of the plan. It takes no memory.
+    pub fn may_take(&self, from: NodeId, body: &Body) -> bool
         ensures { IsTrue result ↔ IsAdmitted self.now from body.now }
     {
         self.is_from_replica(from) && self.is_carried(body) && self.may_rise()

@@ -13,6 +13,7 @@ ghost use Rattle.pair_machine.specs.Numbers.{other, replica_at};
 ghost use Rattle.pair_machine.specs.Receivers.{GoOverLinks, appended};
 ghost use Rattle.plan_reader.specs.PlanView.{PlanView};
 ghost use Rattle.std.specs.Prelude.{◌≡◌, ◌<◌, ◌≤◌, ◌+◌, ◌^◌, ◌++◌, ◌∷◌, ◌⊎◌, ℕ, [], List, length, slice_index};
+ghost use Rattle.tuple_edge.specs.Limits.{most_packets};
 ghost use Rattle.tuple_edge.specs.declared.packet.Body.TheVariants as body;
 ghost use Rattle.tuple_edge.specs.Input.{Input};
 
@@ -26,7 +27,7 @@ impl PairControl {
     /// the replicas and to the producers of the in-edges. It takes no memory.
     pub fn on(&mut self, from: NodeId, body: &Body, out: &mut Outbox)
         requires admitted { IsAdmitted self.old from body.now }
-        requires room { 24 ≤ out.old.spare }
+        requires room { most_packets ≤ out.old.spare }
         // The machine's own step, and exactly its packets in order.
         ensures numbers { numbers_of self.new ≡ (taking self.old from body.now).0 }
         ensures packets { out.new.packets ≡ out.old.packets ++ packets_of (taking self.old from body.now).1 }

@@ -1,5 +1,5 @@
 // Ingress and egress of one plan, and the steps of a test: what is done with them, and what has to come of it.
-use ingress_egress::{Egress, Ingress, Made};
+use ingress_egress::{Egress, Ingress};
 use plan_reader::{Plan, read_plan};
 use std::alloc::Global;
 use std::process::Abort;
@@ -128,7 +128,7 @@ impl Boundary {
     fn goes(&mut self, step: &Step) -> Result<bool, OutOfMemory> {
         match *step {
             Step::Makes(count) => self.makes(count),
-            Step::MakesNoMore => Ok(self.ingress.make()? == Made::NoMoreRows),
+            Step::MakesNoMore => Ok(self.ingress.make()? == Worked::Idle),
             Step::Made(count) => Ok(self.ingress.makes() == count),
             Step::Produced { source, to, count } => Ok(self.produced(source, to) == count),
             Step::Kept {
@@ -158,7 +158,7 @@ impl Boundary {
     fn makes(&mut self, count: u64) -> Result<bool, OutOfMemory> {
         let mut all = true;
         for _make in 0..count {
-            all = all && self.ingress.make()? == Made::Did;
+            all = all && self.ingress.make()? == Worked::Did;
         }
         Ok(all)
     }

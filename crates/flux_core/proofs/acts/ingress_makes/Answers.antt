@@ -14,8 +14,8 @@ returns-in-Did-clause-acts c = λ plan.
     ingress_did plan v c.make.new.self task.Make event.Make []
     (λ rows p. subst (λ w. IsMadeIn plan rows v c.make.new.self w) c.in-Did.is (c.in_ok-make.ensures.course plan rows p)) (λ rows x a i. i)
 
-pub returns-in-NoMoreRows-clause-refused : goal.returns-in-NoMoreRows-clause-refused
-returns-in-NoMoreRows-clause-refused c = λ plan rows p x a i s.
+pub returns-in-Idle-clause-refused : goal.returns-in-Idle-clause-refused
+returns-in-Idle-clause-refused c = λ plan rows p x a i s.
     let v = c.args.node.now in
-    let idle = subst (λ w. IsMadeIn plan rows v c.make.new.self w) c.in-NoMoreRows.is (c.in_ok-make.ensures.course plan rows p) in
+    let idle = subst (λ w. IsMadeIn plan rows v c.make.new.self w) c.in-Idle.is (c.in_ok-make.ensures.course plan rows p) in
     refused_as (flow_of plan rows) node.Ingress x Makes a NoMoreRows i (idle x s.1)

@@ -10,7 +10,7 @@ returns-in_ok-on-in-Take c = let e = c.on.ensures in replica_takes c.args.node.n
     c.in_ok-on-in-Take.ensures.course e.few e.linked e.role
 
 pub returns-in-Work : goal.returns-in-Work
-returns-in-Work c = let e = c.work.ensures in replica_works c.args.node.now c.work.new.self c.args.task.now c.work.result c.args.out.now c.work.new.out c.in-Work.is c.requires.empty
+returns-in-Work c = let e = c.work_or_wait.ensures in replica_works c.args.node.now c.work_or_wait.new.self c.args.task.now c.work_or_wait.result c.args.out.now c.work_or_wait.new.out c.in-Work.is c.requires.empty
     e.idle e.unchanged e.few e.linked e.role e.course
 
 pub returns-in-Kill : goal.returns-in-Kill

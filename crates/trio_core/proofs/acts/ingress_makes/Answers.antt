@@ -12,8 +12,8 @@ returns-in-Did-clause-acts c =
     did task.Make Makes (member.Ingress v) (member.Ingress c.make.new.self) [] (λ plan inputs x a e. e)
     (λ plan inputs is. subst (λ m. IsMadeIn plan inputs v c.make.new.self m) c.in-Did.is (c.in_ok-make.ensures.step plan inputs is))
 
-pub returns-in-NoMoreRows-clause-refused : goal.returns-in-NoMoreRows-clause-refused
-returns-in-NoMoreRows-clause-refused c =
+pub returns-in-Idle-clause-refused : goal.returns-in-Idle-clause-refused
+returns-in-Idle-clause-refused c =
     let v = c.args.node.now in
     refuses task.Make Makes (member.Ingress v) NoMoreRows (λ plan inputs x a e. e)
-    (λ plan inputs is. subst (λ m. IsMadeIn plan inputs v c.make.new.self m) c.in-NoMoreRows.is (c.in_ok-make.ensures.step plan inputs is))
+    (λ plan inputs is. subst (λ m. IsMadeIn plan inputs v c.make.new.self m) c.in-Idle.is (c.in_ok-make.ensures.step plan inputs is))

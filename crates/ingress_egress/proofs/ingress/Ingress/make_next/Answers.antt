@@ -3,7 +3,7 @@ use Rattle.std.specs.Prelude.{slice_get}
 use Rattle.ingress_egress.specs.IngressStands.{IsMade}
 use Rattle.ingress_egress.specs.IngressView.{IngressView, any_input_of}
 use Rattle.trade_text.specs.TradesView.{paired}
-use Rattle.ingress_egress.specs.declared.making.Made.TheVariants as made
+use Rattle.tuple_edge.specs.declared.event.Worked.TheVariants as worked
 use Rattle.ingress_egress.proofs.EachSource.{make_is, paired_many}
 use Rattle.ingress_egress.proofs.IngressPlan.{contents_kept}
 use Rattle.ingress_egress.proofs.ingress.Ingress.make_next.Goals as goal
@@ -28,7 +28,7 @@ unfolding here
 returns-clause-made c =
     let many = paired_many c.self.inside.rows.items c.self.inside.sources.items in
     let within : c.self.inside.makes ≤ length (paired c.self.inside.rows.items c.self.inside.sources.items) = let t = c.if-self-len.false in let e = c.len.ensures in omega (arith, c.self.inside.rows.ok.0) in
-    subst (λ v. IsMade v (record (here c) { makes = c.self.inside.makes + 1; producers = c.make_with_room.new.producers.items }) made.Did) c.self.view_is
+    subst (λ v. IsMade v (record (here c) { makes = c.self.inside.makes + 1; producers = c.make_with_room.new.producers.items }) worked.Did) c.self.view_is
     (make_is (here c) c.make_with_room.new.producers.items (any_input_of c.given_at-input.result) (c.self.inside.makes + 1) refl (c.given_at-input.ensures ∙ (λ i. slice_get (paired (c.deref.ensures.value i) (c.deref-2.ensures.value i)) c.self.inside.makes)) within c.make_with_room.ensures.len c.in_ok-make_with_room.ensures.made)
 
 pub invariant_of-self : goal.invariant_of-self

@@ -20,7 +20,7 @@ some_mover : (c : goal.After-move_on) → is_some c.args.self.now.mover ≡ true
 some_mover c = search rules
 
 pub returns-then-is_some-clause-moves : goal.returns-then-is_some-clause-moves
-returns-then-is_some-clause-moves c =
+returns-then-is_some-clause-moves c = λ sure.
     let packets = c.in_ok-reserve.ensures.packets in
     moves_some c.args.role.now c.args.self.now c.move_on.new.self (appended c.args.out.now.packets c.move_on.new.out.packets) c.args.self.now.mover refl (some_mover c)
     (λ (m : MoverView) is. subst (λ (before : List (NodeId × Body)). Moves c.args.role.now m c.args.self.now c.move_on.new.self (appended before c.move_on.new.out.packets)) packets (c.move_on.ensures.moves m is))

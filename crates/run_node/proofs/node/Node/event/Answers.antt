@@ -23,19 +23,19 @@ invariant_of-self-2 g c =
     let sent = c.send_all.ensures ∙ ap (with_all_sent c_new packets) reserved in
     let flushed : c.flush.new.self.links ≡ with_all_sent c_new packets n.outs.links = ap (λ (o : OutsView). o.links) c.flush.ensures ∙ sent in
     let did = c.in_ok-act.was ∙ ap Ok c.in-Did.is in
-    let came = subst (λ (v : NodeView _ _). (arrived : Arrivals) → Fit arrived v.ins → CameFor arrived c.args.task) (sym c.self.view_is) c.requires.came in
-    let allowed = subst (λ (v : NodeView _ _). (x : Node) → g.A.Acts.stands g.N.RunNames.plan g.N.RunNames.inputs v.state x → IsAllowedAt g.N.RunNames.script (event_of (g.A.Acts.id v.state) c.args.task) x) (sym c.self.view_is) c.requires.allowed in
+    let came = subst (λ (v : NodeView _ _). (arrived : Arrivals) → Fit arrived v.ins → CameFor arrived c.args.task.now) (sym c.self.view_is) c.requires.came in
+    let allowed = subst (λ (v : NodeView _ _). (x : Node) → g.A.Acts.stands g.N.RunNames.plan g.N.RunNames.inputs v.state x → IsAllowedAt g.N.RunNames.script (event_of (g.A.Acts.id v.state) c.args.task.now) x) (sym c.self.view_is) c.requires.allowed in
     let later : n.clock < c_new = omega (arith, c.max-clock.ensures) in
-    let after : clock_of c.args.task < c_new = omega (arith, c.max-clock.ensures, c.clock.ensures) in
+    let after : clock_of c.args.task.now < c_new = omega (arith, c.max-clock.ensures, c.clock.ensures) in
     let small : c_new < 2 ^ 62 = omega (arith, c.if-clock-ge-LAST_CLOCK.false) in
-    let fresh : repeats n.fired c.args.task ≡ false = sym c.repeats.ensures ∙ c.if-repeats.false in
+    let fresh : repeats n.fired c.args.task.now ≡ false = sym c.repeats.ensures ∙ c.if-repeats.false in
     let sound = sound_after g.A.Acts.id g.A.Acts.of_plan g.A.Acts.stands g.N.RunNames.plan g.N.RunNames.inputs g.N.RunNames.script n.state n.ins.items n.outs.links n.kept n.clock n.fired n.history.items c.self.invariant.2
-    c.args.task c.act.new.self packets c_new came later after small fresh c.act.ensures.id (c.act.ensures.of_plan g.N.RunNames.plan c.self.invariant.2.named)
+    c.args.task.now c.act.new.self packets c_new came later after small fresh c.act.ensures.id (c.act.ensures.of_plan g.N.RunNames.plan c.self.invariant.2.named)
     (c.act.ensures.here did) (c.act.ensures.step did) (c.act.ensures.linked did g.N.RunNames.plan c.self.invariant.2.named) allowed in
-    let fired : fired_after n.fired c.args.task ≡ c.after-self-inside.result = sym c.after-self-inside.ensures in
-    let event = c.event_at-event.ensures ∙ ap (λ k. event_of k c.args.task) c.id.ensures in
+    let fired : fired_after n.fired c.args.task.now ≡ c.after-self-inside.result = sym c.after-self-inside.ensures in
+    let event = c.event_at-event.ensures ∙ ap (λ k. event_of k c.args.task.now) c.id.ensures in
     let history = c.push_reserved.ensures.items ∙ (ap (λ l. l ++ record { clock = c_new; event = c.event_at-event.result } ∷ []) c.reserve_event.ensures.history ∙ ap (λ e. n.history.items ++ record { clock = c_new; event = e } ∷ []) event) in
-    let at_links = subst (λ l. IsSoundNode g.A.Acts.id g.A.Acts.of_plan g.A.Acts.stands g.N.RunNames.plan g.N.RunNames.inputs g.N.RunNames.script c.act.new.self n.ins.items l n.kept c_new c.after-self-inside.result (n.history.items ++ record { clock = c_new; event = event_of (g.A.Acts.id n.state) c.args.task } ∷ [])) (sym flushed) (subst (λ f. IsSoundNode g.A.Acts.id g.A.Acts.of_plan g.A.Acts.stands g.N.RunNames.plan g.N.RunNames.inputs g.N.RunNames.script c.act.new.self n.ins.items (with_all_sent c_new packets n.outs.links) n.kept c_new f (n.history.items ++ record { clock = c_new; event = event_of (g.A.Acts.id n.state) c.args.task } ∷ [])) fired sound) in
+    let at_links = subst (λ l. IsSoundNode g.A.Acts.id g.A.Acts.of_plan g.A.Acts.stands g.N.RunNames.plan g.N.RunNames.inputs g.N.RunNames.script c.act.new.self n.ins.items l n.kept c_new c.after-self-inside.result (n.history.items ++ record { clock = c_new; event = event_of (g.A.Acts.id n.state) c.args.task.now } ∷ [])) (sym flushed) (subst (λ f. IsSoundNode g.A.Acts.id g.A.Acts.of_plan g.A.Acts.stands g.N.RunNames.plan g.N.RunNames.inputs g.N.RunNames.script c.act.new.self n.ins.items (with_all_sent c_new packets n.outs.links) n.kept c_new f (n.history.items ++ record { clock = c_new; event = event_of (g.A.Acts.id n.state) c.args.task.now } ∷ [])) fired sound) in
     (c.clear.ensures.packets, tap_later g.T.Tap.given g.A.Acts.rows n.tap n.state c.act.new.self c.act.ensures.rows c.self.invariant.1, subst (λ (l : List Stamped). IsSoundNode g.A.Acts.id g.A.Acts.of_plan g.A.Acts.stands g.N.RunNames.plan g.N.RunNames.inputs g.N.RunNames.script c.act.new.self n.ins.items c.flush.new.self.links n.kept c_new c.after-self-inside.result l) (sym history) at_links)
 
 pub returns-clause-name : goal.returns-clause-name
@@ -74,9 +74,9 @@ invariant_of-self-in-Idle g c =
 pub returns-clause-happens : goal.returns-clause-happens
 returns-clause-happens g c = λ _.
     let n = c.self.inside in
-    let event = c.event_at-event.ensures ∙ ap (λ k. event_of k c.args.task) c.id.ensures in
-    let here : HasHappened (event_of (g.A.Acts.id n.state) c.args.task) n.history.items c.push_reserved.new.self.items = record {
+    let event = c.event_at-event.ensures ∙ ap (λ k. event_of k c.args.task.now) c.id.ensures in
+    let here : HasHappened (event_of (g.A.Acts.id n.state) c.args.task.now) n.history.items c.push_reserved.new.self.items = record {
       clock = c.max-clock.result + 1;
       added = c.push_reserved.ensures.items ∙ (ap (λ l. l ++ record { clock = c.max-clock.result + 1; event = c.event_at-event.result } ∷ []) c.reserve_event.ensures.history ∙ ap (λ e. n.history.items ++ record { clock = c.max-clock.result + 1; event = e } ∷ []) event);
     } in
-    subst (λ (v : NodeView _ _). HasHappened (event_of (g.A.Acts.id v.state) c.args.task) v.history c.push_reserved.new.self.items) c.self.view_is here
+    subst (λ (v : NodeView _ _). HasHappened (event_of (g.A.Acts.id v.state) c.args.task.now) v.history c.push_reserved.new.self.items) c.self.view_is here

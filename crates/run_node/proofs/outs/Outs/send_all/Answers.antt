@@ -1,6 +1,8 @@
-use Rattle.std.proofs.Common.{◌≡◌, ◌∙◌, ◌≤◌, ◌+◌, ◌-◌, ◌++◌, List, length, take, drop, subst, sym, arith}
-use Rattle.run_node.specs.Ends.{HaveRoom, OutEndView, OutsView}
+use Rattle.std.proofs.Common.{◌≡◌, ◌∙◌, ◌≤◌, ◌+◌, ◌-◌, ◌++◌, List, length, take, drop, ap, subst, sym, arith}
+use Rattle.run_node.specs.Ends.{HaveRoom, OutEndView, OutsView, links_of}
+use Rattle.run_node.specs.FirstLinks.{AreFirst, receivers}
 use Rattle.run_node.proofs.Places.{written}
+use Rattle.run_node.proofs.SentPackets.{receivers-with_all_sent}
 use Rattle.run_node.proofs.outs.Outs.send_all.Goals as goal
 
 pub invariant_of-self : goal.invariant_of-self
@@ -14,5 +16,10 @@ invariant_of-self g c =
     let long : length c.deref_mut.result.now ≡ n.ends.len = omega (arith, c.deref_mut.ensures.len) in
     let ends : List OutEndView = take n.ends.len (sent.new.outs ++ drop (length sent.new.outs) n.ends.items) in
     let same : ends ≡ sent.new.outs = written n.ends.len sent.new.outs n.ends.items (sent.auto.outs ∙ long) in
-    let room : HaveRoom n.room c.deref_mut.result.now = subst (HaveRoom n.room) (sym c.deref_mut.ensures.value) c.self.invariant in
-    subst (HaveRoom left) (sym same) (sent.ensures.room left (subst (λ k. HaveRoom k c.deref_mut.result.now) whole room))
+    let room : HaveRoom n.room c.deref_mut.result.now = subst (HaveRoom n.room) (sym c.deref_mut.ensures.value) c.self.invariant.0 in
+    let to : receivers (links_of ends) ≡ receivers (links_of n.ends.items) =
+    ap (λ es. receivers (links_of es)) same ∙ ap receivers sent.ensures.links
+    ∙ receivers-with_all_sent c.args.clock c.args.outbox.now.packets (links_of c.deref_mut.result.now) ∙ ap (λ es. receivers (links_of es)) c.deref_mut.ensures.value in (
+      subst (HaveRoom left) (sym same) (sent.ensures.room left (subst (λ k. HaveRoom k c.deref_mut.result.now) whole room)),
+      subst (AreFirst n.firsts) (sym to) c.self.invariant.1,
+    )
