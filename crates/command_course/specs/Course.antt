@@ -3,6 +3,7 @@ use Rattle.std.specs.Prelude.{ℕ, ◌≡◌, Bool, List, [], ◌∷◌, ◌++�
 use Rattle.pair_machine.specs.declared.order.Order.{Order}
 use Rattle.command_course.specs.FeedView.{FeedView}
 use Rattle.flux_outside.specs.Outside.{Adds, Call, IsHeld, Names, Read}
+use Rattle.flux_outside.specs.Told.{FilesTold}
 
 -- a value, or the line by which its file is refused
 abbrev pub Reading : Type 0 → Type 0
@@ -48,20 +49,20 @@ Leads told (Runs run) (call ∷ calls) there = ⊥
 Leads told (Refuses line) (call ∷ calls) there = ⊥
 
 -- A course came to there: just the calls that lead there were added, where calls are told.
-pub record Came (told : Option Names) (old new : Option (List Call)) (course there : Course) : Type 0 where
+pub record Came (before after : FilesTold) (course there : Course) : Type 0 where
   pub calls : List Call
-  pub leads : Leads told course calls there
-  pub added : Adds old new calls
+  pub leads : Leads before.contents course calls there
+  pub added : Adds before.calls after.calls calls
 
 -- A course came to the reading of this file, which was tried: that call is the last one that was added.
-pub record CameToRead (told : Option Names) (old new : Option (List Call)) (course : Course) (name : List ℕ) : Type 0 where
+pub record CameToRead (before after : FilesTold) (course : Course) (name : List ℕ) : Type 0 where
   pub most : ℕ
   pub next : List ℕ → Course
   pub calls : List Call
-  pub leads : Leads told course calls (Reads name most next)
-  pub added : Adds old new (calls ++ Read name most ∷ [])
+  pub leads : Leads before.contents course calls (Reads name most next)
+  pub added : Adds before.calls after.calls (calls ++ Read name most ∷ [])
 
 -- a course came somewhere, and the next reading was tried or not
-pub data StoppedShort (told : Option Names) (old new : Option (List Call)) (course : Course) : Type 0 where
-  Between : (there : Course) → Came told old new course there → StoppedShort told old new course
-  AtReading : (name : List ℕ) → CameToRead told old new course name → StoppedShort told old new course
+pub data StoppedShort (before after : FilesTold) (course : Course) : Type 0 where
+  Between : (there : Course) → Came before after course there → StoppedShort before after course
+  AtReading : (name : List ℕ) → CameToRead before after course name → StoppedShort before after course

@@ -1,8 +1,8 @@
 // What a plan is fed with: the inputs with which all commands over a plan begin.
-ghost use Rattle.std.specs.Prelude.{◌≡◌, ◌↔◌, ◌≤◌, ◌+◌, ◌-◌, [], ℕ, IfErr, IfOk, List, OnOk, Option, Some, false, length, option_map, true};
+ghost use Rattle.std.specs.Prelude.{◌≡◌, ◌↔◌, ◌≤◌, ◌+◌, ◌-◌, [], ℕ, IfErr, IfOk, Some, false, length, option_map, true};
 ghost use Rattle.command_course.specs.Feeds.{IsFed, fed, feed_of, for_plan, with_feed, with_movements, with_plan, with_trades};
-ghost use Rattle.command_course.specs.Steps.{GivesBy, HasReadCause, IsWant, StopsBy};
-ghost use Rattle.flux_outside.specs.Outside.{Call, Names, StopsAtWant};
+ghost use Rattle.command_course.specs.Steps.{GivesBy, HasReadCause, OnlyReads, StopsBy};
+ghost use Rattle.flux_outside.specs.Told.{FilesTold};
 ghost use Rattle.trade_text.specs.Inputs.{inputs_of};
 ghost use Rattle.trade_text.specs.Limits.{max_inputs};
 ghost use Rattle.trade_text.specs.TradesView.{inputs_in};
@@ -24,7 +24,7 @@ pub struct Feed {
 }
 
 /// Reads the plan, the trades and, where a file of them is named, the cash movements.
-#[tactic(auto, using(crate::proofs::Courses::wants_on))]
+#[tactic(auto, using(crate::proofs::Courses::reads_on, crate::proofs::Courses::reads_stopped, crate::proofs::Courses::reads_then, crate::proofs::Courses::reads_judged, crate::proofs::Courses::reads_none))]
 pub fn feed_at<F: Files>(
     alloc: Global,
     files: &mut F,
@@ -32,14 +32,10 @@ pub fn feed_at<F: Files>(
     trades: &str,
     cash: Option<&str>,
 ) -> Result<Feed, Stop>
-    ensures gives { IfOk result (λ feed. GivesBy (F.contents files.old) (F.calls files.old) (F.calls files.new) (with_feed plan.now trades.now (option_map (λ name. name.now) cash.entry)) (feed_of feed)) }
+    ensures gives { IfOk result (λ feed. GivesBy (F.told files.old) (F.told files.new) (with_feed plan.now trades.now (option_map (λ name. name.now) cash.entry)) (feed_of feed)) }
     ensures fed { IfOk result IsFed }
-    ensures stops { IfErr result (λ stop. StopsBy (F.contents files.old) (F.calls files.old) (F.calls files.new) (with_feed plan.now trades.now (option_map (λ name. name.now) cash.entry)) stop) }
-    ensures cause { IfErr result (λ stop. HasReadCause (F.read_faults files.old) (F.read_faults files.new) stop) }
-    ensures still { OnOk result (F.read_faults files.new ≡ F.read_faults files.old) }
-    ensures wants { StopsAtWant (F.wants files.old) (F.wants files.new) (IsWant result) }
-    ensures contents { F.contents files.new ≡ F.contents files.old }
-    ensures saves { F.save_faults files.new ≡ F.save_faults files.old }
+    ensures stops { IfErr result (λ stop. StopsBy (F.told files.old) (F.told files.new) (with_feed plan.now trades.now (option_map (λ name. name.now) cash.entry)) stop) }
+    ensures reads { OnlyReads (F.told files.old) (F.told files.new) result }
 {
     match plan_at(alloc, files, plan, cash) {
         Ok(plan) => feed_for(alloc, files, plan, trades, cash),
@@ -48,7 +44,7 @@ pub fn feed_at<F: Files>(
 }
 
 // The trades and the movements, once the plan was accepted.
-#[tactic(auto, using(crate::proofs::Courses::wants_on))]
+#[tactic(auto, using(crate::proofs::Courses::reads_on, crate::proofs::Courses::reads_stopped, crate::proofs::Courses::reads_then, crate::proofs::Courses::reads_judged, crate::proofs::Courses::reads_none))]
 fn feed_for<F: Files>(
     alloc: Global,
     files: &mut F,
@@ -56,14 +52,10 @@ fn feed_for<F: Files>(
     trades: &str,
     cash: Option<&str>,
 ) -> Result<Feed, Stop>
-    ensures gives { IfOk result (λ feed. GivesBy (F.contents files.old) (F.calls files.old) (F.calls files.new) (with_trades trades.now (option_map (λ name. name.now) cash.entry) plan) (feed_of feed)) }
+    ensures gives { IfOk result (λ feed. GivesBy (F.told files.old) (F.told files.new) (with_trades trades.now (option_map (λ name. name.now) cash.entry) plan) (feed_of feed)) }
     ensures fed { IfOk result IsFed }
-    ensures stops { IfErr result (λ stop. StopsBy (F.contents files.old) (F.calls files.old) (F.calls files.new) (with_trades trades.now (option_map (λ name. name.now) cash.entry) plan) stop) }
-    ensures cause { IfErr result (λ stop. HasReadCause (F.read_faults files.old) (F.read_faults files.new) stop) }
-    ensures still { OnOk result (F.read_faults files.new ≡ F.read_faults files.old) }
-    ensures wants { StopsAtWant (F.wants files.old) (F.wants files.new) (IsWant result) }
-    ensures contents { F.contents files.new ≡ F.contents files.old }
-    ensures saves { F.save_faults files.new ≡ F.save_faults files.old }
+    ensures stops { IfErr result (λ stop. StopsBy (F.told files.old) (F.told files.new) (with_trades trades.now (option_map (λ name. name.now) cash.entry) plan) stop) }
+    ensures reads { OnlyReads (F.told files.old) (F.told files.new) result }
 {
     match input_at(alloc, files, trades, &TradesFile) {
         Ok(trades) => movements_at(alloc, files, plan, trades, cash),
@@ -72,20 +64,16 @@ fn feed_for<F: Files>(
 }
 
 /// Reads a plan, which may be given cash movements only where it is of version 2.
-#[tactic(auto, using(crate::proofs::Courses::wants_on))]
+#[tactic(auto, using(crate::proofs::Courses::reads_on, crate::proofs::Courses::reads_stopped, crate::proofs::Courses::reads_then, crate::proofs::Courses::reads_judged, crate::proofs::Courses::reads_none))]
 pub fn plan_at<F: Files>(
     alloc: Global,
     files: &mut F,
     plan: &str,
     cash: Option<&str>,
 ) -> Result<Plan, Stop>
-    ensures gives { IfOk result (λ it. GivesBy (F.contents files.old) (F.calls files.old) (F.calls files.new) (with_plan plan.now (option_map (λ name. name.now) cash.entry)) it) }
-    ensures stops { IfErr result (λ stop. StopsBy (F.contents files.old) (F.calls files.old) (F.calls files.new) (with_plan plan.now (option_map (λ name. name.now) cash.entry)) stop) }
-    ensures cause { IfErr result (λ stop. HasReadCause (F.read_faults files.old) (F.read_faults files.new) stop) }
-    ensures still { OnOk result (F.read_faults files.new ≡ F.read_faults files.old) }
-    ensures wants { StopsAtWant (F.wants files.old) (F.wants files.new) (IsWant result) }
-    ensures contents { F.contents files.new ≡ F.contents files.old }
-    ensures saves { F.save_faults files.new ≡ F.save_faults files.old }
+    ensures gives { IfOk result (λ it. GivesBy (F.told files.old) (F.told files.new) (with_plan plan.now (option_map (λ name. name.now) cash.entry)) it) }
+    ensures stops { IfErr result (λ stop. StopsBy (F.told files.old) (F.told files.new) (with_plan plan.now (option_map (λ name. name.now) cash.entry)) stop) }
+    ensures reads { OnlyReads (F.told files.old) (F.told files.new) result }
 {
     match input_at(alloc, files, plan, &PlanFile) {
         Ok(plan) => with_source(alloc, plan, cash),
@@ -95,8 +83,8 @@ pub fn plan_at<F: Files>(
 
 // A plan, where it has the source of the movements that are given.
 fn with_source(alloc: Global, plan: Plan, cash: Option<&str>) -> Result<Plan, Stop>
-    ensures gives { IfOk result (λ it. (told : Option Names) (calls : Option (List Call)) → GivesBy told calls calls (for_plan (option_map (λ name. name.now) cash.entry) plan) it) }
-    ensures stops { IfErr result (λ stop. (told : Option Names) (calls : Option (List Call)) → StopsBy told calls calls (for_plan (option_map (λ name. name.now) cash.entry) plan) stop) }
+    ensures gives { IfOk result (λ it. (told : FilesTold) → GivesBy told told (for_plan (option_map (λ name. name.now) cash.entry) plan) it) }
+    ensures stops { IfErr result (λ stop. (told : FilesTold) → StopsBy told told (for_plan (option_map (λ name. name.now) cash.entry) plan) stop) }
     ensures cause { IfErr result (λ stop. (faults : ℕ) → HasReadCause faults faults stop) }
 {
     match cash {
@@ -111,7 +99,7 @@ fn with_source(alloc: Global, plan: Plan, cash: Option<&str>) -> Result<Plan, St
 }
 
 /// Reads the cash movements where a file of them is named, once plan and trades are there.
-#[tactic(auto, using(crate::proofs::Courses::wants_on))]
+#[tactic(auto, using(crate::proofs::Courses::reads_on, crate::proofs::Courses::reads_stopped, crate::proofs::Courses::reads_then, crate::proofs::Courses::reads_judged, crate::proofs::Courses::reads_none))]
 pub fn movements_at<F: Files>(
     alloc: Global,
     files: &mut F,
@@ -120,14 +108,10 @@ pub fn movements_at<F: Files>(
     cash: Option<&str>,
 ) -> Result<Feed, Stop>
     requires { trades.merged ≡ false }
-    ensures gives { IfOk result (λ feed. GivesBy (F.contents files.old) (F.calls files.old) (F.calls files.new) (with_movements (option_map (λ name. name.now) cash.entry) plan trades) (feed_of feed)) }
+    ensures gives { IfOk result (λ feed. GivesBy (F.told files.old) (F.told files.new) (with_movements (option_map (λ name. name.now) cash.entry) plan trades) (feed_of feed)) }
     ensures fed { IfOk result IsFed }
-    ensures stops { IfErr result (λ stop. StopsBy (F.contents files.old) (F.calls files.old) (F.calls files.new) (with_movements (option_map (λ name. name.now) cash.entry) plan trades) stop) }
-    ensures cause { IfErr result (λ stop. HasReadCause (F.read_faults files.old) (F.read_faults files.new) stop) }
-    ensures still { OnOk result (F.read_faults files.new ≡ F.read_faults files.old) }
-    ensures wants { StopsAtWant (F.wants files.old) (F.wants files.new) (IsWant result) }
-    ensures contents { F.contents files.new ≡ F.contents files.old }
-    ensures saves { F.save_faults files.new ≡ F.save_faults files.old }
+    ensures stops { IfErr result (λ stop. StopsBy (F.told files.old) (F.told files.new) (with_movements (option_map (λ name. name.now) cash.entry) plan trades) stop) }
+    ensures reads { OnlyReads (F.told files.old) (F.told files.new) result }
 {
     match cash {
         None => without_movements(alloc, plan, trades),
@@ -136,7 +120,7 @@ pub fn movements_at<F: Files>(
 }
 
 // The movements of a file.
-#[tactic(auto, using(crate::proofs::Courses::wants_on))]
+#[tactic(auto, using(crate::proofs::Courses::reads_on, crate::proofs::Courses::reads_stopped, crate::proofs::Courses::reads_then, crate::proofs::Courses::reads_judged, crate::proofs::Courses::reads_none))]
 fn movements_of<F: Files>(
     alloc: Global,
     files: &mut F,
@@ -145,14 +129,10 @@ fn movements_of<F: Files>(
     name: &str,
 ) -> Result<Feed, Stop>
     requires { trades.merged ≡ false }
-    ensures gives { IfOk result (λ feed. GivesBy (F.contents files.old) (F.calls files.old) (F.calls files.new) (with_movements (Some name.now) plan trades) (feed_of feed)) }
+    ensures gives { IfOk result (λ feed. GivesBy (F.told files.old) (F.told files.new) (with_movements (Some name.now) plan trades) (feed_of feed)) }
     ensures fed { IfOk result IsFed }
-    ensures stops { IfErr result (λ stop. StopsBy (F.contents files.old) (F.calls files.old) (F.calls files.new) (with_movements (Some name.now) plan trades) stop) }
-    ensures cause { IfErr result (λ stop. HasReadCause (F.read_faults files.old) (F.read_faults files.new) stop) }
-    ensures still { OnOk result (F.read_faults files.new ≡ F.read_faults files.old) }
-    ensures wants { StopsAtWant (F.wants files.old) (F.wants files.new) (IsWant result) }
-    ensures contents { F.contents files.new ≡ F.contents files.old }
-    ensures saves { F.save_faults files.new ≡ F.save_faults files.old }
+    ensures stops { IfErr result (λ stop. StopsBy (F.told files.old) (F.told files.new) (with_movements (Some name.now) plan trades) stop) }
+    ensures reads { OnlyReads (F.told files.old) (F.told files.new) result }
 {
     let room = room_beside(&trades);
     match input_at(alloc, files, name, &CashFile { room }) {
@@ -201,6 +181,7 @@ fn taken(plan: &Plan, mut trades: Trades, movements: &Cash) -> Result<Trades, Ou
     ensures symbols { IfOk result (λ all. all.symbols ≡ trades.symbols) }
     ensures merged { IfOk result (λ all. (all.merged ≡ true) ↔ (plan.now.version ≡ 2)) }
 {
+    // Asked only for what its contract says beside: trades are within their limits. Nothing was merged yet.
     let merged = trades.merged();
     prove!(!merged);
     if plan.version() == 1 {

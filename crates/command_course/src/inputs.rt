@@ -1,9 +1,8 @@
 // The reading of an input: a file is read and checked before the next one is read.
-ghost use Rattle.std.specs.Prelude.{◌≡◌, ◌<◌, ℕ, List, length, Ok, IfErr, IfOk, IfSome, OnOk, string_bytes};
+ghost use Rattle.std.specs.Prelude.{◌≡◌, ◌<◌, ℕ, List, length, Ok, IfErr, IfOk, IfSome, string_bytes};
 ghost use Rattle.command_course.specs.Course.{Reading};
 ghost use Rattle.command_course.specs.Lines.{cannot_read_line, line_of};
-ghost use Rattle.flux_outside.specs.Outside.{StopsAtWant};
-ghost use Rattle.command_course.specs.Steps.{Gives, HasReadCause, IsRefusedBy, IsUnreadBy, IsWant, StopsAt, StopsOn};
+ghost use Rattle.command_course.specs.Steps.{Gives, IsRefusedBy, IsUnreadBy, OnlyReads, StopsAt, StopsOn};
 
 use crate::stop::Stop;
 use flux_outside::{FileStop, Files, Got};
@@ -48,14 +47,10 @@ pub fn input_at<F: Files, I: Input>(
     name: &str,
     input: &I,
 ) -> Result<I::Value, Stop>
-    ensures gives { IfOk result (λ value. Gives (F.contents files.old) (F.calls files.old) (F.calls files.new) (I.most input.now) (I.reading input.now) name.now value) }
+    ensures gives { IfOk result (λ value. Gives (F.told files.old) (F.told files.new) (I.most input.now) (I.reading input.now) name.now value) }
     ensures keeps { IfOk result (I.keeps input.now) }
-    ensures stops { IfErr result (λ stop. StopsAt (F.contents files.old) (F.calls files.old) (F.calls files.new) (I.most input.now) (I.reading input.now) name.now stop) }
-    ensures cause { IfErr result (λ stop. HasReadCause (F.read_faults files.old) (F.read_faults files.new) stop) }
-    ensures still { OnOk result (F.read_faults files.new ≡ F.read_faults files.old) }
-    ensures wants { StopsAtWant (F.wants files.old) (F.wants files.new) (IsWant result) }
-    ensures contents { F.contents files.new ≡ F.contents files.old }
-    ensures saves { F.save_faults files.new ≡ F.save_faults files.old }
+    ensures stops { IfErr result (λ stop. StopsAt (F.told files.old) (F.told files.new) (I.most input.now) (I.reading input.now) name.now stop) }
+    ensures reads { OnlyReads (F.told files.old) (F.told files.new) result }
 {
     let mut bytes = Vec::new(alloc);
     match files.read(name, input.most(), &mut bytes) {

@@ -1,11 +1,12 @@
 -- Files and sinks in memory, as contracts see them.
-use Rattle.std.specs.Prelude.{ℕ, ◌+◌, ◌-◌, ◌==◌, ◌++◌, Bool, List, length, take, min, Result, Ok, Err, if◌then◌else◌, string_bytes, String, Vec}
+use Rattle.std.specs.Prelude.{ℕ, ◌+◌, ◌-◌, ◌==◌, ◌++◌, Bool, List, length, take, min, None, Some, Result, Ok, Err, if◌then◌else◌, string_bytes, String, Vec}
 use Rattle.std.specs.List.{list_any}
 use Rattle.std.specs.Map.{lookup}
 use Rattle.std.specs.Ordering.{is_eq, nat_cmp}
 use Rattle.std.specs.Cmp.Lexicographic.{slice_cmp}
 use Rattle.std.specs.declared.alloc.Global.{Global}
 use Rattle.flux_outside.specs.Outside.{Call, Names, Read, Save, Wants, counted}
+use Rattle.flux_outside.specs.Told.{FilesTold, SinkTold}
 use Rattle.flux_outside.specs.declared.mem_files.MemCall.{MemCall}
 use Rattle.flux_outside.specs.declared.mem_files.MemCall.TheVariants as call
 use Rattle.flux_outside.specs.declared.mem_files.MemWants.{MemWants}
@@ -41,6 +42,10 @@ call_of (call.Save name) = Save (string_bytes name)
 abbrev pub wants_of : MemWants → Wants
 wants_of wants = record { count = wants.count; last = wants.last }
 
+-- they tell all
+abbrev pub files_told : MemFilesView → FilesTold
+files_told s = record { contents = Some (names s.files); calls = Some s.calls; wants = Some s.wants; read_faults = s.read_faults; save_faults = s.save_faults }
+
 -- whether the next call is one of those that fail
 abbrev pub next_fails : MemFilesView → Bool
 next_fails s = has_number s.fails (length s.calls + 1)
@@ -55,6 +60,10 @@ pub record MemSinkView : Type 0 where
   pub faults : ℕ
   pub most : ℕ
   pub room : ℕ
+
+-- it tells all but the pieces that it was given
+abbrev pub sink_told : MemSinkView → SinkTold
+sink_told s = record { taken = Some s.taken; offered = None; faults = s.faults }
 
 -- how many bytes of a piece the next put takes, where it doesn't fail
 abbrev pub taken_of : MemSinkView → List ℕ → ℕ

@@ -1,6 +1,6 @@
 // Files in memory, which fail where they are told to.
 ghost use Rattle.std.specs.Prelude.{◌≡◌, ◌≢◌, ◌≤◌, ◌<◌, ◌∷◌, ◌+◌, [], ◌⊎◌, false, true, Some, None, Err, IfErr, IfOk, OnErr, OnOk, map, option_map, string_bytes, vec_capacity, vec_len};
-ghost use Rattle.flux_outside.specs.Memory.{MemFilesView, call_of, file_of, names, next_fails, wants_of};
+ghost use Rattle.flux_outside.specs.Memory.{MemFilesView, call_of, file_of, files_told, names, next_fails, wants_of};
 ghost use Rattle.flux_outside.specs.Outside.{Explains, Finds, IsHeld, IsRead, IsReadOf, Joins, KeepsFront, LeavesOthers, OthersStay, Read, Save, after_call, is_counted};
 
 use crate::{FileStop, Files, Got};
@@ -177,15 +177,7 @@ fn insert_file(
 }
 
 impl Files for MemFiles {
-    ghost contents = { λ s. Some (names s.files) };
-
-    ghost calls = { λ s. Some s.calls };
-
-    ghost wants = { λ s. Some s.wants };
-
-    ghost read_faults = { λ s. s.read_faults };
-
-    ghost save_faults = { λ s. s.save_faults };
+    ghost told = { files_told };
 
     fn read(&mut self, name: &str, max: u64, into: &mut Vec<u8>) -> Result<Got, FileStop>
         ensures got { IfOk result (λ got. IsRead (Some (names self.old.files)) name.now max got into.old.items into.new.items) }

@@ -1,6 +1,6 @@
 // A sink in memory, which fails where it is told to.
 ghost use Rattle.std.specs.Prelude.{◌≡◌, ◌<◌, ◌≤◌, [], None, IfOk, OnErr, Some, length, take};
-ghost use Rattle.flux_outside.specs.Memory.{MemSinkView, after_put, put_answer};
+ghost use Rattle.flux_outside.specs.Memory.{MemSinkView, after_put, put_answer, sink_told};
 ghost use Rattle.flux_outside.specs.Outside.{IsOffered, Rose, Takes, TakesPart};
 
 use crate::{Failed, Sink};
@@ -60,11 +60,7 @@ impl MemSink {
 }
 
 impl Sink for MemSink {
-    ghost taken = { λ s. Some s.taken };
-
-    ghost offered = { λ _. None };
-
-    ghost faults = { λ s. s.faults };
+    ghost told = { sink_told };
 
     fn put(&mut self, bytes: &[u8]) -> Result<usize, Failed>
         requires { 0 < length bytes.now }
@@ -76,7 +72,7 @@ impl Sink for MemSink {
         ensures cause { OnErr result (Rose self.old.faults self.new.faults) }
         ensures later { self.old.faults ≤ self.new.faults }
 
-        // It fails exactly where its list says so, and else takes as much as it may.
+        // It fails exactly where its list says so, and else takes as much as it may. To take nothing is a fault too.
         ensures answer { result ≡ put_answer self.old bytes.now }
         ensures after { self.new ≡ after_put self.old bytes.now }
     {

@@ -113,15 +113,7 @@ fn save_created<W: Write>(
 }
 
 impl<R: RuntimeFiles> Files for StdFiles<'_, R> {
-    ghost contents = { λ _. None };
-
-    ghost calls = { λ _. None };
-
-    ghost wants = { λ _. None };
-
-    ghost read_faults = { λ s. s.read_faults };
-
-    ghost save_faults = { λ s. s.save_faults };
+    ghost told = { λ s. record { contents = None; calls = None; wants = None; read_faults = s.read_faults; save_faults = s.save_faults } };
 
     fn read(&mut self, name: &str, max: u64, into: &mut Vec<u8>) -> Result<Got, FileStop> {
         read_opened(fs::open(self.rt, name), max, into, &mut self.read_faults)

@@ -22,11 +22,7 @@ impl<W: Write + Drop> StdSink<W> {
 }
 
 impl<W: Write + Drop> Sink for StdSink<W> {
-    ghost taken = { λ s. W.contents s.inner };
-
-    ghost offered = { λ _. None };
-
-    ghost faults = { λ s. s.faults };
+    ghost told = { λ s. record { taken = W.contents s.inner; offered = None; faults = s.faults } };
 
     #[tactic(auto, using(crate::proofs::Sinks::appends_takes, crate::proofs::Sinks::keeps_part))]
     fn put(&mut self, bytes: &[u8]) -> Result<usize, Failed> {

@@ -1,10 +1,11 @@
 -- Where files tell what they hold, words come to one end: a text, a run or a refusal.
-use Rattle.std.proofs.Common.{ℕ, ◌≡◌, List, [], ◌∷◌, sym, ◌∙◌, subst, Some, None, Option, ⊎_elim}
+use Rattle.std.proofs.Common.{ℕ, ◌≡◌, List, [], ◌∷◌, refl, sym, ◌∙◌, subst, Some, None, Option, ⊎_elim}
 use Rattle.pair_machine.specs.Numbers.{Partition}
 use Rattle.command_course.specs.Course.{Course, Leads, Reads, Refuses, Runs, Writes}
 use Rattle.flux_outside.specs.Outside.{Call, Names}
+use Rattle.flux_outside.specs.Told.{FilesTold}
 use Rattle.run_command.specs.Endings.{Ending}
-use Rattle.flux_top.specs.Clauses.{Accepts, ComesToRefusal, FilesTell, Finishes, LeadsTo, Rejects, SavesNot}
+use Rattle.flux_top.specs.Clauses.{Accepts, ComesToRefusal, Finishes, LeadsTo, Rejects, SavesNot}
 use Rattle.flux_top.specs.Ends.{Ends, EndsOrLoses, IsAtEnd, Loses, LosesNone}
 use Rattle.flux_top.specs.Outcome.{asked}
 
@@ -70,21 +71,47 @@ either_at_end there ending either = ⊎_elim (λ ends. ends_at_end there ending 
 not_refused : (line : List ℕ) (there : Course) → IsAtEnd there → there ≡ Refuses line → ⊥
 not_refused line there at is = subst IsAtEnd is at
 
-leads_to_refusal : (named : Names) (old new : Option (List Call)) (words : List (List ℕ)) (line : List ℕ) → ComesToRefusal (Some named) old new words line → LeadsTo named words (Refuses line)
-leads_to_refusal named old new words line comes = record { course = comes.course; is_asked = comes.is_asked; fact = (comes.fact.calls, comes.fact.leads) }
+-- what named files tell leads words to a refusal, or to an end
+refusal_is_led : (told : Option Names) (words : List (List ℕ)) (named : Names) (course : Course) (calls : List Call) (line : List ℕ) → told ≡ Some named → asked words ≡ Some course
+    → Leads told course calls (Refuses line) → LeadsTo named words (Refuses line)
+refusal_is_led told words named course calls line is asks leads =
+    record { course = course; is_asked = asks; fact = (calls, subst (λ t. Leads t course calls (Refuses line)) is leads) }
 
-leads_to_end : (named : Names) (before : Option (List Call)) (after : FilesTell) (words : List (List ℕ)) (ends : Course → Ending → Type 0) (ending : Ending)
-    → (finishes : Finishes (Some named, before) after words ends ending) → LeadsTo named words finishes.there
-leads_to_end named before after words ends ending finishes =
-    record { course = finishes.comes.course; is_asked = finishes.comes.is_asked; fact = (finishes.reads, finishes.comes.fact) }
+end_is_led : (told : Option Names) (words : List (List ℕ)) (named : Names) (course there : Course) (calls : List Call) → told ≡ Some named → asked words ≡ Some course
+    → Leads told course calls there → LeadsTo named words there
+end_is_led told words named course there calls is asks leads =
+    record { course = course; is_asked = asks; fact = (calls, subst (λ t. Leads t course calls there) is leads) }
+
+-- What is accepted is accepted of named files, and so is what is rejected.
+pub record AcceptedOf (told : Option Names) (words : List (List ℕ)) (kind : Course → Type 0) : Type 0 where
+  pub named : Names
+  pub is : told ≡ Some named
+  pub there : Course
+  pub is_kind : kind there
+  pub leads : LeadsTo named words there
+
+accepted_of : (told : Option Names) (words : List (List ℕ)) (kind : Course → Type 0) → Accepts told words kind → AcceptedOf told words kind
+accepted_of None words kind accepted = absurd accepted
+accepted_of (Some named) words kind accepted = record { named = named; is = refl; there = accepted.0; is_kind = accepted.1; leads = accepted.2 }
+
+pub record RejectedOf (told : Option Names) (words : List (List ℕ)) : Type 0 where
+  pub named : Names
+  pub is : told ≡ Some named
+  pub line : List ℕ
+  pub leads : LeadsTo named words (Refuses line)
+
+rejected_of : (told : Option Names) (words : List (List ℕ)) → Rejects told words → RejectedOf told words
+rejected_of None words rejected = absurd rejected
+rejected_of (Some named) words rejected = record { named = named; is = refl; line = rejected.0; leads = rejected.1 }
 
 -- what is accepted isn't refused
-pub accepted_unrefused : (kind : Course → Type 0) (told : Option Names) (old new : Option (List Call)) (words : List (List ℕ)) (line : List ℕ) → ((there : Course) → kind there → IsAtEnd there)
-    → Accepts told words kind → ComesToRefusal told old new words line → ⊥
-accepted_unrefused kind None old new words line ends accepted refused = accepted
-accepted_unrefused kind (Some named) old new words line ends accepted refused =
-    let at = ends accepted.0 accepted.1 in
-    not_refused line accepted.0 at (one_end_to named words accepted.0 (Refuses line) (end_over accepted.0 at) tt accepted.2 (leads_to_refusal named old new words line refused))
+pub accepted_unrefused : (kind : Course → Type 0) (before after : FilesTold) (words : List (List ℕ)) (line : List ℕ) → ((there : Course) → kind there → IsAtEnd there)
+    → Accepts before.contents words kind → ComesToRefusal before after words line → ⊥
+accepted_unrefused kind before after words line ends accepted refused =
+    let it = accepted_of before.contents words kind accepted in
+    let at = ends it.there it.is_kind in
+    not_refused line it.there at (one_end_to it.named words it.there (Refuses line) (end_over it.there at) tt it.leads
+    (refusal_is_led before.contents words it.named refused.course refused.fact.calls line it.is refused.is_asked refused.fact.leads))
 
 -- what is accepted with no loss isn't lost
 no_loss : (pair : Partition) (there : Course) (ending : Ending) → LosesNone there → Loses pair there ending → ⊥
@@ -93,31 +120,31 @@ no_loss pair (Writes text) ending sure loses = loses
 no_loss pair (Runs run) ending sure loses = loses.lost.unsafe sure
 no_loss pair (Refuses line) ending sure loses = sure
 
-pub accepted_unlost : (told : Option Names) (before : Option (List Call)) (after : FilesTell) (words : List (List ℕ)) (pair : Partition) (ending : Ending)
-    → Accepts told words LosesNone → Finishes (told, before) after words (Loses pair) ending → ⊥
-accepted_unlost None before after words pair ending accepted finishes = accepted
-accepted_unlost (Some named) before after words pair ending accepted finishes =
-    let same : accepted.0 ≡ finishes.there = one_end_to named words accepted.0 finishes.there (end_over accepted.0 (sure_at_end accepted.0 accepted.1))
-    (end_over finishes.there (loses_at_end pair finishes.there ending finishes.ends_so)) accepted.2 (leads_to_end named before after words (Loses pair) ending finishes) in
-    no_loss pair finishes.there ending (subst LosesNone same accepted.1) finishes.ends_so
+pub accepted_unlost : (before after : FilesTold) (words : List (List ℕ)) (pair : Partition) (ending : Ending) → Accepts before.contents words LosesNone
+    → Finishes before after words (Loses pair) ending → ⊥
+accepted_unlost before after words pair ending accepted finishes =
+    let it = accepted_of before.contents words LosesNone accepted in
+    let same : it.there ≡ finishes.there = one_end_to it.named words it.there finishes.there (end_over it.there (sure_at_end it.there it.is_kind))
+    (end_over finishes.there (loses_at_end pair finishes.there ending finishes.ends_so)) it.leads
+    (end_is_led before.contents words it.named finishes.comes.course finishes.there finishes.reads it.is finishes.comes.is_asked finishes.comes.fact) in
+    no_loss pair finishes.there ending (subst LosesNone same it.is_kind) finishes.ends_so
 
 -- what is rejected comes to no end
-pub rejected_unfinished : (told : Option Names) (before : Option (List Call)) (after : FilesTell) (words : List (List ℕ)) (ends : Course → Ending → Type 0) (ending : Ending)
-    → ((there : Course) → ends there ending → IsAtEnd there) → Rejects told words → Finishes (told, before) after words ends ending → ⊥
-rejected_unfinished None before after words ends ending at rejected finishes = rejected
-rejected_unfinished (Some named) before after words ends ending at rejected finishes =
-    let there_at = at finishes.there finishes.ends_so in
-    not_refused rejected.0 finishes.there there_at (one_end_to named words finishes.there (Refuses rejected.0) (end_over finishes.there there_at) tt
-    (leads_to_end named before after words ends ending finishes) rejected.1)
+rejected_not_led : (told : Option Names) (words : List (List ℕ)) (there course : Course) (calls : List Call) → Rejects told words → IsAtEnd there → asked words ≡ Some course
+    → Leads told course calls there → ⊥
+rejected_not_led told words there course calls rejected at asks leads =
+    let it = rejected_of told words rejected in
+    not_refused it.line there at (one_end_to it.named words there (Refuses it.line) (end_over there at) tt (end_is_led told words it.named course there calls it.is asks leads) it.leads)
+
+pub rejected_unfinished : (before after : FilesTold) (words : List (List ℕ)) (ends : Course → Ending → Type 0) (ending : Ending) → ((there : Course) → ends there ending → IsAtEnd there)
+    → Rejects before.contents words → Finishes before after words ends ending → ⊥
+rejected_unfinished before after words ends ending at rejected finishes =
+    rejected_not_led before.contents words finishes.there finishes.comes.course finishes.reads rejected (at finishes.there finishes.ends_so) finishes.comes.is_asked finishes.comes.fact
 
 -- nor to one that wasn't saved
-pub rejected_unsaved : (told : Option Names) (before : Option (List Call)) (after : FilesTell) (words : List (List ℕ)) (saves now : ℕ) → Rejects told words
-    → SavesNot (told, before) after words saves now → ⊥
-rejected_unsaved None before after words saves now rejected unsaved = rejected
-rejected_unsaved (Some named) before after words saves now rejected unsaved =
-    let there_at = either_at_end unsaved.there unsaved.ending unsaved.ends_so in
-    not_refused rejected.0 unsaved.there there_at (one_end_to named words unsaved.there (Refuses rejected.0) (end_over unsaved.there there_at) tt
-    (record { course = unsaved.comes.course; is_asked = unsaved.comes.is_asked; fact = (unsaved.reads, unsaved.comes.fact) }) rejected.1)
+pub rejected_unsaved : (before after : FilesTold) (words : List (List ℕ)) → Rejects before.contents words → SavesNot before after words → ⊥
+rejected_unsaved before after words rejected unsaved =
+    rejected_not_led before.contents words unsaved.there unsaved.comes.course unsaved.reads rejected (either_at_end unsaved.there unsaved.ending unsaved.ends_so) unsaved.comes.is_asked unsaved.comes.fact
 
 none_not_some : {A : Type 0} {x : A} → None ≡ Some x → ⊥
 none_not_some e = cc

@@ -1,5 +1,5 @@
 -- What words come to, of the end of the course that they ask for.
-use Rattle.std.proofs.Common.{ℕ, ◌≡◌, ◌∙◌, List, [], refl, ap, sym, subst, append-nil, Option, Some, None, Ok, Err, ⊎_elim, inl, inr}
+use Rattle.std.proofs.Common.{ℕ, ◌≡◌, ◌∙◌, List, [], refl, ap, sym, subst, append-nil, Some, None, Ok, Err, ⊎_elim, inl, inr}
 use Rattle.std.specs.Prelude.{IfErr, IfOk, IfSome, OnOk, Result, Vec, option_map}
 use Rattle.std.specs.declared.alloc.Global.{Global}
 use Rattle.tuple_edge.specs.declared.event.Drained.{Drained}
@@ -11,10 +11,11 @@ use Rattle.command_course.specs.declared.stop.Stop.{Stop}
 use Rattle.command_course.specs.declared.stop.Stop.TheVariants as stop
 use Rattle.command_course.proofs.Courses.{adds_on}
 use Rattle.command_line.specs.Forms.{Request, form}
-use Rattle.flux_outside.specs.Outside.{Adds, Call, Names}
+use Rattle.flux_outside.specs.Outside.{Adds, Rose}
+use Rattle.flux_outside.specs.Told.{FilesTold, SinkTold}
 use Rattle.run_command.specs.Endings.{CameToRun, Ending, HasEnded, ending_of}
 use Rattle.run_command.specs.declared.outcome.Outcome.{Outcome}
-use Rattle.flux_top.specs.Clauses.{Faults, Finishes, HasCause, IsQuiet, KeepsTo, SavesNot, SavesShort, SinkTells, StopsTo, WritesWhole}
+use Rattle.flux_top.specs.Clauses.{Finishes, HasCause, IsQuiet, KeepsTo, SavesNot, SavesShort, StopsTo, WritesWhole}
 use Rattle.flux_top.specs.Ends.{Ends, EndsBy, EndsOrLoses, Keeps, Loses, MayBeLost, saves_of}
 use Rattle.flux_top.specs.Finish.{IsFinished, IsNotSaved, IsSaved, StopsFinish}
 use Rattle.flux_top.specs.Outcome.{CameToEnd, asked, course_of}
@@ -25,42 +26,42 @@ ends_or_loses : (how : Drained) (there : Course) (ending : Ending) → EndsBy ho
 ends_or_loses drained.Whole there ending ends = inl ends
 ends_or_loses (drained.Lost stage part) there ending ends = inr (partition stage part, ends)
 
-module _ (told mid new : Option Names) (before between after : Option (List Call)) (words : List (List ℕ)) (outcome : Outcome) (same : mid ≡ told) where
+module _ (before between after : FilesTold) (words : List (List ℕ)) (outcome : Outcome) (same : between.contents ≡ before.contents) where
   -- the calls that read, and the one that saves
-  finishes_of : (course : Course) → asked words ≡ Some course → CameToEnd told before between course outcome → (ends : Course → Ending → Type 0)
+  finishes_of : (course : Course) → asked words ≡ Some course → CameToEnd before between course outcome → (ends : Course → Ending → Type 0)
       → ((there : Course) → EndsBy outcome.drained there (ending_of outcome) → ends there (ending_of outcome))
-      → IsSaved (mid, between) (new, after) (ending_of outcome).saved → Finishes (told, before) (new, after) words ends (ending_of outcome)
+      → IsSaved between after (ending_of outcome).saved → Finishes before after words ends (ending_of outcome)
   finishes_of course is ended ends so saved = record {
     there = ended.there;
     reads = ended.came.calls;
     comes = record { course = course; is_asked = is; fact = ended.came.leads };
     ends_so = so ended.there ended.ends;
-    added = adds_on before between after ended.came.calls (saves_of (ending_of outcome).saved) ended.came.added saved.added;
-    keeps = subst (λ names. Keeps names new (ending_of outcome).saved) same saved.keeps;
+    added = adds_on before.calls between.calls after.calls ended.came.calls (saves_of (ending_of outcome).saved) ended.came.added saved.added;
+    keeps = subst (λ names. Keeps names after.contents (ending_of outcome).saved) same saved.keeps;
   }
 
-  not_saved : (course : Course) → asked words ≡ Some course → CameToEnd told before between course outcome → (faults now : ℕ)
-      → IsNotSaved (mid, between) (new, after) (ending_of outcome).saved faults now → SavesNot (told, before) (new, after) words faults now
-  not_saved course is ended faults now fails = record {
+  not_saved : (course : Course) → asked words ≡ Some course → CameToEnd before between course outcome → between.save_faults ≡ before.save_faults
+      → IsNotSaved between after (ending_of outcome).saved → SavesNot before after words
+  not_saved course is ended calm fails = record {
     ending = ending_of outcome;
     there = ended.there;
     reads = ended.came.calls;
     comes = record { course = course; is_asked = is; fact = ended.came.leads };
     ends_so = ends_or_loses outcome.drained ended.there (ending_of outcome) ended.ends;
-    added = adds_on before between after ended.came.calls (saves_of (ending_of outcome).saved) ended.came.added fails.added;
-    others = subst (λ names. MayBeLost names new (ending_of outcome).saved) same fails.others;
-    rose = fails.rose;
+    added = adds_on before.calls between.calls after.calls ended.came.calls (saves_of (ending_of outcome).saved) ended.came.added fails.added;
+    others = subst (λ names. MayBeLost names after.contents (ending_of outcome).saved) same fails.others;
+    rose = subst (λ faults. Rose faults after.save_faults) calm fails.rose;
   }
 
   -- where no memory was to be had, no call was added but those that read
-  reads_alone : (course : Course) → (ended : CameToEnd told before between course outcome) → Adds between after [] → Adds before after ended.came.calls
-  reads_alone course ended none = subst (Adds before after) (append-nil ended.came.calls) (adds_on before between after ended.came.calls [] ended.came.added none)
+  reads_alone : (course : Course) → (ended : CameToEnd before between course outcome) → Adds between.calls after.calls [] → Adds before.calls after.calls ended.came.calls
+  reads_alone course ended none = subst (Adds before.calls after.calls) (append-nil ended.came.calls) (adds_on before.calls between.calls after.calls ended.came.calls [] ended.came.added none)
 
-  short_at_save : (course : Course) → CameToEnd told before between course outcome → Adds between after [] → StoppedShort told before after course
+  short_at_save : (course : Course) → CameToEnd before between course outcome → Adds between.calls after.calls [] → StoppedShort before after course
   short_at_save course ended none = Between ended.there (record { calls = ended.came.calls; leads = ended.came.leads; added = reads_alone course ended none })
 
-  saves_short : (course : Course) → asked words ≡ Some course → CameToEnd told before between course outcome → Adds between after [] → MayBeLost mid new (ending_of outcome).saved
-      → SavesShort (told, before) (new, after) words
+  saves_short : (course : Course) → asked words ≡ Some course → CameToEnd before between course outcome → Adds between.calls after.calls [] → MayBeLost between.contents after.contents (ending_of outcome).saved
+      → SavesShort before after words
   saves_short course is ended none others = record {
     ending = ending_of outcome;
     there = ended.there;
@@ -68,13 +69,13 @@ module _ (told mid new : Option Names) (before between after : Option (List Call
     comes = record { course = course; is_asked = is; fact = ended.came.leads };
     ends_so = ends_or_loses outcome.drained ended.there (ending_of outcome) ended.ends;
     added = reads_alone course ended none;
-    others = subst (λ names. MayBeLost names new (ending_of outcome).saved) same others;
+    others = subst (λ names. MayBeLost names after.contents (ending_of outcome).saved) same others;
   }
 
   -- ---- what was written
 
-  whole_of : (course : Course) → asked words ≡ Some course → CameToEnd told before between course outcome → (old puts : SinkTells) → outcome.drained ≡ drained.Whole
-      → IsFinished (mid, between) (new, after) old puts (ending_of outcome) → WritesWhole (told, before) (new, after) words Ends old puts
+  whole_of : (course : Course) → asked words ≡ Some course → CameToEnd before between course outcome → (old puts : SinkTold) → outcome.drained ≡ drained.Whole
+      → IsFinished between after old puts (ending_of outcome) → WritesWhole before after words Ends old puts
   whole_of course is ended old puts whole finished = record {
     ending = ending_of outcome;
     finishes = finishes_of course is ended Ends (λ there ends. subst (λ how. EndsBy how there (ending_of outcome)) whole ends) finished.saved;
@@ -82,12 +83,12 @@ module _ (told mid new : Option Names) (before between after : Option (List Call
     offers = finished.put.offers;
   }
 
-  stops_to : (course : Course) → asked words ≡ Some course → CameToEnd told before between course outcome → (old puts : SinkTells) (faults : Faults) (why : Stop)
-      → StopsFinish (mid, between) (new, after) old puts faults outcome.drained (ending_of outcome) why → StopsTo (told, before) (new, after) words old puts faults why
-  stops_to course is ended old puts faults stop.Usage stops = absurd stops
-  stops_to course is ended old puts faults (stop.Refused line) stops = absurd stops
-  stops_to course is ended old puts faults (stop.CannotRead line) stops = absurd stops
-  stops_to course is ended old puts faults stop.CannotWrite stops = ⊎_elim
+  stops_to : (course : Course) → asked words ≡ Some course → CameToEnd before between course outcome → between.save_faults ≡ before.save_faults → (old puts : SinkTold) (why : Stop)
+      → StopsFinish between after old puts outcome.drained (ending_of outcome) why → StopsTo before after words old puts why
+  stops_to course is ended calm old puts stop.Usage stops = absurd stops
+  stops_to course is ended calm old puts (stop.Refused line) stops = absurd stops
+  stops_to course is ended calm old puts (stop.CannotRead line) stops = absurd stops
+  stops_to course is ended calm old puts stop.CannotWrite stops = ⊎_elim
       (λ part. inl (record {
         ending = ending_of outcome;
         finishes = finishes_of course is ended EndsOrLoses (λ there ends. ends_or_loses outcome.drained there (ending_of outcome) ends) part.saved;
@@ -95,8 +96,8 @@ module _ (told mid new : Option Names) (before between after : Option (List Call
         offers = part.put.offers;
         rose = part.put.rose;
       }))
-      (λ fails. inr (not_saved course is ended faults.saves_before faults.saves_now fails.0, fails.1)) stops
-  stops_to course is ended old puts faults (stop.PairLost stage part line) stops = record {
+      (λ fails. inr (not_saved course is ended calm fails.0, fails.1)) stops
+  stops_to course is ended calm old puts (stop.PairLost stage part line) stops = record {
     writes = record {
       ending = ending_of outcome;
       finishes = finishes_of course is ended (Loses (partition stage part)) (λ there ends. subst (λ how. EndsBy how there (ending_of outcome)) stops.0 ends) stops.2.saved;
@@ -105,52 +106,53 @@ module _ (told mid new : Option Names) (before between after : Option (List Call
     };
     line_is = stops.1;
   }
-  stops_to course is ended old puts faults stop.OutOfMemory stops = subst (λ c. IfSome c (StoppedShort told before after)) (sym is) (short_at_save course ended stops.added)
+  stops_to course is ended calm old puts stop.OutOfMemory stops = subst (λ c. IfSome c (StoppedShort before after)) (sym is) (short_at_save course ended stops.added)
 
   -- ---- what stays of the files
 
-  keeps_to : (course : Course) → asked words ≡ Some course → CameToEnd told before between course outcome → (old puts : SinkTells) (faults : Faults) (why : Stop)
-      → StopsFinish (mid, between) (new, after) old puts faults outcome.drained (ending_of outcome) why → KeepsTo (told, before) (new, after) words why
-  keeps_to course is ended old puts faults stop.Usage stops = absurd stops
-  keeps_to course is ended old puts faults (stop.Refused line) stops = absurd stops
-  keeps_to course is ended old puts faults (stop.CannotRead line) stops = absurd stops
-  keeps_to course is ended old puts faults stop.CannotWrite stops = tt
-  keeps_to course is ended old puts faults (stop.PairLost stage part line) stops = tt
-  keeps_to course is ended old puts faults stop.OutOfMemory stops = ⊎_elim (λ kept. inl (kept ∙ same)) (λ others. inr (saves_short course is ended stops.added others)) stops.keeps
+  keeps_to : (course : Course) → asked words ≡ Some course → CameToEnd before between course outcome → (old puts : SinkTold) (why : Stop)
+      → StopsFinish between after old puts outcome.drained (ending_of outcome) why → KeepsTo before after words why
+  keeps_to course is ended old puts stop.Usage stops = absurd stops
+  keeps_to course is ended old puts (stop.Refused line) stops = absurd stops
+  keeps_to course is ended old puts (stop.CannotRead line) stops = absurd stops
+  keeps_to course is ended old puts stop.CannotWrite stops = tt
+  keeps_to course is ended old puts (stop.PairLost stage part line) stops = tt
+  keeps_to course is ended old puts stop.OutOfMemory stops = ⊎_elim (λ kept. inl (kept ∙ same)) (λ others. inr (saves_short course is ended stops.added others)) stops.keeps
 
   -- ---- what the last steps of a command answered
 
-  pub finished_whole : (course : Course) (old puts : SinkTells) (result : Result (Unit {0}) Stop) → asked words ≡ Some course → CameToEnd told before between course outcome
-      → OnOk result (outcome.drained ≡ drained.Whole) → OnOk result (IsFinished (mid, between) (new, after) old puts (ending_of outcome))
-      → OnOk result (WritesWhole (told, before) (new, after) words Ends old puts)
+  pub finished_whole : (course : Course) (old puts : SinkTold) (result : Result (Unit {0}) Stop) → asked words ≡ Some course → CameToEnd before between course outcome
+      → OnOk result (outcome.drained ≡ drained.Whole) → OnOk result (IsFinished between after old puts (ending_of outcome))
+      → OnOk result (WritesWhole before after words Ends old puts)
   finished_whole course old puts (Ok x) is ended whole finished = whole_of course is ended old puts whole finished
   finished_whole course old puts (Err why) is ended whole finished = tt
 
-  pub finished_stops : (course : Course) (old puts : SinkTells) (faults : Faults) (result : Result (Unit {0}) Stop) → asked words ≡ Some course → CameToEnd told before between course outcome
-      → IfErr result (λ why. StopsFinish (mid, between) (new, after) old puts faults outcome.drained (ending_of outcome) why)
-      → IfErr result (λ why. StopsTo (told, before) (new, after) words old puts faults why)
-  finished_stops course old puts faults (Ok x) is ended stops = tt
-  finished_stops course old puts faults (Err why) is ended stops = stops_to course is ended old puts faults why stops
+  pub finished_stops : (course : Course) (old puts : SinkTold) (result : Result (Unit {0}) Stop) → asked words ≡ Some course → CameToEnd before between course outcome
+      → between.save_faults ≡ before.save_faults
+      → IfErr result (λ why. StopsFinish between after old puts outcome.drained (ending_of outcome) why)
+      → IfErr result (λ why. StopsTo before after words old puts why)
+  finished_stops course old puts (Ok x) is ended calm stops = tt
+  finished_stops course old puts (Err why) is ended calm stops = stops_to course is ended calm old puts why stops
 
-  pub finished_keeps : (course : Course) (old puts : SinkTells) (faults : Faults) (result : Result (Unit {0}) Stop) → asked words ≡ Some course → CameToEnd told before between course outcome
-      → IfErr result (λ why. StopsFinish (mid, between) (new, after) old puts faults outcome.drained (ending_of outcome) why)
-      → IfErr result (λ why. KeepsTo (told, before) (new, after) words why)
-  finished_keeps course old puts faults (Ok x) is ended stops = tt
-  finished_keeps course old puts faults (Err why) is ended stops = keeps_to course is ended old puts faults why stops
+  pub finished_keeps : (course : Course) (old puts : SinkTold) (result : Result (Unit {0}) Stop) → asked words ≡ Some course → CameToEnd before between course outcome
+      → IfErr result (λ why. StopsFinish between after old puts outcome.drained (ending_of outcome) why)
+      → IfErr result (λ why. KeepsTo before after words why)
+  finished_keeps course old puts (Ok x) is ended stops = tt
+  finished_keeps course old puts (Err why) is ended stops = keeps_to course is ended old puts why stops
 
-  finish_cause : (old puts : SinkTells) (faults : Faults) (reads_before reads_now : ℕ) (why : Stop) → reads_now ≡ reads_before
-      → StopsFinish (mid, between) (new, after) old puts faults outcome.drained (ending_of outcome) why → HasCause reads_before reads_now why
-  finish_cause old puts faults reads_before reads_now stop.Usage still stops = absurd stops
-  finish_cause old puts faults reads_before reads_now (stop.Refused line) still stops = absurd stops
-  finish_cause old puts faults reads_before reads_now (stop.CannotRead line) still stops = absurd stops
-  finish_cause old puts faults reads_before reads_now stop.CannotWrite still stops = still
-  finish_cause old puts faults reads_before reads_now (stop.PairLost stage part line) still stops = still
-  finish_cause old puts faults reads_before reads_now stop.OutOfMemory still stops = tt
+  finish_cause : (old puts : SinkTold) (reads_before reads_now : ℕ) (why : Stop) → reads_now ≡ reads_before
+      → StopsFinish between after old puts outcome.drained (ending_of outcome) why → HasCause reads_before reads_now why
+  finish_cause old puts reads_before reads_now stop.Usage still stops = absurd stops
+  finish_cause old puts reads_before reads_now (stop.Refused line) still stops = absurd stops
+  finish_cause old puts reads_before reads_now (stop.CannotRead line) still stops = absurd stops
+  finish_cause old puts reads_before reads_now stop.CannotWrite still stops = still
+  finish_cause old puts reads_before reads_now (stop.PairLost stage part line) still stops = still
+  finish_cause old puts reads_before reads_now stop.OutOfMemory still stops = tt
 
-  pub finished_cause : (old puts : SinkTells) (faults : Faults) (reads_before reads_now : ℕ) (result : Result (Unit {0}) Stop) → reads_now ≡ reads_before
-      → IfErr result (λ why. StopsFinish (mid, between) (new, after) old puts faults outcome.drained (ending_of outcome) why) → IfErr result (λ why. HasCause reads_before reads_now why)
-  finished_cause old puts faults reads_before reads_now (Ok x) still stops = tt
-  finished_cause old puts faults reads_before reads_now (Err why) still stops = finish_cause old puts faults reads_before reads_now why still stops
+  pub finished_cause : (old puts : SinkTold) (reads_before reads_now : ℕ) (result : Result (Unit {0}) Stop) → reads_now ≡ reads_before
+      → IfErr result (λ why. StopsFinish between after old puts outcome.drained (ending_of outcome) why) → IfErr result (λ why. HasCause reads_before reads_now why)
+  finished_cause old puts reads_before reads_now (Ok x) still stops = tt
+  finished_cause old puts reads_before reads_now (Err why) still stops = finish_cause old puts reads_before reads_now why still stops
 
 -- ---- a command that stopped before its end
 
@@ -158,15 +160,15 @@ module _ (told mid new : Option Names) (before between after : Option (List Call
 pub asked_of : (words : List (List ℕ)) (request : Request) → form words ≡ Some request → asked words ≡ Some (course_of request)
 asked_of words request is = ap (option_map course_of) is
 
-pub stopped_to : (told new : Option Names) (before after : Option (List Call)) (words : List (List ℕ)) (course : Course) (old : SinkTells) (faults : Faults) (why : Stop) → asked words ≡ Some course
-    → StopsOf told before after course why → StopsTo (told, before) (new, after) words old old faults why
-stopped_to told new before after words course old faults stop.Usage is stops = absurd stops
-stopped_to told new before after words course old faults (stop.Refused line) is stops = record { course = course; is_asked = is; fact = stops }
-stopped_to told new before after words course old faults (stop.CannotRead line) is stops =
+pub stopped_to : (before after : FilesTold) (words : List (List ℕ)) (course : Course) (old : SinkTold) (why : Stop) → asked words ≡ Some course
+    → StopsOf before after course why → StopsTo before after words old old why
+stopped_to before after words course old stop.Usage is stops = absurd stops
+stopped_to before after words course old (stop.Refused line) is stops = record { course = course; is_asked = is; fact = stops }
+stopped_to before after words course old (stop.CannotRead line) is stops =
     record { name = stops.name; comes = record { course = course; is_asked = is; fact = stops.came }; line_is = stops.line_is }
-stopped_to told new before after words course old faults stop.CannotWrite is stops = absurd stops
-stopped_to told new before after words course old faults (stop.PairLost stage part line) is stops = absurd stops
-stopped_to told new before after words course old faults stop.OutOfMemory is stops = subst (λ c. IfSome c (StoppedShort told before after)) (sym is) stops
+stopped_to before after words course old stop.CannotWrite is stops = absurd stops
+stopped_to before after words course old (stop.PairLost stage part line) is stops = absurd stops
+stopped_to before after words course old stop.OutOfMemory is stops = subst (λ c. IfSome c (StoppedShort before after)) (sym is) stops
 
 pub stopped_cause : (before now : ℕ) (why : Stop) → HasReadCause before now why → HasCause before now why
 stopped_cause before now stop.Usage cause = cause
@@ -184,20 +186,20 @@ stopped_quiet out stop.CannotWrite = tt
 stopped_quiet out (stop.PairLost stage part line) = tt
 stopped_quiet out stop.OutOfMemory = refl
 
-pub stopped_keeps : (told new : Option Names) (before after : Option (List Call)) (words : List (List ℕ)) (why : Stop) → new ≡ told → KeepsTo (told, before) (new, after) words why
-stopped_keeps told new before after words stop.Usage kept = kept
-stopped_keeps told new before after words (stop.Refused line) kept = kept
-stopped_keeps told new before after words (stop.CannotRead line) kept = kept
-stopped_keeps told new before after words stop.CannotWrite kept = tt
-stopped_keeps told new before after words (stop.PairLost stage part line) kept = tt
-stopped_keeps told new before after words stop.OutOfMemory kept = inl kept
+pub stopped_keeps : (before after : FilesTold) (words : List (List ℕ)) (why : Stop) → after.contents ≡ before.contents → KeepsTo before after words why
+stopped_keeps before after words stop.Usage kept = kept
+stopped_keeps before after words (stop.Refused line) kept = kept
+stopped_keeps before after words (stop.CannotRead line) kept = kept
+stopped_keeps before after words stop.CannotWrite kept = tt
+stopped_keeps before after words (stop.PairLost stage part line) kept = tt
+stopped_keeps before after words stop.OutOfMemory kept = inl kept
 
 -- ---- what a command came to
 
 -- a text alone
-pub text_ends : (told : Option Names) (old new : Option (List Call)) (course : Course) (text : Vec ℕ Global) (outcome : Outcome) → outcome.text ≡ text → outcome.journal ≡ None
-    → outcome.drained ≡ drained.Whole → Came told old new course (Writes text.items) → CameToEnd told old new course outcome
-text_ends told old new course text outcome is none whole came = record {
+pub text_ends : (old new : FilesTold) (course : Course) (text : Vec ℕ Global) (outcome : Outcome) → outcome.text ≡ text → outcome.journal ≡ None
+    → outcome.drained ≡ drained.Whole → Came old new course (Writes text.items) → CameToEnd old new course outcome
+text_ends old new course text outcome is none whole came = record {
   there = Writes text.items;
   came = came;
   ends = subst (λ how. EndsBy how (Writes text.items) (ending_of outcome)) (sym whole) (ap (λ bytes. bytes.items) is, ap (option_map (λ journal. (journal.name.now, journal.bytes.items))) none);
@@ -208,11 +210,11 @@ run_ends_by run drained.Whole ending ended = ended
 run_ends_by run (drained.Lost stage part) ending ended = ended
 
 -- a run
-pub ok_run_ends : (told : Option Names) (old new : Option (List Call)) (course : Course) (result : Result Outcome Stop) → IfOk result (λ outcome. CameToRun told old new course outcome)
-    → IfOk result (λ outcome. CameToEnd told old new course outcome)
-ok_run_ends told old new course (Ok outcome) comes = record {
+pub ok_run_ends : (old new : FilesTold) (course : Course) (result : Result Outcome Stop) → IfOk result (λ outcome. CameToRun old new course outcome)
+    → IfOk result (λ outcome. CameToEnd old new course outcome)
+ok_run_ends old new course (Ok outcome) comes = record {
   there = Runs comes.run;
   came = comes.came;
   ends = run_ends_by comes.run outcome.drained (ending_of outcome) comes.ended;
 }
-ok_run_ends told old new course (Err why) comes = tt
+ok_run_ends old new course (Err why) comes = tt

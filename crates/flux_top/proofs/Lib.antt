@@ -2,3 +2,4 @@ pub mod Completeness
 pub mod Courses
 pub mod Endings
 pub mod Requests
+pub mod Statuses

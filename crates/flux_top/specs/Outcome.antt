@@ -1,5 +1,6 @@
 -- What each command does with its files.
-use Rattle.std.specs.Prelude.{ℕ, ◌≡◌, List, Option, Some, option_map}
+use Rattle.std.specs.Prelude.{ℕ, ◌≡◌, List, Option, Some, String, map, option_map, string_bytes}
+use Rattle.std.specs.declared.alloc.Global.{Global}
 use Rattle.command_line.specs.Forms.{Eval, Make, Move, Replay, Request, Run, Trial, Trio, form}
 use Rattle.trade_text.specs.Text.{text}
 use Rattle.pair_machine.specs.Output.{output}
@@ -7,7 +8,7 @@ use Rattle.trade_maker.specs.MadeText.{made_text}
 use Rattle.command_course.specs.Course.{Came, Course, Writes}
 use Rattle.command_course.specs.FeedView.{FeedView}
 use Rattle.command_course.specs.Feeds.{with_feed}
-use Rattle.flux_outside.specs.Outside.{Call, Names}
+use Rattle.flux_outside.specs.Told.{FilesTold}
 use Rattle.move_command.specs.Outcome.{move_course}
 use Rattle.replay_command.specs.Courses.{replay_course}
 use Rattle.run_command.specs.Courses.{run_course, trial_course}
@@ -34,6 +35,10 @@ course_of (Trial plan start count options) = trial_course plan start count optio
 course_of (Move plan trades moves) = move_course plan trades moves
 course_of (Trio plan trades events) = trio_course plan trades events
 
+-- words as texts
+abbrev pub texts : List (String Global) → List (List ℕ)
+texts words = map string_bytes words
+
 -- the course that words ask for, if they have a form
 abbrev pub asked : List (List ℕ) → Option Course
 asked words = option_map course_of (form words)
@@ -47,7 +52,7 @@ pub record AsksFor (words : List (List ℕ)) (holds : Course → Type 0) : Type 
 -- ---- of the steps of a command
 
 -- a course came to its end, which the outcome says
-pub record CameToEnd (told : Option Names) (old new : Option (List Call)) (course : Course) (outcome : Outcome) : Type 0 where
+pub record CameToEnd (before after : FilesTold) (course : Course) (outcome : Outcome) : Type 0 where
   pub there : Course
-  pub came : Came told old new course there
+  pub came : Came before after course there
   pub ends : EndsBy outcome.drained there (ending_of outcome)

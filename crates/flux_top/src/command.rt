@@ -1,13 +1,12 @@
 // The one call that does what the words of a command line ask for.
-ghost use Rattle.std.specs.Prelude.{◌≡◌, ◌≢◌, ◌⊎◌, IfErr, IfOk, OnOk, Err, None, map, string_bytes};
-ghost use Rattle.command_course.specs.Steps.{HasReadCause, IsWant, StopsOf};
+ghost use Rattle.std.specs.Prelude.{◌≡◌, ◌≢◌, ◌⊎◌, IfErr, IfOk, OnOk, Err, None};
+ghost use Rattle.command_course.specs.Steps.{IsWant, OnlyReads, StopsOf};
 ghost use Rattle.command_course.specs.declared.stop.Stop.TheVariants.{CannotWrite, OutOfMemory, Usage};
 ghost use Rattle.command_line.specs.Views.{IsInRange, request_of};
-ghost use Rattle.flux_outside.specs.Outside.{Rose, StopsAtWant};
-ghost use Rattle.flux_top.specs.Clauses.{Accepts, HasCause, IsQuiet, IsStatus, KeepsFiles, KeepsTo, Rejects, SaysLost, SaysRefusal, SaysUnread, StopsShort, StopsTo, Tells, WritesNot, WritesWhole};
-ghost use Rattle.flux_top.specs.Ends.{Ends, IsAtEnd, LosesNone};
-ghost use Rattle.flux_top.specs.Lines.{cannot_write_line, memory_line, usage_line};
-ghost use Rattle.flux_top.specs.Outcome.{CameToEnd, asked, course_of};
+ghost use Rattle.flux_outside.specs.Outside.{StopsAtWant};
+ghost use Rattle.flux_top.specs.Clauses.{FallsShort, HasCause, IsComplete, IsQuiet, KeepsTo, SaysAt, SaysLost, SaysRefusal, SaysUnread, StaysAt, StopsTo, WritesNot, WritesWhole};
+ghost use Rattle.flux_top.specs.Ends.{Ends};
+ghost use Rattle.flux_top.specs.Outcome.{CameToEnd, asked, course_of, texts};
 ghost use Rattle.tuple_edge.specs.declared.event.Drained.TheVariants as drained;
 
 use crate::eval::eval_text;
@@ -36,7 +35,7 @@ use tuple_edge::Drained;
 /// one read of each input, in order, and then the save of a journal; at 3 those up to the input that is
 /// refused; at 4 those up to the one that could not be read, whose name is said; at 8 those of the inputs
 /// that were accepted, and one more at most; at 2 none.
-#[tactic(auto, using(crate::proofs::Completeness::accepted_unrefused, crate::proofs::Completeness::accepted_asked, crate::proofs::Completeness::rejected_asked, crate::proofs::Courses::wants_for))]
+#[tactic(auto, using(crate::proofs::Statuses::says_done, crate::proofs::Statuses::says_usage, crate::proofs::Statuses::says_refused, crate::proofs::Statuses::says_unread, crate::proofs::Statuses::says_unwritten, crate::proofs::Statuses::says_lost, crate::proofs::Statuses::says_short))]
 pub fn flux<R: Threads + Sync, F: Files, S: Sink, E: Sink, G: Gate>(
     rt: &R,
     alloc: Global,
@@ -47,57 +46,45 @@ pub fn flux<R: Threads + Sync, F: Files, S: Sink, E: Sink, G: Gate>(
     gate: &G,
 ) -> u8
     // 0: the command is done. Its text was written whole; of a run, that is all of the plan's output, each row
-    // once and in order, and its journal a legal list of events that reaches it. Nothing is said.
-    ensures done { result ≡ 0 → WritesWhole (F.contents files.old, F.calls files.old) (F.contents files.new, F.calls files.new) (map string_bytes words.now) Ends (S.taken out.old, S.offered out.old) (S.taken out.new, S.offered out.new) }
-    ensures silent { result ≡ 0 → err.new ≡ err.old }
+    // once and in order, and its journal a legal list of events that reaches it.
+    ensures done { result ≡ 0 → WritesWhole (F.told files.old) (F.told files.new) (texts words.now) Ends (S.told out.old) (S.told out.new) }
 
     // 2: the words ask for nothing: they have no form. Such words end with 2 or,
     // for want of memory, with 8, and no file is asked for.
-    ensures usage { result ≡ 2 → asked (map string_bytes words.now) ≡ None }
-    ensures formless { asked (map string_bytes words.now) ≡ None → (result ≡ 2) ⊎ (result ≡ 8) }
-    ensures usage_line { result ≡ 2 → Tells (E.taken err.old, E.offered err.old) (E.taken err.new, E.offered err.new) (E.faults err.old) (E.faults err.new) usage_line }
-    ensures unasked { asked (map string_bytes words.now) ≡ None → files.new ≡ files.old }
+    ensures usage { result ≡ 2 → asked (texts words.now) ≡ None }
+    ensures formless { asked (texts words.now) ≡ None → ((result ≡ 2) ⊎ (result ≡ 8)) × (files.new ≡ files.old) }
 
     // 3: the first faulty input is refused, and it is said why.
-    ensures refused { result ≡ 3 → SaysRefusal (F.contents files.old) (F.calls files.old) (F.calls files.new) (map string_bytes words.now) (E.taken err.old, E.offered err.old) (E.taken err.new, E.offered err.new) (E.faults err.old) (E.faults err.new) }
+    ensures refused { result ≡ 3 → SaysRefusal (F.told files.old) (F.told files.new) (texts words.now) (E.told err.old) (E.told err.new) }
 
     // 4: the input that was asked for last was not to be had, only where the count of read faults rose; its
     // name is said.
-    ensures unread { result ≡ 4 → SaysUnread (F.contents files.old) (F.calls files.old) (F.calls files.new) (map string_bytes words.now) (E.taken err.old, E.offered err.old) (E.taken err.new, E.offered err.new) (E.faults err.old) (E.faults err.new) }
-    ensures unread_cause { result ≡ 4 → Rose (F.read_faults files.old) (F.read_faults files.new) }
+    ensures unread { result ≡ 4 → SaysUnread (F.told files.old) (F.told files.new) (texts words.now) (E.told err.old) (E.told err.new) }
 
     // 5: a proper prefix of the text was written, only where the count of faults of `out` rose; or nothing,
     // where the journal was not saved and the count of faults of saves rose.
-    ensures unwritten { result ≡ 5 → WritesNot (F.contents files.old, F.calls files.old) (F.contents files.new, F.calls files.new) (map string_bytes words.now) (S.taken out.old, S.offered out.old) (S.taken out.new, S.offered out.new) (record { saves_before = F.save_faults files.old; saves_now = F.save_faults files.new; puts_before = S.faults out.old; puts_now = S.faults out.new }) }
-    ensures unwritten_line { result ≡ 5 → Tells (E.taken err.old, E.offered err.old) (E.taken err.new, E.offered err.new) (E.faults err.old) (E.faults err.new) cannot_write_line }
+    ensures unwritten { result ≡ 5 → WritesNot (F.told files.old) (F.told files.new) (texts words.now) (S.told out.old) (S.told out.new) }
 
     // 6: a pair was lost, under a script that isn't safe; the rows emitted before were written, and it is said
     // which pair.
-    ensures lost { result ≡ 6 → SaysLost (F.contents files.old, F.calls files.old) (F.contents files.new, F.calls files.new) (map string_bytes words.now) (S.taken out.old, S.offered out.old) (S.taken out.new, S.offered out.new) (E.taken err.old, E.offered err.old) (E.taken err.new, E.offered err.new) (E.faults err.old) (E.faults err.new) }
+    ensures lost { result ≡ 6 → SaysLost (F.told files.old) (F.told files.new) (texts words.now) (S.told out.old) (S.told out.new) (E.told err.old) (E.told err.new) }
 
-    // 8: want of memory, after which no file is asked for. There is no other status.
-    ensures short { result ≡ 8 → StopsShort (F.contents files.old) (F.calls files.old) (F.calls files.new) (map string_bytes words.now) }
-    ensures memory_line { result ≡ 8 → Tells (E.taken err.old, E.offered err.old) (E.taken err.new, E.offered err.new) (E.faults err.old) (E.faults err.new) memory_line }
-    ensures wants { StopsAtWant (F.wants files.old) (F.wants files.new) (result ≡ 8) }
-    ensures statuses { IsStatus result }
+    // 8: want of memory, after which no file is asked for. All names hold what they held, but for a journal for
+    // whose save no memory was to be had.
+    ensures short { result ≡ 8 → FallsShort (F.told files.old) (F.told files.new) (texts words.now) }
 
-    // It writes only at 0, 5 and 6, and the count of read faults stays but at 4 and 8.
-    ensures quiet { result ≢ 0 → result ≢ 5 → result ≢ 6 → out.new ≡ out.old }
-    ensures still { result ≢ 4 → result ≢ 8 → F.read_faults files.new ≡ F.read_faults files.old }
+    // There is no other status. 2, 5 and 8 have each a line of their own; at 0 nothing is said. It writes only at
+    // 0, 5 and 6.
+    ensures says { SaysAt result (E.told err.old) (E.told err.new) }
+    ensures quiet { (result ≡ 0 → err.new ≡ err.old) × (result ≢ 0 → result ≢ 5 → result ≢ 6 → out.new ≡ out.old) }
 
-    // It changes what files hold only where it saves a journal: at 0, 5 and 6, or at 8 where no memory was to be had
-    // for that. The count of faults of saves stays but at 5.
-    ensures kept { result ≢ 0 → result ≢ 5 → result ≢ 6 → result ≢ 8 → F.contents files.new ≡ F.contents files.old }
-    ensures kept_short { result ≡ 8 → KeepsFiles (F.contents files.old, F.calls files.old) (F.contents files.new, F.calls files.new) (map string_bytes words.now) }
-    ensures saves_still { result ≢ 5 → F.save_faults files.new ≡ F.save_faults files.old }
+    // Behind a call that found no memory there is none. The count of read faults stays but at 4 and 8, that of saves
+    // but at 5, and what files hold but where a journal is saved: at 0, 5 and 6, or at 8 where memory for that was wanting.
+    ensures stays { StaysAt result (F.told files.old) (F.told files.new) }
 
     // Where the files tell what they hold and no count rose, what they hold is accepted and done, or it is
     // refused, unless no memory was to be had. Only a run under a script that isn't safe may lose a pair.
-    ensures complete { Accepts (F.contents files.old) (map string_bytes words.now) LosesNone → (Rose (F.read_faults files.old) (F.read_faults files.new) → ⊥)
-        → (Rose (F.save_faults files.old) (F.save_faults files.new) → ⊥) → (Rose (S.faults out.old) (S.faults out.new) → ⊥) → (result ≡ 0) ⊎ (result ≡ 8) }
-    ensures may_lose { Accepts (F.contents files.old) (map string_bytes words.now) IsAtEnd → (Rose (F.read_faults files.old) (F.read_faults files.new) → ⊥)
-        → (Rose (F.save_faults files.old) (F.save_faults files.new) → ⊥) → (Rose (S.faults out.old) (S.faults out.new) → ⊥) → (result ≡ 0) ⊎ (result ≡ 6) ⊎ (result ≡ 8) }
-    ensures rejects { Rejects (F.contents files.old) (map string_bytes words.now) → (Rose (F.read_faults files.old) (F.read_faults files.new) → ⊥) → (result ≡ 3) ⊎ (result ≡ 8) }
+    ensures complete { IsComplete result (F.told files.old) (F.told files.new) (texts words.now) (S.told out.old) (S.told out.new) }
 {
     match run(rt, alloc, words, files, out, gate) {
         Ok(()) => 0,
@@ -142,15 +129,15 @@ fn run<R: Threads + Sync, F: Files, S: Sink, G: Gate>(
     out: &mut S,
     gate: &G,
 ) -> Result<(), Stop>
-    ensures done { OnOk result (WritesWhole (F.contents files.old, F.calls files.old) (F.contents files.new, F.calls files.new) (map string_bytes words.now) Ends (S.taken out.old, S.offered out.old) (S.taken out.new, S.offered out.new)) }
-    ensures usage { asked (map string_bytes words.now) ≡ None → (result ≡ Err Usage) ⊎ (result ≡ Err OutOfMemory) }
-    ensures unasked { asked (map string_bytes words.now) ≡ None → files.new ≡ files.old }
-    ensures stops { IfErr result (λ stop. StopsTo (F.contents files.old, F.calls files.old) (F.contents files.new, F.calls files.new) (map string_bytes words.now) (S.taken out.old, S.offered out.old) (S.taken out.new, S.offered out.new) (record { saves_before = F.save_faults files.old; saves_now = F.save_faults files.new; puts_before = S.faults out.old; puts_now = S.faults out.new }) stop) }
-    ensures cause { IfErr result (λ stop. HasCause (F.read_faults files.old) (F.read_faults files.new) stop) }
-    ensures still { OnOk result (F.read_faults files.new ≡ F.read_faults files.old) }
-    ensures kept { IfErr result (λ stop. KeepsTo (F.contents files.old, F.calls files.old) (F.contents files.new, F.calls files.new) (map string_bytes words.now) stop) }
-    ensures saves { result ≢ Err CannotWrite → F.save_faults files.new ≡ F.save_faults files.old }
-    ensures wants { StopsAtWant (F.wants files.old) (F.wants files.new) (IsWant result) }
+    ensures done { OnOk result (WritesWhole (F.told files.old) (F.told files.new) (texts words.now) Ends (S.told out.old) (S.told out.new)) }
+    ensures usage { asked (texts words.now) ≡ None → (result ≡ Err Usage) ⊎ (result ≡ Err OutOfMemory) }
+    ensures unasked { asked (texts words.now) ≡ None → files.new ≡ files.old }
+    ensures stops { IfErr result (λ stop. StopsTo (F.told files.old) (F.told files.new) (texts words.now) (S.told out.old) (S.told out.new) stop) }
+    ensures cause { IfErr result (λ stop. HasCause (F.told files.old).read_faults (F.told files.new).read_faults stop) }
+    ensures still { OnOk result ((F.told files.new).read_faults ≡ (F.told files.old).read_faults) }
+    ensures kept { IfErr result (λ stop. KeepsTo (F.told files.old) (F.told files.new) (texts words.now) stop) }
+    ensures saves { result ≢ Err CannotWrite → (F.told files.new).save_faults ≡ (F.told files.old).save_faults }
+    ensures wants { StopsAtWant (F.told files.old).wants (F.told files.new).wants (IsWant result) }
     ensures quiet { IfErr result (λ stop. IsQuiet out.old out.new stop) }
 {
     match read_words(alloc, words) {
@@ -164,7 +151,7 @@ fn run<R: Threads + Sync, F: Files, S: Sink, G: Gate>(
 }
 
 // What a command comes to.
-#[tactic(auto, using(crate::proofs::Endings::text_ends))]
+#[tactic(auto, using(crate::proofs::Endings::text_ends, crate::proofs::Courses::reads_none, crate::proofs::Courses::reads_stopped, crate::proofs::Courses::reads_then))]
 fn outcome_of<'a, R: Threads + Sync, F: Files, G: Gate>(
     rt: &R,
     alloc: Global,
@@ -173,13 +160,9 @@ fn outcome_of<'a, R: Threads + Sync, F: Files, G: Gate>(
     gate: &G,
 ) -> Result<Outcome<'a>, Stop>
     requires { IsInRange command }
-    ensures comes { IfOk result (λ outcome. CameToEnd (F.contents files.old) (F.calls files.old) (F.calls files.new) (course_of (request_of command.entry)) outcome) }
-    ensures stops { IfErr result (λ stop. StopsOf (F.contents files.old) (F.calls files.old) (F.calls files.new) (course_of (request_of command.entry)) stop) }
-    ensures cause { IfErr result (λ stop. HasReadCause (F.read_faults files.old) (F.read_faults files.new) stop) }
-    ensures still { OnOk result (F.read_faults files.new ≡ F.read_faults files.old) }
-    ensures wants { StopsAtWant (F.wants files.old) (F.wants files.new) (IsWant result) }
-    ensures contents { F.contents files.new ≡ F.contents files.old }
-    ensures saves { F.save_faults files.new ≡ F.save_faults files.old }
+    ensures comes { IfOk result (λ outcome. CameToEnd (F.told files.old) (F.told files.new) (course_of (request_of command.entry)) outcome) }
+    ensures stops { IfErr result (λ stop. StopsOf (F.told files.old) (F.told files.new) (course_of (request_of command.entry)) stop) }
+    ensures reads { OnlyReads (F.told files.old) (F.told files.new) result }
 {
     match command {
         Command::Eval { plan, trades, cash } => match eval_text(alloc, files, plan, trades, cash) {

@@ -1,12 +1,11 @@
 // The command `eval`: the output of a plan, on one thread.
-ghost use Rattle.std.specs.Prelude.{◌≡◌, IfErr, IfOk, OnOk, option_map};
+ghost use Rattle.std.specs.Prelude.{◌≡◌, IfErr, IfOk, option_map};
 ghost use Rattle.pair_machine.specs.Output.{output};
 ghost use Rattle.trade_text.specs.Text.{text};
 ghost use Rattle.trade_text.specs.TradesView.{inputs_in};
 ghost use Rattle.command_course.specs.Course.{Came, Writes};
 ghost use Rattle.command_course.specs.Feeds.{IsFed};
-ghost use Rattle.command_course.specs.Steps.{HasReadCause, IsWant, StopsOf};
-ghost use Rattle.flux_outside.specs.Outside.{StopsAtWant};
+ghost use Rattle.command_course.specs.Steps.{OnlyReads, StopsOf};
 ghost use Rattle.flux_top.specs.Outcome.{eval_course};
 
 use command_course::{Feed, Stop, feed_at};
@@ -17,6 +16,7 @@ use trade_text::write_output;
 use tuple_edge::OutOfMemory;
 
 /// The text that `eval` writes.
+#[tactic(auto, using(crate::proofs::Courses::reads_stopped, crate::proofs::Courses::reads_then))]
 pub(crate) fn eval_text<F: Files>(
     alloc: Global,
     files: &mut F,
@@ -24,13 +24,9 @@ pub(crate) fn eval_text<F: Files>(
     trades: &str,
     cash: Option<&str>,
 ) -> Result<Vec<u8>, Stop>
-    ensures comes { IfOk result (λ bytes. Came (F.contents files.old) (F.calls files.old) (F.calls files.new) (eval_course plan.now trades.now (option_map (λ name. name.now) cash.entry)) (Writes bytes.items)) }
-    ensures stops { IfErr result (λ stop. StopsOf (F.contents files.old) (F.calls files.old) (F.calls files.new) (eval_course plan.now trades.now (option_map (λ name. name.now) cash.entry)) stop) }
-    ensures cause { IfErr result (λ stop. HasReadCause (F.read_faults files.old) (F.read_faults files.new) stop) }
-    ensures still { OnOk result (F.read_faults files.new ≡ F.read_faults files.old) }
-    ensures wants { StopsAtWant (F.wants files.old) (F.wants files.new) (IsWant result) }
-    ensures contents { F.contents files.new ≡ F.contents files.old }
-    ensures saves { F.save_faults files.new ≡ F.save_faults files.old }
+    ensures comes { IfOk result (λ bytes. Came (F.told files.old) (F.told files.new) (eval_course plan.now trades.now (option_map (λ name. name.now) cash.entry)) (Writes bytes.items)) }
+    ensures stops { IfErr result (λ stop. StopsOf (F.told files.old) (F.told files.new) (eval_course plan.now trades.now (option_map (λ name. name.now) cash.entry)) stop) }
+    ensures reads { OnlyReads (F.told files.old) (F.told files.new) result }
 {
     match feed_at(alloc, files, plan, trades, cash) {
         Ok(feed) => written(alloc, &feed),

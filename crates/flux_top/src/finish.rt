@@ -24,11 +24,11 @@ pub(crate) fn finish<F: Files, S: Sink>(
     outcome: &Outcome<'_>,
 ) -> Result<(), Stop>
     ensures whole { OnOk result (outcome.now.drained ≡ drained.Whole) }
-    ensures finished { OnOk result (IsFinished (F.contents files.old, F.calls files.old) (F.contents files.new, F.calls files.new) (S.taken out.old, S.offered out.old) (S.taken out.new, S.offered out.new) (ending_of outcome.now)) }
-    ensures stops { IfErr result (λ stop. StopsFinish (F.contents files.old, F.calls files.old) (F.contents files.new, F.calls files.new) (S.taken out.old, S.offered out.old) (S.taken out.new, S.offered out.new) (record { saves_before = F.save_faults files.old; saves_now = F.save_faults files.new; puts_before = S.faults out.old; puts_now = S.faults out.new }) outcome.now.drained (ending_of outcome.now) stop) }
-    ensures still { F.read_faults files.new ≡ F.read_faults files.old }
-    ensures saves { result ≢ Err CannotWrite → F.save_faults files.new ≡ F.save_faults files.old }
-    ensures wants { StopsAtWant (F.wants files.old) (F.wants files.new) (IsWant result) }
+    ensures finished { OnOk result (IsFinished (F.told files.old) (F.told files.new) (S.told out.old) (S.told out.new) (ending_of outcome.now)) }
+    ensures stops { IfErr result (λ stop. StopsFinish (F.told files.old) (F.told files.new) (S.told out.old) (S.told out.new) outcome.now.drained (ending_of outcome.now) stop) }
+    ensures still { (F.told files.new).read_faults ≡ (F.told files.old).read_faults }
+    ensures saves { result ≢ Err CannotWrite → (F.told files.new).save_faults ≡ (F.told files.old).save_faults }
+    ensures wants { StopsAtWant (F.told files.old).wants (F.told files.new).wants (IsWant result) }
     ensures quiet { IfErr result (λ stop. IsQuiet out.old out.new stop) }
 {
     match said_of(alloc, outcome.drained) {
@@ -55,11 +55,11 @@ fn said_of(alloc: Global, how: Drained) -> Result<Option<Stop>, OutOfMemory>
 
 // Saves the journal, if there is one.
 fn save<F: Files>(files: &mut F, outcome: &Outcome<'_>) -> Result<(), Stop>
-    ensures saved { OnOk result (IsSaved (F.contents files.old, F.calls files.old) (F.contents files.new, F.calls files.new) (ending_of outcome.now).saved) }
-    ensures stops { IfErr result (λ stop. StopsSave (F.contents files.old, F.calls files.old) (F.contents files.new, F.calls files.new) (ending_of outcome.now).saved (F.save_faults files.old) (F.save_faults files.new) stop) }
-    ensures still { F.read_faults files.new ≡ F.read_faults files.old }
-    ensures saves { result ≢ Err CannotWrite → F.save_faults files.new ≡ F.save_faults files.old }
-    ensures wants { StopsAtWant (F.wants files.old) (F.wants files.new) (IsWant result) }
+    ensures saved { OnOk result (IsSaved (F.told files.old) (F.told files.new) (ending_of outcome.now).saved) }
+    ensures stops { IfErr result (λ stop. StopsSave (F.told files.old) (F.told files.new) (ending_of outcome.now).saved stop) }
+    ensures still { (F.told files.new).read_faults ≡ (F.told files.old).read_faults }
+    ensures saves { result ≢ Err CannotWrite → (F.told files.new).save_faults ≡ (F.told files.old).save_faults }
+    ensures wants { StopsAtWant (F.told files.old).wants (F.told files.new).wants (IsWant result) }
 {
     match &outcome.journal {
         None => Ok(()),
@@ -74,9 +74,9 @@ fn save<F: Files>(files: &mut F, outcome: &Outcome<'_>) -> Result<(), Stop>
 // Writes the text, and says then if a pair was lost.
 fn written<S: Sink>(out: &mut S, outcome: &Outcome<'_>, lost: Option<Stop>) -> Result<(), Stop>
     requires { Says outcome.now.drained lost }
-    ensures put { OnOk result (IsPut (S.taken out.old, S.offered out.old) (S.taken out.new, S.offered out.new) outcome.now.text.items) }
+    ensures put { OnOk result (IsPut (S.told out.old) (S.told out.new) outcome.now.text.items) }
     ensures whole { OnOk result (outcome.now.drained ≡ drained.Whole) }
-    ensures stops { IfErr result (λ stop. StopsPut (S.taken out.old, S.offered out.old) (S.taken out.new, S.offered out.new) (S.faults out.old) (S.faults out.new) outcome.now.drained outcome.now.text.items stop) }
+    ensures stops { IfErr result (λ stop. StopsPut (S.told out.old) (S.told out.new) outcome.now.drained outcome.now.text.items stop) }
 {
     match write_all(out, &outcome.text) {
         Err(Failed) => Err(Stop::CannotWrite),

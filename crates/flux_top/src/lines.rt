@@ -10,7 +10,7 @@ use tuple_edge::OutOfMemory;
 
 /// Says a line. A fault of the sink changes nothing.
 pub fn say<E: Sink>(err: &mut E, line: &str)
-    ensures { Tells (E.taken err.old, E.offered err.old) (E.taken err.new, E.offered err.new) (E.faults err.old) (E.faults err.new) line.now }
+    ensures { Tells (E.told err.old) (E.told err.new) line.now }
 {
     match write_all(err, line.as_bytes()) {
         Ok(()) => (),

@@ -3,7 +3,7 @@
 #![tactic(auto)]
 
 use flux_outside::{StdFiles, StdSink};
-use live_top::{FreeGate, flux_live};
+use live_top::flux_live;
 use std::alloc::{AllocError, Global};
 use std::env;
 use std::io::{self, ErrorKind};
@@ -21,9 +21,7 @@ fn main(rt: HostRuntime) -> ExitCode {
     let mut files = StdFiles::new(&rt, alloc);
     let mut out = StdSink::new(rt.stdout());
     let mut err = StdSink::new(rt.stderr());
-    ExitCode::from(flux_live(
-        &rt, alloc, &words, &mut files, &mut out, &mut err, &FreeGate,
-    ))
+    ExitCode::from(flux_live(&rt, alloc, &words, &mut files, &mut out, &mut err))
 }
 
 // The words after the program's name. Words that are no text have no form, so they count as none.

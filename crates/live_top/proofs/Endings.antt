@@ -1,19 +1,18 @@
 -- How a live run ended, from its inputs on.
-use Rattle.std.proofs.Common.{ℕ, ◌≡◌, List, sym, subst, refl, Option, Ok, Err, ⊎_elim, inl, inr}
+use Rattle.std.proofs.Common.{ℕ, ◌≡◌, List, sym, subst, refl, Ok, Err, ⊎_elim, inl, inr}
 use Rattle.std.specs.Prelude.{IfErr, OnOk, Result}
 use Rattle.pair_machine.specs.declared.order.Order.{Order}
 use Rattle.command_course.specs.FeedView.{FeedView}
 use Rattle.command_course.specs.declared.stop.Stop.{Stop}
 use Rattle.command_course.specs.declared.stop.Stop.TheVariants as stop
-use Rattle.flux_outside.specs.Outside.{Call, Names}
+use Rattle.flux_outside.specs.Told.{FilesTold, SinkTold}
 use Rattle.flux_top.specs.Clauses.{HasCause}
-use Rattle.row_wire.specs.Written.{Told}
 use Rattle.live_feed.specs.declared.answer.Live.{Live}
 use Rattle.live_feed.specs.declared.answer.Live.TheVariants as live
 use Rattle.live_top.specs.Clauses.{IsQuiet, NamesLost, StopsBefore, StopsLive, StopsTo}
 use Rattle.live_top.specs.Runs.{ComesToRun, Lived, RunLives}
 
-module _ (feed : FeedView) (script : List Order) (old new : Told) where
+module _ (feed : FeedView) (script : List Order) (old new : SinkTold) where
   -- what was put is a front of the text also where no memory was to be had for the line
   falls_short : (answer : Live) → RunLives feed script old new answer → RunLives feed script old new live.OutOfMemory
   falls_short answer lives = record { answers = tt; front = lives.front; later = lives.later }
@@ -23,15 +22,15 @@ module _ (feed : FeedView) (script : List Order) (old new : Told) where
       (λ want. subst (StopsLive feed script old new) (sym want) (falls_short (live.Lost stage part) lives))
       (λ says. subst (StopsLive feed script old new) (sym says.1) (lives, says.2)) names
 
-  module _ (told : Option Names) (before after : Option (List Call)) (words : List (List ℕ)) (comes : ComesToRun told before after words feed script) where
-    lived : (answer : Live) → RunLives feed script old new answer → Lived told before after words old new answer
+  module _ (before after : FilesTold) (words : List (List ℕ)) (comes : ComesToRun before after words feed script) where
+    lived : (answer : Live) → RunLives feed script old new answer → Lived before after words old new answer
     lived answer lives = record { feed = feed; script = script; comes = comes; lives = lives }
 
-    pub lived_whole : (result : Result (Unit {0}) Stop) → OnOk result (RunLives feed script old new live.Done) → OnOk result (Lived told before after words old new live.Done)
+    pub lived_whole : (result : Result (Unit {0}) Stop) → OnOk result (RunLives feed script old new live.Done) → OnOk result (Lived before after words old new live.Done)
     lived_whole (Ok x) lives = lived live.Done lives
     lived_whole (Err why) lives = tt
 
-    stops_to : (why : Stop) → StopsLive feed script old new why → StopsTo told before after words old new why
+    stops_to : (why : Stop) → StopsLive feed script old new why → StopsTo before after words old new why
     stops_to stop.Usage stops = absurd stops
     stops_to (stop.Refused line) stops = absurd stops
     stops_to (stop.CannotRead line) stops = absurd stops
@@ -39,7 +38,7 @@ module _ (feed : FeedView) (script : List Order) (old new : Told) where
     stops_to (stop.PairLost stage part line) stops = (lived (live.Lost stage part) stops.0, stops.1)
     stops_to stop.OutOfMemory stops = inr (lived live.OutOfMemory stops)
 
-    pub lived_stops : (result : Result (Unit {0}) Stop) → IfErr result (λ why. StopsLive feed script old new why) → IfErr result (λ why. StopsTo told before after words old new why)
+    pub lived_stops : (result : Result (Unit {0}) Stop) → IfErr result (λ why. StopsLive feed script old new why) → IfErr result (λ why. StopsTo before after words old new why)
     lived_stops (Ok x) stops = tt
     lived_stops (Err why) stops = stops_to why stops
 
@@ -69,14 +68,14 @@ module _ (feed : FeedView) (script : List Order) (old new : Told) where
 
 -- ---- a run that wasn't begun
 
-pub stopped_before : (told : Option Names) (before after : Option (List Call)) (words : List (List ℕ)) (out : Told) (why : Stop) → StopsBefore told before after words why
-    → StopsTo told before after words out out why
-stopped_before told before after words out stop.Usage stops = stops
-stopped_before told before after words out (stop.Refused line) stops = stops
-stopped_before told before after words out (stop.CannotRead line) stops = stops
-stopped_before told before after words out stop.CannotWrite stops = absurd stops
-stopped_before told before after words out (stop.PairLost stage part line) stops = absurd stops
-stopped_before told before after words out stop.OutOfMemory stops = inl (stops, refl)
+pub stopped_before : (before after : FilesTold) (words : List (List ℕ)) (out : SinkTold) (why : Stop) → StopsBefore before after words why
+    → StopsTo before after words out out why
+stopped_before before after words out stop.Usage stops = stops
+stopped_before before after words out (stop.Refused line) stops = stops
+stopped_before before after words out (stop.CannotRead line) stops = stops
+stopped_before before after words out stop.CannotWrite stops = absurd stops
+stopped_before before after words out (stop.PairLost stage part line) stops = absurd stops
+stopped_before before after words out stop.OutOfMemory stops = inl (stops, refl)
 
 pub quiet_before : {A : Type 0} (out : A) (why : Stop) → IsQuiet out out why
 quiet_before out stop.Usage = refl

@@ -2,12 +2,13 @@
 use Rattle.std.proofs.Common.{ℕ, ◌≡◌, ◌∙◌, List, ap, sym, subst, Option, Some, Ok, Err, ⊎_elim, string_bytes}
 use Rattle.std.specs.Prelude.{IfErr, IfOk, IfSome, Result}
 use Rattle.command_course.specs.Course.{AtReading, Between, Came, Course, Refuses, Runs, StoppedShort}
-use Rattle.command_course.specs.Steps.{HasReadCause, IsWant, StopsOf}
+use Rattle.command_course.specs.Steps.{HasReadCause, IsWant, OnlyReads, StopsOf}
 use Rattle.command_course.specs.declared.stop.Stop.{Stop}
 use Rattle.command_course.specs.declared.stop.Stop.TheVariants as stop
 use Rattle.command_course.proofs.Courses.{came_on, stops_on}
-pub use Rattle.command_course.proofs.Courses.{wants_for, wants_on}
-use Rattle.flux_outside.specs.Outside.{Call, Names, StopsAtWant, Wants}
+pub use Rattle.command_course.proofs.Courses.{reads_on, reads_stopped, reads_then, wants_for}
+use Rattle.flux_outside.specs.Outside.{StopsAtWant, Wants}
+use Rattle.flux_outside.specs.Told.{FilesTold}
 use Rattle.flux_top.specs.Outcome.{asked}
 use Rattle.live_top.specs.Clauses.{IsOwn, StopsBefore}
 use Rattle.live_top.specs.Lines.{own_line}
@@ -17,39 +18,39 @@ use Rattle.live_top.specs.declared.given.Given.{Given}
 
 -- ---- one reading behind the other
 
-pub ok_given_on : (told there_told : Option Names) (old mid new : Option (List Call)) (course between : Course) (result : Result Given Stop) → there_told ≡ told → Came told old mid course between
-    → IfOk result (λ given. Came there_told mid new between (Runs (run_in given))) → IfOk result (λ given. Came told old new course (Runs (run_in given)))
-ok_given_on told there_told old mid new course between (Ok given) same first next =
-    came_on told old mid new course between (Runs (run_in given)) first (subst (λ named. Came named mid new between (Runs (run_in given))) same next)
-ok_given_on told there_told old mid new course between (Err why) same first next = tt
+pub ok_given_on : (old mid new : FilesTold) (course between : Course) (result : Result Given Stop) → mid.contents ≡ old.contents → Came old mid course between
+    → IfOk result (λ given. Came mid new between (Runs (run_in given))) → IfOk result (λ given. Came old new course (Runs (run_in given)))
+ok_given_on old mid new course between (Ok given) same first next =
+    came_on old mid new course between (Runs (run_in given)) same first next
+ok_given_on old mid new course between (Err why) same first next = tt
 
-pub err_given_on : (told there_told : Option Names) (old mid new : Option (List Call)) (course between : Course) (result : Result Given Stop) → there_told ≡ told → Came told old mid course between
-    → IfErr result (λ why. StopsOf there_told mid new between why) → IfErr result (λ why. StopsOf told old new course why)
-err_given_on told there_told old mid new course between (Ok given) same first next = tt
-err_given_on told there_told old mid new course between (Err why) same first next =
-    stops_on told old mid new course between why first (subst (λ named. StopsOf named mid new between why) same next)
+pub err_given_on : (old mid new : FilesTold) (course between : Course) (result : Result Given Stop) → mid.contents ≡ old.contents → Came old mid course between
+    → IfErr result (λ why. StopsOf mid new between why) → IfErr result (λ why. StopsOf old new course why)
+err_given_on old mid new course between (Ok given) same first next = tt
+err_given_on old mid new course between (Err why) same first next =
+    stops_on old mid new course between why same first next
 
 -- ---- the own name
 
-module _ (told : Option Names) (old new : Option (List Call)) (words : List (List ℕ)) (course : Course) (is : asked (as_run words) ≡ Some course) where
-  short : StoppedShort told old new course → IfSome (asked (as_run words)) (StoppedShort told old new)
-  short stopped = subst (λ c. IfSome c (StoppedShort told old new)) (sym is) stopped
+module _ (old new : FilesTold) (words : List (List ℕ)) (course : Course) (is : asked (as_run words) ≡ Some course) where
+  short : StoppedShort old new course → IfSome (asked (as_run words)) (StoppedShort old new)
+  short stopped = subst (λ c. IfSome c (StoppedShort old new)) (sym is) stopped
 
-  pub own_stops : (why own : Stop) → StopsOf told old new course why → IsOwn why own → StopsBefore told old new words own
+  pub own_stops : (why own : Stop) → StopsOf old new course why → IsOwn why own → StopsBefore old new words own
   own_stops stop.Usage own stops is_own = absurd stops
   own_stops (stop.Refused line) own stops is_own = ⊎_elim
-      (λ want. subst (StopsBefore told old new words) (sym want) (short (Between (Refuses (string_bytes line)) stops)))
-      (λ says. subst (StopsBefore told old new words) (sym says.1)
+      (λ want. subst (StopsBefore old new words) (sym want) (short (Between (Refuses (string_bytes line)) stops)))
+      (λ says. subst (StopsBefore old new words) (sym says.1)
       (record { line = string_bytes line; comes = record { course = course; is_asked = is; fact = stops }; said_is = says.2 })) is_own
   own_stops (stop.CannotRead line) own stops is_own = ⊎_elim
-      (λ want. subst (StopsBefore told old new words) (sym want) (short (AtReading stops.name stops.came)))
-      (λ says. subst (StopsBefore told old new words) (sym says.1)
+      (λ want. subst (StopsBefore old new words) (sym want) (short (AtReading stops.name stops.came)))
+      (λ says. subst (StopsBefore old new words) (sym says.1)
       (record { name = stops.name; comes = record { course = course; is_asked = is; fact = stops.came }; said_is = says.2 ∙ ap own_line stops.line_is })) is_own
   own_stops stop.CannotWrite own stops is_own = absurd stops
   own_stops (stop.PairLost stage part line) own stops is_own = absurd stops
-  own_stops stop.OutOfMemory own stops is_own = subst (StopsBefore told old new words) (sym is_own) (short stops)
+  own_stops stop.OutOfMemory own stops is_own = subst (StopsBefore old new words) (sym is_own) (short stops)
 
-pub own_cause : (before now : ℕ) (why own : Stop) → HasReadCause before now why → IsOwn why own → HasReadCause before now own
+own_cause : (before now : ℕ) (why own : Stop) → HasReadCause before now why → IsOwn why own → HasReadCause before now own
 own_cause before now stop.Usage own cause is_own = subst (HasReadCause before now) (sym is_own) cause
 own_cause before now (stop.Refused line) own cause is_own = ⊎_elim
     (λ want. subst (HasReadCause before now) (sym want) tt) (λ says. subst (HasReadCause before now) (sym says.1) cause) is_own
@@ -67,5 +68,14 @@ want_stays A stop.CannotWrite own is_own want = absurd want
 want_stays A (stop.PairLost stage part line) own is_own want = absurd want
 want_stays A stop.OutOfMemory own is_own want = subst (λ s. IsWant {A = A} (Err s)) (sym is_own) tt
 
-pub own_wants : (A : Type 0) (old new : Option Wants) (why own : Stop) → IsOwn why own → StopsAtWant old new (IsWant {A = A} (Err why)) → StopsAtWant old new (IsWant {A = A} (Err own))
+own_wants : (A : Type 0) (old new : Option Wants) (why own : Stop) → IsOwn why own → StopsAtWant old new (IsWant {A = A} (Err why)) → StopsAtWant old new (IsWant {A = A} (Err own))
 own_wants A old new why own is_own wants = wants_for old new (IsWant {A = A} (Err why)) (IsWant {A = A} (Err own)) (want_stays A why own is_own) wants
+
+pub own_reads : (A : Type 0) (old new : FilesTold) (why own : Stop) → IsOwn why own → OnlyReads {A = A} old new (Err why) → OnlyReads {A = A} old new (Err own)
+own_reads A old new why own is_own reads = record {
+  contents = reads.contents;
+  saves = reads.saves;
+  wants = own_wants A old.wants new.wants why own is_own reads.wants;
+  cause = own_cause old.read_faults new.read_faults why own reads.cause is_own;
+  still = tt;
+}

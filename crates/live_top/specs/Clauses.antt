@@ -1,5 +1,5 @@
 -- What the clauses of `flux_live` and of its steps say.
-use Rattle.std.specs.Prelude.{ℕ, ◌≡◌, ◌⊎◌, List, Option, None}
+use Rattle.std.specs.Prelude.{ℕ, ◌≡◌, ◌⊎◌, List, None}
 use Rattle.std.specs.String.{string_bytes}
 use Rattle.pair_machine.specs.Drain.{partition}
 use Rattle.pair_machine.specs.Numbers.{Partition}
@@ -8,11 +8,11 @@ use Rattle.command_course.specs.FeedView.{FeedView}
 use Rattle.command_course.specs.Lines.{cannot_read_line}
 use Rattle.command_course.specs.declared.stop.Stop.{Stop}
 use Rattle.command_course.specs.declared.stop.Stop.TheVariants as stop
-use Rattle.flux_outside.specs.Outside.{Call, Names}
-use Rattle.flux_top.specs.Clauses.{ComesToRead, ComesToRefusal, SinkTells, StopsShort, Tells}
+use Rattle.flux_outside.specs.Outside.{Rose}
+use Rattle.flux_outside.specs.Told.{FilesTold, SinkTold}
+use Rattle.flux_top.specs.Clauses.{ComesToRead, ComesToRefusal, StopsShort, Tells}
 use Rattle.flux_top.specs.Lines.{lost_line}
 use Rattle.flux_top.specs.Outcome.{asked}
-use Rattle.row_wire.specs.Written.{Told}
 use Rattle.live_feed.specs.declared.answer.Live.TheVariants as live
 use Rattle.live_top.specs.Lines.{own_line}
 use Rattle.live_top.specs.Runs.{Lived, RunLives}
@@ -21,26 +21,27 @@ use Rattle.live_top.specs.Words.{as_run}
 -- ---- of `flux_live`
 
 -- an input was refused, and the line of `flux` was said of it, under the own name
-pub record SaysRefusal (told : Option Names) (before after : Option (List Call)) (words : List (List ℕ)) (old new : SinkTells) (faults now : ℕ) : Type 0 where
+pub record SaysRefusal (before after : FilesTold) (words : List (List ℕ)) (old new : SinkTold) : Type 0 where
   pub line : List ℕ
-  pub comes : ComesToRefusal told before after (as_run words) line
-  pub tells : Tells old new faults now (own_line line)
+  pub comes : ComesToRefusal before after (as_run words) line
+  pub tells : Tells old new (own_line line)
 
--- the file that was to be read last could not be read, and its name was said
-pub record SaysUnread (told : Option Names) (before after : Option (List Call)) (words : List (List ℕ)) (old new : SinkTells) (faults now : ℕ) : Type 0 where
+-- the file that was to be read last could not be read, as the count of faults of reads rose, and its name was said
+pub record SaysUnread (before after : FilesTold) (words : List (List ℕ)) (old new : SinkTold) : Type 0 where
   pub name : List ℕ
-  pub comes : ComesToRead told before after (as_run words) name
-  pub tells : Tells old new faults now (own_line (cannot_read_line name))
+  pub comes : ComesToRead before after (as_run words) name
+  pub tells : Tells old new (own_line (cannot_read_line name))
+  pub rose : Rose before.read_faults after.read_faults
 
 -- a pair was lost, what was emitted before was put, and the pair's name was said
-pub record SaysLost (told : Option Names) (before after : Option (List Call)) (words : List (List ℕ)) (old new : Told) (said says : SinkTells) (faults now : ℕ) : Type 0 where
+pub record SaysLost (before after : FilesTold) (words : List (List ℕ)) (old new : SinkTold) (said says : SinkTold) : Type 0 where
   pub pair : Partition
-  pub lived : Lived told before after words old new (live.Lost pair.stage pair.part)
-  pub tells : Tells said says faults now (own_line (lost_line pair))
+  pub lived : Lived before after words old new (live.Lost pair.stage pair.part)
+  pub tells : Tells said says (own_line (lost_line pair))
 
 -- no memory was to be had before anything was put, or while a run was written
-abbrev pub FallsShort : Option Names → Option (List Call) → Option (List Call) → List (List ℕ) → Told → Told → Type 0
-FallsShort told before after words old new = (StopsShort told before after (as_run words) × (new ≡ old)) ⊎ Lived told before after words old new live.OutOfMemory
+abbrev pub FallsShort : FilesTold → FilesTold → List (List ℕ) → SinkTold → SinkTold → Type 0
+FallsShort before after words old new = (StopsShort before after (as_run words) × (new ≡ old)) ⊎ Lived before after words old new live.OutOfMemory
 
 -- ---- of its steps
 
@@ -54,28 +55,28 @@ IsOwn (stop.PairLost stage part line) own = own ≡ stop.PairLost stage part lin
 IsOwn stop.OutOfMemory own = own ≡ stop.OutOfMemory
 
 -- a line is said of a refused input
-pub record RefusesBy (told : Option Names) (before after : Option (List Call)) (words : List (List ℕ)) (said : List ℕ) : Type 0 where
+pub record RefusesBy (before after : FilesTold) (words : List (List ℕ)) (said : List ℕ) : Type 0 where
   pub line : List ℕ
-  pub comes : ComesToRefusal told before after (as_run words) line
+  pub comes : ComesToRefusal before after (as_run words) line
   pub said_is : said ≡ own_line line
 
 -- a line is said of a file that can't be read
-pub record UnreadBy (told : Option Names) (before after : Option (List Call)) (words : List (List ℕ)) (said : List ℕ) : Type 0 where
+pub record UnreadBy (before after : FilesTold) (words : List (List ℕ)) (said : List ℕ) : Type 0 where
   pub name : List ℕ
-  pub comes : ComesToRead told before after (as_run words) name
+  pub comes : ComesToRead before after (as_run words) name
   pub said_is : said ≡ own_line (cannot_read_line name)
 
 -- why the words' inputs weren't all read and accepted
-abbrev pub StopsBefore : Option Names → Option (List Call) → Option (List Call) → List (List ℕ) → Stop → Type 0
-StopsBefore told before after words stop.Usage = asked (as_run words) ≡ None
-StopsBefore told before after words (stop.Refused line) = RefusesBy told before after words (string_bytes line)
-StopsBefore told before after words (stop.CannotRead line) = UnreadBy told before after words (string_bytes line)
-StopsBefore told before after words stop.CannotWrite = ⊥
-StopsBefore told before after words (stop.PairLost stage part line) = ⊥
-StopsBefore told before after words stop.OutOfMemory = StopsShort told before after (as_run words)
+abbrev pub StopsBefore : FilesTold → FilesTold → List (List ℕ) → Stop → Type 0
+StopsBefore before after words stop.Usage = asked (as_run words) ≡ None
+StopsBefore before after words (stop.Refused line) = RefusesBy before after words (string_bytes line)
+StopsBefore before after words (stop.CannotRead line) = UnreadBy before after words (string_bytes line)
+StopsBefore before after words stop.CannotWrite = ⊥
+StopsBefore before after words (stop.PairLost stage part line) = ⊥
+StopsBefore before after words stop.OutOfMemory = StopsShort before after (as_run words)
 
 -- why a run was not whole, or not written whole
-abbrev pub StopsLive : FeedView → List Order → Told → Told → Stop → Type 0
+abbrev pub StopsLive : FeedView → List Order → SinkTold → SinkTold → Stop → Type 0
 StopsLive feed script old new stop.Usage = ⊥
 StopsLive feed script old new (stop.Refused line) = ⊥
 StopsLive feed script old new (stop.CannotRead line) = ⊥
@@ -88,14 +89,14 @@ abbrev pub NamesLost : (stage part : ℕ) → Stop → Type 0
 NamesLost stage part why = (why ≡ stop.OutOfMemory) ⊎ ((line : _) × (why ≡ stop.PairLost stage part line) × (string_bytes line ≡ own_line (lost_line (partition stage part))))
 
 -- why the words' run stopped, before it or in it
-abbrev pub StopsTo : Option Names → Option (List Call) → Option (List Call) → List (List ℕ) → Told → Told → Stop → Type 0
-StopsTo told before after words old new stop.Usage = asked (as_run words) ≡ None
-StopsTo told before after words old new (stop.Refused line) = RefusesBy told before after words (string_bytes line)
-StopsTo told before after words old new (stop.CannotRead line) = UnreadBy told before after words (string_bytes line)
-StopsTo told before after words old new stop.CannotWrite = Lived told before after words old new live.WriteFault
-StopsTo told before after words old new (stop.PairLost stage part line) =
-    Lived told before after words old new (live.Lost stage part) × (string_bytes line ≡ own_line (lost_line (partition stage part)))
-StopsTo told before after words old new stop.OutOfMemory = FallsShort told before after words old new
+abbrev pub StopsTo : FilesTold → FilesTold → List (List ℕ) → SinkTold → SinkTold → Stop → Type 0
+StopsTo before after words old new stop.Usage = asked (as_run words) ≡ None
+StopsTo before after words old new (stop.Refused line) = RefusesBy before after words (string_bytes line)
+StopsTo before after words old new (stop.CannotRead line) = UnreadBy before after words (string_bytes line)
+StopsTo before after words old new stop.CannotWrite = Lived before after words old new live.WriteFault
+StopsTo before after words old new (stop.PairLost stage part line) =
+    Lived before after words old new (live.Lost stage part) × (string_bytes line ≡ own_line (lost_line (partition stage part)))
+StopsTo before after words old new stop.OutOfMemory = FallsShort before after words old new
 
 -- nothing was put before any stop but those of a run
 abbrev pub IsQuiet : {A : Type 0} → A → A → Stop → Type 0

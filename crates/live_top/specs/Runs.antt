@@ -1,10 +1,10 @@
 -- How a live run ends, from the words on: which inputs were read, and what was put.
-use Rattle.std.specs.Prelude.{ℕ, false, List, Option, None}
+use Rattle.std.specs.Prelude.{ℕ, false, List, None}
 use Rattle.pair_machine.specs.declared.order.Order.{Order}
 use Rattle.command_course.specs.Course.{Came, Run, Runs}
 use Rattle.command_course.specs.FeedView.{FeedView}
 use Rattle.command_course.specs.Feeds.{feed_of}
-use Rattle.flux_outside.specs.Outside.{Call, Names}
+use Rattle.flux_outside.specs.Told.{FilesTold, SinkTold}
 use Rattle.flux_top.specs.Outcome.{AsksFor}
 use Rattle.row_wire.specs.Written.{Told}
 use Rattle.live_feed.specs.Lives.{LivesSo}
@@ -17,18 +17,22 @@ abbrev pub run_with : FeedView → List Order → Run
 run_with feed script = record { feed = feed; script = script; journal = None; summary = false }
 
 -- the words' inputs were read by just the calls that were added, and what they say is that run
-abbrev pub ComesToRun : Option Names → Option (List Call) → Option (List Call) → List (List ℕ) → FeedView → List Order → Type 0
-ComesToRun told before after words feed script = AsksFor (as_run words) (λ course. Came told before after course (Runs (run_with feed script)))
+abbrev pub ComesToRun : FilesTold → FilesTold → List (List ℕ) → FeedView → List Order → Type 0
+ComesToRun before after words feed script = AsksFor (as_run words) (λ course. Came before after course (Runs (run_with feed script)))
+
+-- what a sink tells as a wire
+abbrev pub as_wire : SinkTold → Told
+as_wire told = record { taken = told.taken; faults = told.faults }
 
 -- a run ended so: this was put of the text of its output
-abbrev pub RunLives : FeedView → List Order → Told → Told → Live → Type 0
-RunLives feed script old new answer = LivesSo feed.plan feed.inputs script feed.symbols old new answer
+abbrev pub RunLives : FeedView → List Order → SinkTold → SinkTold → Live → Type 0
+RunLives feed script old new answer = LivesSo feed.plan feed.inputs script feed.symbols (as_wire old) (as_wire new) answer
 
 -- the words came to a run, and it ended so
-pub record Lived (told : Option Names) (before after : Option (List Call)) (words : List (List ℕ)) (old new : Told) (answer : Live) : Type 0 where
+pub record Lived (before after : FilesTold) (words : List (List ℕ)) (old new : SinkTold) (answer : Live) : Type 0 where
   pub feed : FeedView
   pub script : List Order
-  pub comes : ComesToRun told before after words feed script
+  pub comes : ComesToRun before after words feed script
   pub lives : RunLives feed script old new answer
 
 -- ---- as the code holds it

@@ -5,20 +5,19 @@ ghost use Rattle.flux_outside.specs.Outside.{Rose, StopsAtWant};
 ghost use Rattle.flux_top.specs.Clauses.{Accepts, HasCause, IsStatus, Rejects, Tells};
 ghost use Rattle.flux_top.specs.Ends.{IsAtEnd, LosesNone};
 ghost use Rattle.flux_top.specs.Lines.{cannot_write_line, memory_line};
-ghost use Rattle.flux_top.specs.Outcome.{asked};
+ghost use Rattle.flux_top.specs.Outcome.{asked, texts};
 ghost use Rattle.live_feed.specs.declared.answer.Live.TheVariants as live;
 ghost use Rattle.live_top.specs.Clauses.{FallsShort, IsQuiet, SaysLost, SaysRefusal, SaysUnread, StopsTo};
 ghost use Rattle.live_top.specs.Lines.{own_line, usage_line};
 ghost use Rattle.live_top.specs.Runs.{Lived};
 ghost use Rattle.live_top.specs.Words.{as_run};
-ghost use Rattle.std.specs.Prelude.{◌≡◌, ◌≢◌, ◌⊎◌, Err, IfErr, None, OnOk, map, string_bytes};
+ghost use Rattle.std.specs.Prelude.{◌≡◌, ◌≢◌, ◌⊎◌, Err, IfErr, None, OnOk};
 
 use crate::given::read_inputs;
 use crate::lived::lived;
 use command_course::Stop;
 use flux_outside::{Files, Sink};
 use flux_top::say;
-use live_feed::Gate;
 use std::alloc::Global;
 use std::sync::Wait;
 use std::thread::Threads;
@@ -30,66 +29,63 @@ const USAGE: &str = "flux_live: usage: PLAN TRADES [SCRIPT]\n";
 /// while the run goes on. It gives the status: 0 where all was written, 2 where the words have no form, 3 where an input
 /// is refused, 4 where a file can't be read, 5 where `out` took not all, 6 where a pair was lost before all was emitted,
 /// 8 where no memory was to be had. One line goes to `err` for each status but 0: that of `flux`, with the own name in
-/// front. The gate is called at each turn of the workers. The call may never return, as it waits for the workers and for
-/// `out`; where it does, this holds.
+/// front. The call may never return, as it waits for the workers and for `out`; where it does, this holds.
 ///
 /// What `out` took is a front of the text of the plan's output, whatever the status: each clause that speaks of a run
 /// says so.
 #[tactic(auto, using(crate::proofs::Completeness::accepted_unrefused, crate::proofs::Completeness::accepted_asked, crate::proofs::Completeness::rejected_asked, crate::proofs::Inputs::wants_for))]
-pub fn flux_live<R: Threads + Wait + Sync, F: Files, S: Sink + Send, E: Sink, G: Gate>(
+pub fn flux_live<R: Threads + Wait + Sync, F: Files, S: Sink + Send, E: Sink>(
     rt: &R,
     alloc: Global,
     words: &[String],
     files: &mut F,
     out: &mut S,
     err: &mut E,
-    gate: &G,
 ) -> u8
     // 0: the run is done. All of the plan's output was written, each row once and in order. Nothing is said.
-    ensures done { result ≡ 0 → Lived (F.contents files.old) (F.calls files.old) (F.calls files.new) (map string_bytes words.now) (record { taken = S.taken out.old; faults = S.faults out.old }) (record { taken = S.taken out.new; faults = S.faults out.new }) live.Done }
+    ensures done { result ≡ 0 → Lived (F.told files.old) (F.told files.new) (texts words.now) (S.told out.old) (S.told out.new) live.Done }
     ensures silent { result ≡ 0 → err.new ≡ err.old }
 
     // 2: the words have no form, and just such words end so. No file is asked for.
-    ensures usage { result ≡ 2 → asked (as_run (map string_bytes words.now)) ≡ None }
-    ensures formless { asked (as_run (map string_bytes words.now)) ≡ None → result ≡ 2 }
-    ensures usage_line { result ≡ 2 → Tells (E.taken err.old, E.offered err.old) (E.taken err.new, E.offered err.new) (E.faults err.old) (E.faults err.new) usage_line }
-    ensures unasked { asked (as_run (map string_bytes words.now)) ≡ None → files.new ≡ files.old }
+    ensures usage { result ≡ 2 → asked (as_run (texts words.now)) ≡ None }
+    ensures formless { asked (as_run (texts words.now)) ≡ None → result ≡ 2 }
+    ensures usage_line { result ≡ 2 → Tells (E.told err.old) (E.told err.new) usage_line }
+    ensures unasked { asked (as_run (texts words.now)) ≡ None → files.new ≡ files.old }
 
     // 3: the first faulty input is refused, and it is said why.
-    ensures refused { result ≡ 3 → SaysRefusal (F.contents files.old) (F.calls files.old) (F.calls files.new) (map string_bytes words.now) (E.taken err.old, E.offered err.old) (E.taken err.new, E.offered err.new) (E.faults err.old) (E.faults err.new) }
+    ensures refused { result ≡ 3 → SaysRefusal (F.told files.old) (F.told files.new) (texts words.now) (E.told err.old) (E.told err.new) }
 
     // 4: the input that was asked for last was not to be had, only where the count of read faults rose; its name is said.
-    ensures unread { result ≡ 4 → SaysUnread (F.contents files.old) (F.calls files.old) (F.calls files.new) (map string_bytes words.now) (E.taken err.old, E.offered err.old) (E.taken err.new, E.offered err.new) (E.faults err.old) (E.faults err.new) }
-    ensures unread_cause { result ≡ 4 → Rose (F.read_faults files.old) (F.read_faults files.new) }
+    ensures unread { result ≡ 4 → SaysUnread (F.told files.old) (F.told files.new) (texts words.now) (E.told err.old) (E.told err.new) }
 
     // 5: a proper front of the text was written, only where the count of faults of `out` rose.
-    ensures unwritten { result ≡ 5 → Lived (F.contents files.old) (F.calls files.old) (F.calls files.new) (map string_bytes words.now) (record { taken = S.taken out.old; faults = S.faults out.old }) (record { taken = S.taken out.new; faults = S.faults out.new }) live.WriteFault }
-    ensures unwritten_line { result ≡ 5 → Tells (E.taken err.old, E.offered err.old) (E.taken err.new, E.offered err.new) (E.faults err.old) (E.faults err.new) (own_line cannot_write_line) }
+    ensures unwritten { result ≡ 5 → Lived (F.told files.old) (F.told files.new) (texts words.now) (S.told out.old) (S.told out.new) live.WriteFault }
+    ensures unwritten_line { result ≡ 5 → Tells (E.told err.old) (E.told err.new) (own_line cannot_write_line) }
 
     // 6: a pair was lost, under a script that isn't safe; just the rows emitted before were written, and it is said which pair.
-    ensures lost { result ≡ 6 → SaysLost (F.contents files.old) (F.calls files.old) (F.calls files.new) (map string_bytes words.now) (record { taken = S.taken out.old; faults = S.faults out.old }) (record { taken = S.taken out.new; faults = S.faults out.new }) (E.taken err.old, E.offered err.old) (E.taken err.new, E.offered err.new) (E.faults err.old) (E.faults err.new) }
+    ensures lost { result ≡ 6 → SaysLost (F.told files.old) (F.told files.new) (texts words.now) (S.told out.old) (S.told out.new) (E.told err.old) (E.told err.new) }
 
     // 8: want of memory, before anything was written or while a run was: then a front of its text was. There is no other status.
-    ensures short { result ≡ 8 → FallsShort (F.contents files.old) (F.calls files.old) (F.calls files.new) (map string_bytes words.now) (record { taken = S.taken out.old; faults = S.faults out.old }) (record { taken = S.taken out.new; faults = S.faults out.new }) }
-    ensures memory_line { result ≡ 8 → Tells (E.taken err.old, E.offered err.old) (E.taken err.new, E.offered err.new) (E.faults err.old) (E.faults err.new) (own_line memory_line) }
-    ensures wants { StopsAtWant (F.wants files.old) (F.wants files.new) (result ≡ 8) }
+    ensures short { result ≡ 8 → FallsShort (F.told files.old) (F.told files.new) (texts words.now) (S.told out.old) (S.told out.new) }
+    ensures memory_line { result ≡ 8 → Tells (E.told err.old) (E.told err.new) (own_line memory_line) }
+    ensures wants { StopsAtWant (F.told files.old).wants (F.told files.new).wants (result ≡ 8) }
     ensures statuses { IsStatus result }
 
     // It writes only at 0, 5, 6 and 8, and the count of read faults stays but at 4 and 8. No file is changed.
     ensures quiet { result ≢ 0 → result ≢ 5 → result ≢ 6 → result ≢ 8 → out.new ≡ out.old }
-    ensures still { result ≢ 4 → result ≢ 8 → F.read_faults files.new ≡ F.read_faults files.old }
-    ensures kept { F.contents files.new ≡ F.contents files.old }
-    ensures saves_still { F.save_faults files.new ≡ F.save_faults files.old }
+    ensures still { result ≢ 4 → result ≢ 8 → (F.told files.new).read_faults ≡ (F.told files.old).read_faults }
+    ensures kept { (F.told files.new).contents ≡ (F.told files.old).contents }
+    ensures saves_still { (F.told files.new).save_faults ≡ (F.told files.old).save_faults }
 
     // Where the files tell what they hold and no count rose, what they hold is accepted and done, or it is refused,
     // unless no memory was to be had. Only a run under a script that isn't safe may lose a pair.
-    ensures complete { Accepts (F.contents files.old) (as_run (map string_bytes words.now)) LosesNone → (Rose (F.read_faults files.old) (F.read_faults files.new) → ⊥)
-        → (Rose (S.faults out.old) (S.faults out.new) → ⊥) → (result ≡ 0) ⊎ (result ≡ 8) }
-    ensures may_lose { Accepts (F.contents files.old) (as_run (map string_bytes words.now)) IsAtEnd → (Rose (F.read_faults files.old) (F.read_faults files.new) → ⊥)
-        → (Rose (S.faults out.old) (S.faults out.new) → ⊥) → (result ≡ 0) ⊎ (result ≡ 6) ⊎ (result ≡ 8) }
-    ensures rejects { Rejects (F.contents files.old) (as_run (map string_bytes words.now)) → (Rose (F.read_faults files.old) (F.read_faults files.new) → ⊥) → (result ≡ 3) ⊎ (result ≡ 8) }
+    ensures complete { Accepts (F.told files.old).contents (as_run (texts words.now)) LosesNone → (Rose (F.told files.old).read_faults (F.told files.new).read_faults → ⊥)
+        → (Rose (S.told out.old).faults (S.told out.new).faults → ⊥) → (result ≡ 0) ⊎ (result ≡ 8) }
+    ensures may_lose { Accepts (F.told files.old).contents (as_run (texts words.now)) IsAtEnd → (Rose (F.told files.old).read_faults (F.told files.new).read_faults → ⊥)
+        → (Rose (S.told out.old).faults (S.told out.new).faults → ⊥) → (result ≡ 0) ⊎ (result ≡ 6) ⊎ (result ≡ 8) }
+    ensures rejects { Rejects (F.told files.old).contents (as_run (texts words.now)) → (Rose (F.told files.old).read_faults (F.told files.new).read_faults → ⊥) → (result ≡ 3) ⊎ (result ≡ 8) }
 {
-    match run(rt, alloc, words, files, out, gate) {
+    match run(rt, alloc, words, files, out) {
         Ok(()) => 0,
         Err(Stop::Usage) => {
             say(err, USAGE);
@@ -119,28 +115,26 @@ pub fn flux_live<R: Threads + Wait + Sync, F: Files, S: Sink + Send, E: Sink, G:
 }
 
 // Reads all inputs, and then runs what they say.
-#[tactic(auto, using(crate::proofs::Inputs::wants_for))]
-fn run<R: Threads + Wait + Sync, F: Files, S: Sink + Send, G: Gate>(
+fn run<R: Threads + Wait + Sync, F: Files, S: Sink + Send>(
     rt: &R,
     alloc: Global,
     words: &[String],
     files: &mut F,
     out: &mut S,
-    gate: &G,
 ) -> Result<(), Stop>
-    ensures done { OnOk result (Lived (F.contents files.old) (F.calls files.old) (F.calls files.new) (map string_bytes words.now) (record { taken = S.taken out.old; faults = S.faults out.old }) (record { taken = S.taken out.new; faults = S.faults out.new }) live.Done) }
-    ensures usage { asked (as_run (map string_bytes words.now)) ≡ None → result ≡ Err Usage }
-    ensures unasked { asked (as_run (map string_bytes words.now)) ≡ None → files.new ≡ files.old }
-    ensures stops { IfErr result (λ stop. StopsTo (F.contents files.old) (F.calls files.old) (F.calls files.new) (map string_bytes words.now) (record { taken = S.taken out.old; faults = S.faults out.old }) (record { taken = S.taken out.new; faults = S.faults out.new }) stop) }
-    ensures cause { IfErr result (λ stop. HasCause (F.read_faults files.old) (F.read_faults files.new) stop) }
-    ensures still { OnOk result (F.read_faults files.new ≡ F.read_faults files.old) }
-    ensures wants { StopsAtWant (F.wants files.old) (F.wants files.new) (IsWant result) }
-    ensures contents { F.contents files.new ≡ F.contents files.old }
-    ensures saves { F.save_faults files.new ≡ F.save_faults files.old }
+    ensures done { OnOk result (Lived (F.told files.old) (F.told files.new) (texts words.now) (S.told out.old) (S.told out.new) live.Done) }
+    ensures usage { asked (as_run (texts words.now)) ≡ None → result ≡ Err Usage }
+    ensures unasked { asked (as_run (texts words.now)) ≡ None → files.new ≡ files.old }
+    ensures stops { IfErr result (λ stop. StopsTo (F.told files.old) (F.told files.new) (texts words.now) (S.told out.old) (S.told out.new) stop) }
+    ensures cause { IfErr result (λ stop. HasCause (F.told files.old).read_faults (F.told files.new).read_faults stop) }
+    ensures still { OnOk result ((F.told files.new).read_faults ≡ (F.told files.old).read_faults) }
+    ensures wants { StopsAtWant (F.told files.old).wants (F.told files.new).wants (IsWant result) }
+    ensures contents { (F.told files.new).contents ≡ (F.told files.old).contents }
+    ensures saves { (F.told files.new).save_faults ≡ (F.told files.old).save_faults }
     ensures quiet { IfErr result (λ stop. IsQuiet out.old out.new stop) }
 {
     match read_inputs(alloc, words, files) {
-        Ok(given) => lived(rt, alloc, &given, out, gate),
+        Ok(given) => lived(rt, alloc, &given, out),
         Err(stop) => Err(stop),
     }
 }

@@ -1,16 +1,15 @@
 // What a live run is given: the inputs that the words name, read one after the other as `flux run` reads them.
 ghost use Rattle.command_course.specs.Course.{Came, Runs};
 ghost use Rattle.command_course.specs.Feeds.{feed_of};
-ghost use Rattle.command_course.specs.Steps.{HasReadCause, IsWant, StopsOf};
+ghost use Rattle.command_course.specs.Steps.{OnlyReads, StopsOf};
 ghost use Rattle.command_line.specs.Views.{text_in};
-ghost use Rattle.flux_outside.specs.Outside.{StopsAtWant};
-ghost use Rattle.flux_top.specs.Outcome.{asked};
+ghost use Rattle.flux_top.specs.Outcome.{asked, texts};
 ghost use Rattle.live_top.specs.Clauses.{StopsBefore};
 ghost use Rattle.live_top.specs.Runs.{ComesToRun, run_in};
 ghost use Rattle.live_top.specs.Words.{as_run, course_over, files_in, options_with};
 ghost use Rattle.command_course.specs.declared.stop.Stop.TheVariants.{Usage};
 ghost use Rattle.run_command.specs.Courses.{runs};
-ghost use Rattle.std.specs.Prelude.{◌≡◌, Err, false, IfErr, IfOk, None, OnOk, map, string_bytes};
+ghost use Rattle.std.specs.Prelude.{◌≡◌, Err, false, IfErr, IfOk, None};
 
 use crate::own::own_stop;
 use crate::words::{Named, read_words};
@@ -33,15 +32,11 @@ pub(crate) fn read_inputs<F: Files>(
     words: &[String],
     files: &mut F,
 ) -> Result<Given, Stop>
-    ensures comes { IfOk result (λ given. ComesToRun (F.contents files.old) (F.calls files.old) (F.calls files.new) (map string_bytes words.now) (feed_of given.feed) given.script) }
-    ensures usage { asked (as_run (map string_bytes words.now)) ≡ None → result ≡ Err Usage }
-    ensures unasked { asked (as_run (map string_bytes words.now)) ≡ None → files.new ≡ files.old }
-    ensures stops { IfErr result (λ stop. StopsBefore (F.contents files.old) (F.calls files.old) (F.calls files.new) (map string_bytes words.now) stop) }
-    ensures cause { IfErr result (λ stop. HasReadCause (F.read_faults files.old) (F.read_faults files.new) stop) }
-    ensures still { OnOk result (F.read_faults files.new ≡ F.read_faults files.old) }
-    ensures wants { StopsAtWant (F.wants files.old) (F.wants files.new) (IsWant result) }
-    ensures contents { F.contents files.new ≡ F.contents files.old }
-    ensures saves { F.save_faults files.new ≡ F.save_faults files.old }
+    ensures comes { IfOk result (λ given. ComesToRun (F.told files.old) (F.told files.new) (texts words.now) (feed_of given.feed) given.script) }
+    ensures usage { asked (as_run (texts words.now)) ≡ None → result ≡ Err Usage }
+    ensures unasked { asked (as_run (texts words.now)) ≡ None → files.new ≡ files.old }
+    ensures stops { IfErr result (λ stop. StopsBefore (F.told files.old) (F.told files.new) (texts words.now) stop) }
+    ensures reads { OnlyReads (F.told files.old) (F.told files.new) result }
 {
     match read_words(words) {
         None => Err(Stop::Usage),
@@ -53,15 +48,11 @@ pub(crate) fn read_inputs<F: Files>(
 }
 
 // What these files say.
-#[tactic(auto, using(crate::proofs::Inputs::wants_on))]
+#[tactic(auto, using(crate::proofs::Inputs::reads_on, crate::proofs::Inputs::reads_stopped))]
 fn given_at<F: Files>(alloc: Global, files: &mut F, named: Named<'_>) -> Result<Given, Stop>
-    ensures comes { IfOk result (λ given. Came (F.contents files.old) (F.calls files.old) (F.calls files.new) (course_over (files_in named.entry)) (Runs (run_in given))) }
-    ensures stops { IfErr result (λ stop. StopsOf (F.contents files.old) (F.calls files.old) (F.calls files.new) (course_over (files_in named.entry)) stop) }
-    ensures cause { IfErr result (λ stop. HasReadCause (F.read_faults files.old) (F.read_faults files.new) stop) }
-    ensures still { OnOk result (F.read_faults files.new ≡ F.read_faults files.old) }
-    ensures wants { StopsAtWant (F.wants files.old) (F.wants files.new) (IsWant result) }
-    ensures contents { F.contents files.new ≡ F.contents files.old }
-    ensures saves { F.save_faults files.new ≡ F.save_faults files.old }
+    ensures comes { IfOk result (λ given. Came (F.told files.old) (F.told files.new) (course_over (files_in named.entry)) (Runs (run_in given))) }
+    ensures stops { IfErr result (λ stop. StopsOf (F.told files.old) (F.told files.new) (course_over (files_in named.entry)) stop) }
+    ensures reads { OnlyReads (F.told files.old) (F.told files.new) result }
 {
     match feed_at(alloc, files, named.plan, named.trades, None) {
         Ok(feed) => scripted(alloc, files, feed, named.script),
@@ -70,20 +61,16 @@ fn given_at<F: Files>(alloc: Global, files: &mut F, named: Named<'_>) -> Result<
 }
 
 // What the file of the script says too, once the others were read.
-#[tactic(auto, using(crate::proofs::Inputs::wants_on))]
+#[tactic(auto, using(crate::proofs::Inputs::reads_stopped, crate::proofs::Inputs::reads_then))]
 fn scripted<F: Files>(
     alloc: Global,
     files: &mut F,
     feed: Feed,
     script: Option<&str>,
 ) -> Result<Given, Stop>
-    ensures comes { IfOk result (λ given. Came (F.contents files.old) (F.calls files.old) (F.calls files.new) (runs (options_with (text_in script.entry)) false (feed_of feed)) (Runs (run_in given))) }
-    ensures stops { IfErr result (λ stop. StopsOf (F.contents files.old) (F.calls files.old) (F.calls files.new) (runs (options_with (text_in script.entry)) false (feed_of feed)) stop) }
-    ensures cause { IfErr result (λ stop. HasReadCause (F.read_faults files.old) (F.read_faults files.new) stop) }
-    ensures still { OnOk result (F.read_faults files.new ≡ F.read_faults files.old) }
-    ensures wants { StopsAtWant (F.wants files.old) (F.wants files.new) (IsWant result) }
-    ensures contents { F.contents files.new ≡ F.contents files.old }
-    ensures saves { F.save_faults files.new ≡ F.save_faults files.old }
+    ensures comes { IfOk result (λ given. Came (F.told files.old) (F.told files.new) (runs (options_with (text_in script.entry)) false (feed_of feed)) (Runs (run_in given))) }
+    ensures stops { IfErr result (λ stop. StopsOf (F.told files.old) (F.told files.new) (runs (options_with (text_in script.entry)) false (feed_of feed)) stop) }
+    ensures reads { OnlyReads (F.told files.old) (F.told files.new) result }
 {
     match script_at(alloc, files, &feed.plan, script) {
         Ok(script) => Ok(Given { feed, script }),

@@ -13,4 +13,3 @@ mod own;
 mod words;
 
 pub use command::flux_live;
-pub use live_feed::{FreeGate, Gate};

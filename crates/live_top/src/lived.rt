@@ -14,7 +14,7 @@ use crate::own::own_line;
 use command_course::Stop;
 use flux_outside::Sink;
 use flux_top::line_of_loss;
-use live_feed::{Gate, Live, live};
+use live_feed::{FreeGate, Live, live};
 use std::alloc::Global;
 use std::sync::Wait;
 use std::thread::Threads;
@@ -35,14 +35,13 @@ fn line_of(alloc: Global, stage: u32, part: u32) -> Result<String, OutOfMemory>
 }
 
 // A live run.
-fn answer<R: Threads + Wait + Sync, S: Sink + Send, G: Gate>(
+fn answer<R: Threads + Wait + Sync, S: Sink + Send>(
     rt: &R,
     alloc: Global,
     given: &Given,
     out: &mut S,
-    gate: &G,
 ) -> Live
-    ensures { RunLives (feed_of given.now.feed) given.now.script (record { taken = S.taken out.old; faults = S.faults out.old }) (record { taken = S.taken out.new; faults = S.faults out.new }) result }
+    ensures { RunLives (feed_of given.now.feed) given.now.script (S.told out.old) (S.told out.new) result }
 {
     live(
         rt,
@@ -52,23 +51,22 @@ fn answer<R: Threads + Wait + Sync, S: Sink + Send, G: Gate>(
         &given.script,
         THREADS,
         TURNS,
-        gate,
+        &FreeGate,
         out,
     )
 }
 
 /// Runs what was given, and writes its rows meanwhile.
-pub(crate) fn lived<R: Threads + Wait + Sync, S: Sink + Send, G: Gate>(
+pub(crate) fn lived<R: Threads + Wait + Sync, S: Sink + Send>(
     rt: &R,
     alloc: Global,
     given: &Given,
     out: &mut S,
-    gate: &G,
 ) -> Result<(), Stop>
-    ensures done { OnOk result (RunLives (feed_of given.now.feed) given.now.script (record { taken = S.taken out.old; faults = S.faults out.old }) (record { taken = S.taken out.new; faults = S.faults out.new }) live.Done) }
-    ensures stops { IfErr result (λ stop. StopsLive (feed_of given.now.feed) given.now.script (record { taken = S.taken out.old; faults = S.faults out.old }) (record { taken = S.taken out.new; faults = S.faults out.new }) stop) }
+    ensures done { OnOk result (RunLives (feed_of given.now.feed) given.now.script (S.told out.old) (S.told out.new) live.Done) }
+    ensures stops { IfErr result (λ stop. StopsLive (feed_of given.now.feed) given.now.script (S.told out.old) (S.told out.new) stop) }
 {
-    match answer(rt, alloc, given, out, gate) {
+    match answer(rt, alloc, given, out) {
         Live::Done => Ok(()),
         Live::Lost { stage, part } => Err(lost(alloc, stage, part)),
         Live::WriteFault => Err(Stop::CannotWrite),

@@ -11,14 +11,14 @@ use Rattle.command_course.specs.Steps.{GivesBy, StopsBy, StopsOf}
 use Rattle.command_course.specs.declared.stop.Stop.{Stop}
 use Rattle.command_course.specs.declared.stop.Stop.TheVariants as stop
 use Rattle.command_course.proofs.Courses.{came_here}
-use Rattle.flux_outside.specs.Outside.{Call, Names}
+use Rattle.flux_outside.specs.Told.{FilesTold}
 use Rattle.look_course.specs.Trying.{Named, named_of, tries_named}
 use Rattle.look_command.specs.Check.{cash_told, is_without_cash, tries_cash}
 
 -- where no file is named none is read
-pub unnamed_cash : (told : Option Names) (calls : Option (List Call)) (plan : Reading PlanView) (room : ℕ) → GivesBy told calls calls (tries_cash plan room None) None
-unnamed_cash told calls (Ok plan) room = λ next. came_here told calls (tries_cash (Ok plan) room None next) (next None) refl
-unnamed_cash told calls (Err line) room = λ next. came_here told calls (tries_cash (Err line) room None next) (next None) refl
+pub unnamed_cash : (told : FilesTold) (plan : Reading PlanView) (room : ℕ) → GivesBy told told (tries_cash plan room None) None
+unnamed_cash told (Ok plan) room = λ next. came_here told (tries_cash (Ok plan) room None next) (next None) refl
+unnamed_cash told (Err line) room = λ next. came_here told (tries_cash (Err line) room None next) (next None) refl
 
 module _ (plan : Reading PlanView) (room : ℕ) (name : List ℕ) where
   -- a plan without movements
@@ -38,27 +38,27 @@ module _ (plan : Reading PlanView) (room : ℕ) (name : List ℕ) where
       go (Err line) e next = refl
 
   -- the fault that they are given, or want of memory before it was said
-  pub refused_cash : (told : Option Names) (calls : Option (List Call)) (result : Result (Option (Result (List Row) (String Global))) Stop) → is_without_cash plan ≡ true
-      → IfOk result (λ tried. named_of tried ≡ Some (Err (not_in_plan_line name))) → IfOk result (λ tried. GivesBy told calls calls (tries_cash plan room (Some name)) (named_of tried))
-  refused_cash told calls (Ok tried) e is = λ next. came_here told calls (tries_cash plan room (Some name) next) (next (named_of tried)) (without e next ∙ ap next (sym is))
-  refused_cash told calls (Err why) e is = tt
+  pub refused_cash : (told : FilesTold) (result : Result (Option (Result (List Row) (String Global))) Stop) → is_without_cash plan ≡ true
+      → IfOk result (λ tried. named_of tried ≡ Some (Err (not_in_plan_line name))) → IfOk result (λ tried. GivesBy told told (tries_cash plan room (Some name)) (named_of tried))
+  refused_cash told (Ok tried) e is = λ next. came_here told (tries_cash plan room (Some name) next) (next (named_of tried)) (without e next ∙ ap next (sym is))
+  refused_cash told (Err why) e is = tt
 
-  pub short_cash : (told : Option Names) (calls : Option (List Call)) (result : Result (Option (Result (List Row) (String Global))) Stop) → IfErr result (λ why. why ≡ stop.OutOfMemory)
-      → IfErr result (λ why. StopsBy told calls calls (tries_cash plan room (Some name)) why)
-  short_cash told calls (Ok tried) want = tt
-  short_cash told calls (Err why) want = λ next.
+  pub short_cash : (told : FilesTold) (result : Result (Option (Result (List Row) (String Global))) Stop) → IfErr result (λ why. why ≡ stop.OutOfMemory)
+      → IfErr result (λ why. StopsBy told told (tries_cash plan room (Some name)) why)
+  short_cash told (Ok tried) want = tt
+  short_cash told (Err why) want = λ next.
       let course = tries_cash plan room (Some name) next in
-      subst (StopsOf told calls calls course) (sym want) (Between course (came_here told calls course course refl))
+      subst (StopsOf told told course) (sym want) (Between course (came_here told course course refl))
 
   -- what their file says
-  pub given_cash : (told : Option Names) (old new : Option (List Call)) (result : Result (Option (Result (List Row) (String Global))) Stop) → is_without_cash plan ≡ false
-      → IfOk result (λ tried. GivesBy told old new (tries_named max_input_bytes (cash_told room) (Some name)) (named_of tried))
-      → IfOk result (λ tried. GivesBy told old new (tries_cash plan room (Some name)) (named_of tried))
-  given_cash told old new (Ok tried) e gives = λ next. subst (λ course. Came told old new course (next (named_of tried))) (sym (within e next)) (gives next)
-  given_cash told old new (Err why) e gives = tt
+  pub given_cash : (old new : FilesTold) (result : Result (Option (Result (List Row) (String Global))) Stop) → is_without_cash plan ≡ false
+      → IfOk result (λ tried. GivesBy old new (tries_named max_input_bytes (cash_told room) (Some name)) (named_of tried))
+      → IfOk result (λ tried. GivesBy old new (tries_cash plan room (Some name)) (named_of tried))
+  given_cash old new (Ok tried) e gives = λ next. subst (λ course. Came old new course (next (named_of tried))) (sym (within e next)) (gives next)
+  given_cash old new (Err why) e gives = tt
 
-  pub stopped_cash : (told : Option Names) (old new : Option (List Call)) (result : Result (Option (Result (List Row) (String Global))) Stop) → is_without_cash plan ≡ false
-      → IfErr result (λ why. StopsBy told old new (tries_named max_input_bytes (cash_told room) (Some name)) why)
-      → IfErr result (λ why. StopsBy told old new (tries_cash plan room (Some name)) why)
-  stopped_cash told old new (Ok tried) e stops = tt
-  stopped_cash told old new (Err why) e stops = λ next. subst (λ course. StopsOf told old new course why) (sym (within e next)) (stops next)
+  pub stopped_cash : (old new : FilesTold) (result : Result (Option (Result (List Row) (String Global))) Stop) → is_without_cash plan ≡ false
+      → IfErr result (λ why. StopsBy old new (tries_named max_input_bytes (cash_told room) (Some name)) why)
+      → IfErr result (λ why. StopsBy old new (tries_cash plan room (Some name)) why)
+  stopped_cash old new (Ok tried) e stops = tt
+  stopped_cash old new (Err why) e stops = λ next. subst (λ course. StopsOf old new course why) (sym (within e next)) (stops next)

@@ -1,11 +1,10 @@
 // The command `check`.
 ghost use Rattle.command_course.specs.Lines.{not_in_plan_line};
-ghost use Rattle.command_course.specs.Steps.{GivesBy, HasReadCause, IsWant, StopsBy};
-ghost use Rattle.flux_outside.specs.Outside.{StopsAtWant};
+ghost use Rattle.command_course.specs.Steps.{GivesBy, OnlyReads, StopsBy};
 ghost use Rattle.look_command.specs.Check.{check_way, checks_cash, checks_script, checks_trades, given_of, is_without_cash, judgement, room_beside, tries_cash, tries_script};
 ghost use Rattle.look_course.specs.Answers.{answer_of};
 ghost use Rattle.look_course.specs.Trying.{named_of, tried_of};
-ghost use Rattle.std.specs.Prelude.{◌≡◌, ◌-◌, Err, IfErr, IfOk, OnOk, Some, length, option_map};
+ghost use Rattle.std.specs.Prelude.{◌≡◌, ◌-◌, Err, IfErr, IfOk, Some, length, option_map};
 ghost use Rattle.trade_text.specs.Limits.{max_inputs};
 
 use crate::faults::{Said, judged};
@@ -19,7 +18,7 @@ use std::alloc::Global;
 use trade_text::{Cash, MAX_INPUTS, Trades};
 
 /// What `check` says of the files that are named: what the plan does and what is hardly meant, or their faults.
-#[tactic(auto, using(crate::proofs::Ways::wants_on))]
+#[tactic(auto, using(crate::proofs::Ways::reads_on, crate::proofs::Ways::reads_stopped))]
 pub fn check_report<F: Files>(
     alloc: Global,
     files: &mut F,
@@ -28,13 +27,9 @@ pub fn check_report<F: Files>(
     cash: Option<&str>,
     script: Option<&str>,
 ) -> Result<Answer, Stop>
-    ensures gives { IfOk result (λ answer. GivesBy (F.contents files.old) (F.calls files.old) (F.calls files.new) (check_way plan.now (option_map (λ n. n.now) trades.entry) (option_map (λ n. n.now) cash.entry) (option_map (λ n. n.now) script.entry)) (answer_of answer)) }
-    ensures stops { IfErr result (λ stop. StopsBy (F.contents files.old) (F.calls files.old) (F.calls files.new) (check_way plan.now (option_map (λ n. n.now) trades.entry) (option_map (λ n. n.now) cash.entry) (option_map (λ n. n.now) script.entry)) stop) }
-    ensures cause { IfErr result (λ stop. HasReadCause (F.read_faults files.old) (F.read_faults files.new) stop) }
-    ensures still { OnOk result (F.read_faults files.new ≡ F.read_faults files.old) }
-    ensures wants { StopsAtWant (F.wants files.old) (F.wants files.new) (IsWant result) }
-    ensures contents { F.contents files.new ≡ F.contents files.old }
-    ensures saves { F.save_faults files.new ≡ F.save_faults files.old }
+    ensures gives { IfOk result (λ answer. GivesBy (F.told files.old) (F.told files.new) (check_way plan.now (option_map (λ n. n.now) trades.entry) (option_map (λ n. n.now) cash.entry) (option_map (λ n. n.now) script.entry)) (answer_of answer)) }
+    ensures stops { IfErr result (λ stop. StopsBy (F.told files.old) (F.told files.new) (check_way plan.now (option_map (λ n. n.now) trades.entry) (option_map (λ n. n.now) cash.entry) (option_map (λ n. n.now) script.entry)) stop) }
+    ensures reads { OnlyReads (F.told files.old) (F.told files.new) result }
 {
     match tried_at(alloc, files, plan, &ToldPlan) {
         Ok(plan) => with_trades(alloc, files, plan, trades, cash, script),
@@ -43,7 +38,7 @@ pub fn check_report<F: Files>(
 }
 
 // The same, once the plan was read.
-#[tactic(auto, using(crate::proofs::Ways::wants_on))]
+#[tactic(auto, using(crate::proofs::Ways::reads_on, crate::proofs::Ways::reads_stopped))]
 fn with_trades<F: Files>(
     alloc: Global,
     files: &mut F,
@@ -52,13 +47,9 @@ fn with_trades<F: Files>(
     cash: Option<&str>,
     script: Option<&str>,
 ) -> Result<Answer, Stop>
-    ensures gives { IfOk result (λ answer. GivesBy (F.contents files.old) (F.calls files.old) (F.calls files.new) (checks_trades (option_map (λ n. n.now) trades.entry) (option_map (λ n. n.now) cash.entry) (option_map (λ n. n.now) script.entry) (tried_of plan)) (answer_of answer)) }
-    ensures stops { IfErr result (λ stop. StopsBy (F.contents files.old) (F.calls files.old) (F.calls files.new) (checks_trades (option_map (λ n. n.now) trades.entry) (option_map (λ n. n.now) cash.entry) (option_map (λ n. n.now) script.entry) (tried_of plan)) stop) }
-    ensures cause { IfErr result (λ stop. HasReadCause (F.read_faults files.old) (F.read_faults files.new) stop) }
-    ensures still { OnOk result (F.read_faults files.new ≡ F.read_faults files.old) }
-    ensures wants { StopsAtWant (F.wants files.old) (F.wants files.new) (IsWant result) }
-    ensures contents { F.contents files.new ≡ F.contents files.old }
-    ensures saves { F.save_faults files.new ≡ F.save_faults files.old }
+    ensures gives { IfOk result (λ answer. GivesBy (F.told files.old) (F.told files.new) (checks_trades (option_map (λ n. n.now) trades.entry) (option_map (λ n. n.now) cash.entry) (option_map (λ n. n.now) script.entry) (tried_of plan)) (answer_of answer)) }
+    ensures stops { IfErr result (λ stop. StopsBy (F.told files.old) (F.told files.new) (checks_trades (option_map (λ n. n.now) trades.entry) (option_map (λ n. n.now) cash.entry) (option_map (λ n. n.now) script.entry) (tried_of plan)) stop) }
+    ensures reads { OnlyReads (F.told files.old) (F.told files.new) result }
 {
     match tried_if_named(alloc, files, trades, &ToldTrades) {
         Ok(trades) => with_cash(alloc, files, plan, trades, cash, script),
@@ -67,7 +58,7 @@ fn with_trades<F: Files>(
 }
 
 // The same, once plan and trades were read.
-#[tactic(auto, using(crate::proofs::Ways::wants_on))]
+#[tactic(auto, using(crate::proofs::Ways::reads_on, crate::proofs::Ways::reads_stopped))]
 fn with_cash<F: Files>(
     alloc: Global,
     files: &mut F,
@@ -76,13 +67,9 @@ fn with_cash<F: Files>(
     cash: Option<&str>,
     script: Option<&str>,
 ) -> Result<Answer, Stop>
-    ensures gives { IfOk result (λ answer. GivesBy (F.contents files.old) (F.calls files.old) (F.calls files.new) (checks_cash (option_map (λ n. n.now) cash.entry) (option_map (λ n. n.now) script.entry) (tried_of plan) (named_of trades)) (answer_of answer)) }
-    ensures stops { IfErr result (λ stop. StopsBy (F.contents files.old) (F.calls files.old) (F.calls files.new) (checks_cash (option_map (λ n. n.now) cash.entry) (option_map (λ n. n.now) script.entry) (tried_of plan) (named_of trades)) stop) }
-    ensures cause { IfErr result (λ stop. HasReadCause (F.read_faults files.old) (F.read_faults files.new) stop) }
-    ensures still { OnOk result (F.read_faults files.new ≡ F.read_faults files.old) }
-    ensures wants { StopsAtWant (F.wants files.old) (F.wants files.new) (IsWant result) }
-    ensures contents { F.contents files.new ≡ F.contents files.old }
-    ensures saves { F.save_faults files.new ≡ F.save_faults files.old }
+    ensures gives { IfOk result (λ answer. GivesBy (F.told files.old) (F.told files.new) (checks_cash (option_map (λ n. n.now) cash.entry) (option_map (λ n. n.now) script.entry) (tried_of plan) (named_of trades)) (answer_of answer)) }
+    ensures stops { IfErr result (λ stop. StopsBy (F.told files.old) (F.told files.new) (checks_cash (option_map (λ n. n.now) cash.entry) (option_map (λ n. n.now) script.entry) (tried_of plan) (named_of trades)) stop) }
+    ensures reads { OnlyReads (F.told files.old) (F.told files.new) result }
 {
     let room = room_beside(&trades);
     match tried_cash(alloc, files, &plan, room, cash) {
@@ -92,7 +79,7 @@ fn with_cash<F: Files>(
 }
 
 // The same, once all but the script was read.
-#[tactic(auto, using(crate::proofs::Ways::wants_on))]
+#[tactic(auto, using(crate::proofs::Ways::reads_stopped, crate::proofs::Ways::reads_then))]
 fn with_script<F: Files>(
     alloc: Global,
     files: &mut F,
@@ -101,13 +88,9 @@ fn with_script<F: Files>(
     cash: Option<Result<Cash, String>>,
     script: Option<&str>,
 ) -> Result<Answer, Stop>
-    ensures gives { IfOk result (λ answer. GivesBy (F.contents files.old) (F.calls files.old) (F.calls files.new) (checks_script (option_map (λ n. n.now) script.entry) (tried_of plan) (named_of trades) (named_of cash)) (answer_of answer)) }
-    ensures stops { IfErr result (λ stop. StopsBy (F.contents files.old) (F.calls files.old) (F.calls files.new) (checks_script (option_map (λ n. n.now) script.entry) (tried_of plan) (named_of trades) (named_of cash)) stop) }
-    ensures cause { IfErr result (λ stop. HasReadCause (F.read_faults files.old) (F.read_faults files.new) stop) }
-    ensures still { OnOk result (F.read_faults files.new ≡ F.read_faults files.old) }
-    ensures wants { StopsAtWant (F.wants files.old) (F.wants files.new) (IsWant result) }
-    ensures contents { F.contents files.new ≡ F.contents files.old }
-    ensures saves { F.save_faults files.new ≡ F.save_faults files.old }
+    ensures gives { IfOk result (λ answer. GivesBy (F.told files.old) (F.told files.new) (checks_script (option_map (λ n. n.now) script.entry) (tried_of plan) (named_of trades) (named_of cash)) (answer_of answer)) }
+    ensures stops { IfErr result (λ stop. StopsBy (F.told files.old) (F.told files.new) (checks_script (option_map (λ n. n.now) script.entry) (tried_of plan) (named_of trades) (named_of cash)) stop) }
+    ensures reads { OnlyReads (F.told files.old) (F.told files.new) result }
 {
     match tried_script(alloc, files, &plan, script) {
         Ok(script) => all_judged(
@@ -151,6 +134,7 @@ fn room_of(trades: &Trades) -> u32
 }
 
 // The movements, which a plan of version 1 doesn't have.
+#[tactic(auto, using(crate::proofs::Ways::reads_none))]
 fn tried_cash<F: Files>(
     alloc: Global,
     files: &mut F,
@@ -158,13 +142,9 @@ fn tried_cash<F: Files>(
     room: u32,
     cash: Option<&str>,
 ) -> Result<Option<Result<Cash, String>>, Stop>
-    ensures gives { IfOk result (λ tried. GivesBy (F.contents files.old) (F.calls files.old) (F.calls files.new) (tries_cash (tried_of plan.now) room (option_map (λ n. n.now) cash.entry)) (named_of tried)) }
-    ensures stops { IfErr result (λ stop. StopsBy (F.contents files.old) (F.calls files.old) (F.calls files.new) (tries_cash (tried_of plan.now) room (option_map (λ n. n.now) cash.entry)) stop) }
-    ensures cause { IfErr result (λ stop. HasReadCause (F.read_faults files.old) (F.read_faults files.new) stop) }
-    ensures still { OnOk result (F.read_faults files.new ≡ F.read_faults files.old) }
-    ensures wants { StopsAtWant (F.wants files.old) (F.wants files.new) (IsWant result) }
-    ensures contents { F.contents files.new ≡ F.contents files.old }
-    ensures saves { F.save_faults files.new ≡ F.save_faults files.old }
+    ensures gives { IfOk result (λ tried. GivesBy (F.told files.old) (F.told files.new) (tries_cash (tried_of plan.now) room (option_map (λ n. n.now) cash.entry)) (named_of tried)) }
+    ensures stops { IfErr result (λ stop. StopsBy (F.told files.old) (F.told files.new) (tries_cash (tried_of plan.now) room (option_map (λ n. n.now) cash.entry)) stop) }
+    ensures reads { OnlyReads (F.told files.old) (F.told files.new) result }
 {
     match cash {
         None => Ok(None),
@@ -173,6 +153,7 @@ fn tried_cash<F: Files>(
 }
 
 // The movements of a file.
+#[tactic(auto, using(crate::proofs::Ways::reads_none))]
 fn tried_movements<F: Files>(
     alloc: Global,
     files: &mut F,
@@ -180,13 +161,9 @@ fn tried_movements<F: Files>(
     room: u32,
     name: &str,
 ) -> Result<Option<Result<Cash, String>>, Stop>
-    ensures gives { IfOk result (λ tried. GivesBy (F.contents files.old) (F.calls files.old) (F.calls files.new) (tries_cash (tried_of plan.now) room (Some name.now)) (named_of tried)) }
-    ensures stops { IfErr result (λ stop. StopsBy (F.contents files.old) (F.calls files.old) (F.calls files.new) (tries_cash (tried_of plan.now) room (Some name.now)) stop) }
-    ensures cause { IfErr result (λ stop. HasReadCause (F.read_faults files.old) (F.read_faults files.new) stop) }
-    ensures still { OnOk result (F.read_faults files.new ≡ F.read_faults files.old) }
-    ensures wants { StopsAtWant (F.wants files.old) (F.wants files.new) (IsWant result) }
-    ensures contents { F.contents files.new ≡ F.contents files.old }
-    ensures saves { F.save_faults files.new ≡ F.save_faults files.old }
+    ensures gives { IfOk result (λ tried. GivesBy (F.told files.old) (F.told files.new) (tries_cash (tried_of plan.now) room (Some name.now)) (named_of tried)) }
+    ensures stops { IfErr result (λ stop. StopsBy (F.told files.old) (F.told files.new) (tries_cash (tried_of plan.now) room (Some name.now)) stop) }
+    ensures reads { OnlyReads (F.told files.old) (F.told files.new) result }
 {
     if is_without_cash(plan) {
         return not_in_plan(alloc, name);
@@ -216,19 +193,16 @@ fn not_in_plan(alloc: Global, name: &str) -> Result<Option<Result<Cash, String>>
 }
 
 // The script, which is one for a plan.
+#[tactic(auto, using(crate::proofs::Ways::reads_none))]
 fn tried_script<F: Files>(
     alloc: Global,
     files: &mut F,
     plan: &Result<Plan, String>,
     script: Option<&str>,
 ) -> Result<Option<Result<Script, String>>, Stop>
-    ensures gives { IfOk result (λ tried. GivesBy (F.contents files.old) (F.calls files.old) (F.calls files.new) (tries_script (tried_of plan.now) (option_map (λ n. n.now) script.entry)) (named_of tried)) }
-    ensures stops { IfErr result (λ stop. StopsBy (F.contents files.old) (F.calls files.old) (F.calls files.new) (tries_script (tried_of plan.now) (option_map (λ n. n.now) script.entry)) stop) }
-    ensures cause { IfErr result (λ stop. HasReadCause (F.read_faults files.old) (F.read_faults files.new) stop) }
-    ensures still { OnOk result (F.read_faults files.new ≡ F.read_faults files.old) }
-    ensures wants { StopsAtWant (F.wants files.old) (F.wants files.new) (IsWant result) }
-    ensures contents { F.contents files.new ≡ F.contents files.old }
-    ensures saves { F.save_faults files.new ≡ F.save_faults files.old }
+    ensures gives { IfOk result (λ tried. GivesBy (F.told files.old) (F.told files.new) (tries_script (tried_of plan.now) (option_map (λ n. n.now) script.entry)) (named_of tried)) }
+    ensures stops { IfErr result (λ stop. StopsBy (F.told files.old) (F.told files.new) (tries_script (tried_of plan.now) (option_map (λ n. n.now) script.entry)) stop) }
+    ensures reads { OnlyReads (F.told files.old) (F.told files.new) result }
 {
     match plan {
         Ok(plan) => tried_if_named(alloc, files, script, &ToldScript { plan }),

@@ -1,16 +1,15 @@
 // The command `story`.
 ghost use Rattle.command_course.specs.Feeds.{feed_of};
-ghost use Rattle.command_course.specs.Steps.{GivesBy, HasReadCause, IsWant, StopsBy};
+ghost use Rattle.command_course.specs.Steps.{GivesBy, OnlyReads, StopsBy};
 ghost use Rattle.flux_core.specs.CoreView.{flow_in, inputs_of};
 ghost use Rattle.flux_core.specs.Stands.{StandsFor};
-ghost use Rattle.flux_outside.specs.Outside.{StopsAtWant};
 ghost use Rattle.look_command.specs.Courses.{story_telling, story_way, tells_story};
 ghost use Rattle.look_course.specs.Answers.{answer_of};
 ghost use Rattle.look_course.specs.declared.report.ReportError.TheVariants as report_error;
 ghost use Rattle.pair_machine.specs.Machine.{State};
 ghost use Rattle.run_story.specs.StoryText.{is_done, story_text};
 ghost use Rattle.run_watch.specs.Watching.{emitted_in};
-ghost use Rattle.std.specs.Prelude.{◌≡◌, IfErr, IfOk, OnOk, option_map};
+ghost use Rattle.std.specs.Prelude.{◌≡◌, IfErr, IfOk, option_map};
 
 use crate::ended::ended;
 use command_course::{Feed, Stop, feed_at};
@@ -28,7 +27,7 @@ use std::alloc::Global;
 const COLUMNS: u32 = 1;
 
 /// What `story` writes: what happened in a run, from its events.
-#[tactic(auto, using(crate::proofs::Ways::wants_on))]
+#[tactic(auto, using(crate::proofs::Ways::reads_on, crate::proofs::Ways::reads_stopped))]
 pub fn story_text<F: Files>(
     alloc: Global,
     files: &mut F,
@@ -38,13 +37,9 @@ pub fn story_text<F: Files>(
     cash: Option<&str>,
     script: Option<&str>,
 ) -> Result<Answer, Stop>
-    ensures gives { IfOk result (λ answer. GivesBy (F.contents files.old) (F.calls files.old) (F.calls files.new) (story_way plan.now trades.now events.now (option_map (λ n. n.now) cash.entry) (option_map (λ n. n.now) script.entry)) (answer_of answer)) }
-    ensures stops { IfErr result (λ stop. StopsBy (F.contents files.old) (F.calls files.old) (F.calls files.new) (story_way plan.now trades.now events.now (option_map (λ n. n.now) cash.entry) (option_map (λ n. n.now) script.entry)) stop) }
-    ensures cause { IfErr result (λ stop. HasReadCause (F.read_faults files.old) (F.read_faults files.new) stop) }
-    ensures still { OnOk result (F.read_faults files.new ≡ F.read_faults files.old) }
-    ensures wants { StopsAtWant (F.wants files.old) (F.wants files.new) (IsWant result) }
-    ensures contents { F.contents files.new ≡ F.contents files.old }
-    ensures saves { F.save_faults files.new ≡ F.save_faults files.old }
+    ensures gives { IfOk result (λ answer. GivesBy (F.told files.old) (F.told files.new) (story_way plan.now trades.now events.now (option_map (λ n. n.now) cash.entry) (option_map (λ n. n.now) script.entry)) (answer_of answer)) }
+    ensures stops { IfErr result (λ stop. StopsBy (F.told files.old) (F.told files.new) (story_way plan.now trades.now events.now (option_map (λ n. n.now) cash.entry) (option_map (λ n. n.now) script.entry)) stop) }
+    ensures reads { OnlyReads (F.told files.old) (F.told files.new) result }
 {
     match feed_at(alloc, files, plan, trades, cash) {
         Ok(feed) => fed_story(alloc, files, &feed, events, script),
@@ -53,7 +48,7 @@ pub fn story_text<F: Files>(
 }
 
 // The same, once plan, trades and movements were read.
-#[tactic(auto, using(crate::proofs::Ways::wants_on))]
+#[tactic(auto, using(crate::proofs::Ways::reads_on, crate::proofs::Ways::reads_stopped))]
 fn fed_story<F: Files>(
     alloc: Global,
     files: &mut F,
@@ -61,13 +56,9 @@ fn fed_story<F: Files>(
     events: &str,
     script: Option<&str>,
 ) -> Result<Answer, Stop>
-    ensures gives { IfOk result (λ answer. GivesBy (F.contents files.old) (F.calls files.old) (F.calls files.new) (tells_story events.now (option_map (λ n. n.now) script.entry) (feed_of feed.now)) (answer_of answer)) }
-    ensures stops { IfErr result (λ stop. StopsBy (F.contents files.old) (F.calls files.old) (F.calls files.new) (tells_story events.now (option_map (λ n. n.now) script.entry) (feed_of feed.now)) stop) }
-    ensures cause { IfErr result (λ stop. HasReadCause (F.read_faults files.old) (F.read_faults files.new) stop) }
-    ensures still { OnOk result (F.read_faults files.new ≡ F.read_faults files.old) }
-    ensures wants { StopsAtWant (F.wants files.old) (F.wants files.new) (IsWant result) }
-    ensures contents { F.contents files.new ≡ F.contents files.old }
-    ensures saves { F.save_faults files.new ≡ F.save_faults files.old }
+    ensures gives { IfOk result (λ answer. GivesBy (F.told files.old) (F.told files.new) (tells_story events.now (option_map (λ n. n.now) script.entry) (feed_of feed.now)) (answer_of answer)) }
+    ensures stops { IfErr result (λ stop. StopsBy (F.told files.old) (F.told files.new) (tells_story events.now (option_map (λ n. n.now) script.entry) (feed_of feed.now)) stop) }
+    ensures reads { OnlyReads (F.told files.old) (F.told files.new) result }
 {
     match script_at(alloc, files, &feed.plan, script) {
         Ok(script) => reported_at(alloc, files, feed, events, &Story { script: &script }),

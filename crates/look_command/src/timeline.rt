@@ -1,10 +1,9 @@
 // The command `timeline`.
-ghost use Rattle.command_course.specs.Steps.{GivesBy, HasReadCause, IsWant, StopsBy};
-ghost use Rattle.flux_outside.specs.Outside.{StopsAtWant};
+ghost use Rattle.command_course.specs.Steps.{GivesBy, OnlyReads, StopsBy};
 ghost use Rattle.look_command.specs.Courses.{columns_for, drawing, timeline_telling, timeline_way};
 ghost use Rattle.look_course.specs.Answers.{answer_of};
 ghost use Rattle.look_course.specs.declared.report.ReportError.TheVariants as report_error;
-ghost use Rattle.std.specs.Prelude.{◌≡◌, ◌≤◌, IfErr, IfOk, OnOk, option_map};
+ghost use Rattle.std.specs.Prelude.{◌≡◌, ◌≤◌, IfErr, IfOk, option_map};
 
 use crate::ended::ended;
 use command_course::{Feed, Stop, feed_at};
@@ -25,7 +24,7 @@ const TEXT_COLUMNS: u32 = 100;
 const SVG_COLUMNS: u32 = 960;
 
 /// What `timeline` writes: a drawing of what happened in a run.
-#[tactic(auto, using(crate::proofs::Ways::wants_on))]
+#[tactic(auto, using(crate::proofs::Ways::reads_on, crate::proofs::Ways::reads_stopped))]
 pub fn timeline_text<F: Files>(
     alloc: Global,
     files: &mut F,
@@ -35,13 +34,9 @@ pub fn timeline_text<F: Files>(
     cash: Option<&str>,
     svg: bool,
 ) -> Result<Answer, Stop>
-    ensures gives { IfOk result (λ answer. GivesBy (F.contents files.old) (F.calls files.old) (F.calls files.new) (timeline_way plan.now trades.now events.now (option_map (λ n. n.now) cash.entry) svg) (answer_of answer)) }
-    ensures stops { IfErr result (λ stop. StopsBy (F.contents files.old) (F.calls files.old) (F.calls files.new) (timeline_way plan.now trades.now events.now (option_map (λ n. n.now) cash.entry) svg) stop) }
-    ensures cause { IfErr result (λ stop. HasReadCause (F.read_faults files.old) (F.read_faults files.new) stop) }
-    ensures still { OnOk result (F.read_faults files.new ≡ F.read_faults files.old) }
-    ensures wants { StopsAtWant (F.wants files.old) (F.wants files.new) (IsWant result) }
-    ensures contents { F.contents files.new ≡ F.contents files.old }
-    ensures saves { F.save_faults files.new ≡ F.save_faults files.old }
+    ensures gives { IfOk result (λ answer. GivesBy (F.told files.old) (F.told files.new) (timeline_way plan.now trades.now events.now (option_map (λ n. n.now) cash.entry) svg) (answer_of answer)) }
+    ensures stops { IfErr result (λ stop. StopsBy (F.told files.old) (F.told files.new) (timeline_way plan.now trades.now events.now (option_map (λ n. n.now) cash.entry) svg) stop) }
+    ensures reads { OnlyReads (F.told files.old) (F.told files.new) result }
 {
     match feed_at(alloc, files, plan, trades, cash) {
         Ok(feed) => reported_at(alloc, files, &feed, events, &Timeline { svg }),

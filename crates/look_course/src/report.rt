@@ -2,11 +2,10 @@
 ghost use Rattle.command_course.specs.Course.{Course};
 ghost use Rattle.command_course.specs.FeedView.{FeedView};
 ghost use Rattle.command_course.specs.Feeds.{feed_of};
-ghost use Rattle.command_course.specs.Steps.{GivesBy, HasReadCause, IsWant, StopsBy};
+ghost use Rattle.command_course.specs.Steps.{GivesBy, OnlyReads, StopsBy};
 ghost use Rattle.flux_core.specs.CoreView.{inputs_of};
 ghost use Rattle.flux_core.specs.Follows.{AreNamed, IsFollowed, events_of};
 ghost use Rattle.flux_core.specs.Stands.{IsCore, StandsFor};
-ghost use Rattle.flux_outside.specs.Outside.{StopsAtWant};
 ghost use Rattle.look_course.specs.Answers.{AnswerView, answer_of};
 ghost use Rattle.look_course.specs.Reports.{HasEnded, reports, tells_lines};
 ghost use Rattle.pair_machine.specs.Machine.{State, opening};
@@ -59,7 +58,7 @@ pub trait Report {
 }
 
 /// Reads a list of events, and gives what a report tells of them.
-#[tactic(auto, using(crate::proofs::Ways::wants_on))]
+#[tactic(auto, using(crate::proofs::Ways::reads_answered, crate::proofs::Ways::reads_stopped))]
 pub fn reported_at<F: Files, R: Report>(
     alloc: Global,
     files: &mut F,
@@ -67,13 +66,9 @@ pub fn reported_at<F: Files, R: Report>(
     events: &str,
     report: &R,
 ) -> Result<Answer, Stop>
-    ensures gives { IfOk result (λ answer. GivesBy (F.contents files.old) (F.calls files.old) (F.calls files.new) (reports (R.tells report.now) events.now (feed_of feed.now)) (answer_of answer)) }
-    ensures stops { IfErr result (λ stop. StopsBy (F.contents files.old) (F.calls files.old) (F.calls files.new) (reports (R.tells report.now) events.now (feed_of feed.now)) stop) }
-    ensures cause { IfErr result (λ stop. HasReadCause (F.read_faults files.old) (F.read_faults files.new) stop) }
-    ensures still { OnOk result (F.read_faults files.new ≡ F.read_faults files.old) }
-    ensures wants { StopsAtWant (F.wants files.old) (F.wants files.new) (IsWant result) }
-    ensures contents { F.contents files.new ≡ F.contents files.old }
-    ensures saves { F.save_faults files.new ≡ F.save_faults files.old }
+    ensures gives { IfOk result (λ answer. GivesBy (F.told files.old) (F.told files.new) (reports (R.tells report.now) events.now (feed_of feed.now)) (answer_of answer)) }
+    ensures stops { IfErr result (λ stop. StopsBy (F.told files.old) (F.told files.new) (reports (R.tells report.now) events.now (feed_of feed.now)) stop) }
+    ensures reads { OnlyReads (F.told files.old) (F.told files.new) result }
 {
     let file = EventsFile { plan: &feed.plan };
     match input_at(alloc, files, events, &file) {

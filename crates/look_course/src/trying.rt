@@ -1,9 +1,8 @@
 // The reading of a file, whatever it says.
 ghost use Rattle.command_course.specs.Lines.{cannot_read_line};
-ghost use Rattle.command_course.specs.Steps.{GivesBy, HasReadCause, IsUnreadBy, IsWant, StopsBy};
-ghost use Rattle.flux_outside.specs.Outside.{StopsAtWant};
+ghost use Rattle.command_course.specs.Steps.{GivesBy, IsUnreadBy, OnlyReads, StopsBy};
 ghost use Rattle.look_course.specs.Trying.{IsTried, named_of, tried_of, tries, tries_named};
-ghost use Rattle.std.specs.Prelude.{◌≡◌, IfErr, IfOk, OnOk, option_map};
+ghost use Rattle.std.specs.Prelude.{IfErr, IfOk, option_map};
 
 use command_course::{Input, Stop, refused};
 use flux_outside::{FileStop, Files, Got};
@@ -17,13 +16,9 @@ pub fn tried_at<F: Files, I: Input>(
     name: &str,
     input: &I,
 ) -> Result<Result<I::Value, String>, Stop>
-    ensures gives { IfOk result (λ tried. GivesBy (F.contents files.old) (F.calls files.old) (F.calls files.new) (tries (I.most input.now) (I.reading input.now) name.now) (tried_of tried)) }
-    ensures stops { IfErr result (λ stop. StopsBy (F.contents files.old) (F.calls files.old) (F.calls files.new) (tries (I.most input.now) (I.reading input.now) name.now) stop) }
-    ensures cause { IfErr result (λ stop. HasReadCause (F.read_faults files.old) (F.read_faults files.new) stop) }
-    ensures still { OnOk result (F.read_faults files.new ≡ F.read_faults files.old) }
-    ensures wants { StopsAtWant (F.wants files.old) (F.wants files.new) (IsWant result) }
-    ensures contents { F.contents files.new ≡ F.contents files.old }
-    ensures saves { F.save_faults files.new ≡ F.save_faults files.old }
+    ensures gives { IfOk result (λ tried. GivesBy (F.told files.old) (F.told files.new) (tries (I.most input.now) (I.reading input.now) name.now) (tried_of tried)) }
+    ensures stops { IfErr result (λ stop. StopsBy (F.told files.old) (F.told files.new) (tries (I.most input.now) (I.reading input.now) name.now) stop) }
+    ensures reads { OnlyReads (F.told files.old) (F.told files.new) result }
 {
     let mut bytes = Vec::new(alloc);
     match files.read(name, input.most(), &mut bytes) {
@@ -46,19 +41,16 @@ pub fn tried<T>(read: Result<T, Stop>) -> Result<Result<T, String>, Stop>
 }
 
 /// Reads a file of a kind where it is named, and gives what it says, or the line of its fault.
+#[tactic(auto, using(crate::proofs::Ways::reads_none, crate::proofs::Ways::reads_stopped, crate::proofs::Ways::reads_then))]
 pub fn tried_if_named<F: Files, I: Input>(
     alloc: Global,
     files: &mut F,
     name: Option<&str>,
     input: &I,
 ) -> Result<Option<Result<I::Value, String>>, Stop>
-    ensures gives { IfOk result (λ tried. GivesBy (F.contents files.old) (F.calls files.old) (F.calls files.new) (tries_named (I.most input.now) (I.reading input.now) (option_map (λ n. n.now) name.entry)) (named_of tried)) }
-    ensures stops { IfErr result (λ stop. StopsBy (F.contents files.old) (F.calls files.old) (F.calls files.new) (tries_named (I.most input.now) (I.reading input.now) (option_map (λ n. n.now) name.entry)) stop) }
-    ensures cause { IfErr result (λ stop. HasReadCause (F.read_faults files.old) (F.read_faults files.new) stop) }
-    ensures still { OnOk result (F.read_faults files.new ≡ F.read_faults files.old) }
-    ensures wants { StopsAtWant (F.wants files.old) (F.wants files.new) (IsWant result) }
-    ensures contents { F.contents files.new ≡ F.contents files.old }
-    ensures saves { F.save_faults files.new ≡ F.save_faults files.old }
+    ensures gives { IfOk result (λ tried. GivesBy (F.told files.old) (F.told files.new) (tries_named (I.most input.now) (I.reading input.now) (option_map (λ n. n.now) name.entry)) (named_of tried)) }
+    ensures stops { IfErr result (λ stop. StopsBy (F.told files.old) (F.told files.new) (tries_named (I.most input.now) (I.reading input.now) (option_map (λ n. n.now) name.entry)) stop) }
+    ensures reads { OnlyReads (F.told files.old) (F.told files.new) result }
 {
     match name {
         None => Ok(None),

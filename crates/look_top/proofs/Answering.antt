@@ -2,13 +2,14 @@
 use Rattle.std.proofs.Common.{ℕ, ◌≡◌, List, [], ap, option_map, sym, subst, Option, Some, None, Err, ⊎_elim, string_bytes}
 use Rattle.std.specs.Prelude.{IfSome}
 use Rattle.command_course.specs.Course.{AtReading, Between, Course, Refuses, StoppedShort, Way, Writes}
-use Rattle.command_course.specs.Steps.{HasReadCause, IsWant, StopsBy}
+use Rattle.command_course.specs.Steps.{HasReadCause, IsWant, OnlyReads, StopsBy}
 use Rattle.command_course.specs.declared.stop.Stop.{Stop}
 use Rattle.command_course.specs.declared.stop.Stop.TheVariants as stop
 use Rattle.command_course.proofs.Courses.{wants_for}
 use Rattle.look_command.specs.Courses.{way_of}
 use Rattle.look_words.specs.Forms.{Request, form}
-use Rattle.flux_outside.specs.Outside.{Call, Names, StopsAtWant, Wants}
+use Rattle.flux_outside.specs.Outside.{StopsAtWant, Wants}
+use Rattle.flux_outside.specs.Told.{FilesTold}
 use Rattle.look_course.specs.Answers.{AnswerView}
 use Rattle.look_top.specs.Asked.{asked}
 use Rattle.look_top.specs.Clauses.{IsOwn, StopsBefore, StopsShort}
@@ -27,25 +28,25 @@ asked_none words is = ap (option_map way_of) is
 nothing_more : AnswerView → Course
 nothing_more a = Writes []
 
-module _ (told : Option Names) (old new : Option (List Call)) (words : List (List ℕ)) (way : Way AnswerView) (is : asked words ≡ Some way) where
-  short : ((next : AnswerView → Course) → StoppedShort told old new (way next)) → StopsShort told old new words
-  short stopped = subst (λ w. IfSome w (λ x. (next : AnswerView → Course) → StoppedShort told old new (x next))) (sym is) stopped
+module _ (old new : FilesTold) (words : List (List ℕ)) (way : Way AnswerView) (is : asked words ≡ Some way) where
+  short : ((next : AnswerView → Course) → StoppedShort old new (way next)) → StopsShort old new words
+  short stopped = subst (λ w. IfSome w (λ x. (next : AnswerView → Course) → StoppedShort old new (x next))) (sym is) stopped
 
-  pub own_stops : (why own : Stop) → StopsBy told old new way why → IsOwn why own → StopsBefore told old new words own
+  pub own_stops : (why own : Stop) → StopsBy old new way why → IsOwn why own → StopsBefore old new words own
   own_stops stop.Usage own stops is_own = absurd (stops nothing_more)
   own_stops (stop.Refused line) own stops is_own = ⊎_elim
-      (λ want. subst (StopsBefore told old new words) (sym want) (short (λ next. Between (Refuses (string_bytes line)) (stops next))))
-      (λ says. subst (StopsBefore told old new words) (sym says.1)
+      (λ want. subst (StopsBefore old new words) (sym want) (short (λ next. Between (Refuses (string_bytes line)) (stops next))))
+      (λ says. subst (StopsBefore old new words) (sym says.1)
       (record { line = string_bytes line; comes = record { way = way; is_asked = is; fact = stops }; said_is = says.2 })) is_own
   own_stops (stop.CannotRead line) own stops is_own = ⊎_elim
-      (λ want. subst (StopsBefore told old new words) (sym want) (short (λ next. AtReading (stops next).name (stops next).came)))
-      (λ says. subst (StopsBefore told old new words) (sym says.1)
+      (λ want. subst (StopsBefore old new words) (sym want) (short (λ next. AtReading (stops next).name (stops next).came)))
+      (λ says. subst (StopsBefore old new words) (sym says.1)
       (record { line = string_bytes line; comes = record { way = way; is_asked = is; fact = stops }; said_is = says.2 })) is_own
   own_stops stop.CannotWrite own stops is_own = absurd (stops nothing_more)
   own_stops (stop.PairLost stage part line) own stops is_own = absurd (stops nothing_more)
-  own_stops stop.OutOfMemory own stops is_own = subst (StopsBefore told old new words) (sym is_own) (short stops)
+  own_stops stop.OutOfMemory own stops is_own = subst (StopsBefore old new words) (sym is_own) (short stops)
 
-pub own_cause : (before now : ℕ) (why own : Stop) → HasReadCause before now why → IsOwn why own → HasReadCause before now own
+own_cause : (before now : ℕ) (why own : Stop) → HasReadCause before now why → IsOwn why own → HasReadCause before now own
 own_cause before now stop.Usage own cause is_own = subst (HasReadCause before now) (sym is_own) cause
 own_cause before now (stop.Refused line) own cause is_own = ⊎_elim
     (λ want. subst (HasReadCause before now) (sym want) tt) (λ says. subst (HasReadCause before now) (sym says.1) cause) is_own
@@ -63,8 +64,17 @@ want_stays A stop.CannotWrite own is_own want = absurd want
 want_stays A (stop.PairLost stage part line) own is_own want = absurd want
 want_stays A stop.OutOfMemory own is_own want = subst (λ s. IsWant {A = A} (Err s)) (sym is_own) tt
 
-pub own_wants : (A : Type 0) (old new : Option Wants) (why own : Stop) → IsOwn why own → StopsAtWant old new (IsWant {A = A} (Err why)) → StopsAtWant old new (IsWant {A = A} (Err own))
+own_wants : (A : Type 0) (old new : Option Wants) (why own : Stop) → IsOwn why own → StopsAtWant old new (IsWant {A = A} (Err why)) → StopsAtWant old new (IsWant {A = A} (Err own))
 own_wants A old new why own is_own wants = wants_for old new (IsWant {A = A} (Err why)) (IsWant {A = A} (Err own)) (want_stays A why own is_own) wants
+
+pub own_reads : (A : Type 0) (old new : FilesTold) (why own : Stop) → IsOwn why own → OnlyReads {A = A} old new (Err why) → OnlyReads {A = A} old new (Err own)
+own_reads A old new why own is_own reads = record {
+  contents = reads.contents;
+  saves = reads.saves;
+  wants = own_wants A old.wants new.wants why own is_own reads.wants;
+  cause = own_cause old.read_faults new.read_faults why own reads.cause is_own;
+  still = tt;
+}
 
 none_not_some : {A : Type 0} {x : A} → None ≡ Some x → ⊥
 none_not_some e = cc

@@ -1,12 +1,12 @@
 -- Where files tell what they hold, words come to one answer or to a refusal.
-use Rattle.std.proofs.Common.{ℕ, ◌≡◌, List, [], ◌∷◌, sym, ◌∙◌, ap, subst, Some, None, Option}
+use Rattle.std.proofs.Common.{ℕ, ◌≡◌, List, [], ◌∷◌, refl, sym, ◌∙◌, ap, subst, Some, None, Option}
 use Rattle.command_course.specs.Course.{Course, Leads, Reads, Refuses, Runs, Way, Writes}
 use Rattle.flux_outside.specs.Outside.{Call, Names}
-use Rattle.flux_top.specs.Clauses.{SinkTells}
+use Rattle.flux_outside.specs.Told.{FilesTold, SinkTold}
 use Rattle.look_course.specs.Answers.{AnswerView, answer, status_of}
 use Rattle.look_course.specs.declared.answer.Ending.{Ending}
-use Rattle.look_top.specs.Asked.{asked}
-use Rattle.look_top.specs.Clauses.{ComesTo, ComesToRefusal, Rejects, Settles, WritesWhole}
+use Rattle.look_top.specs.Asked.{AsksFor, asked}
+use Rattle.look_top.specs.Clauses.{ComesTo, ComesToRefusal, Rejects, RejectsBy, Settles, WritesWhole}
 
 -- a course that reads no further input
 abbrev IsOver : Course → Type 0
@@ -52,34 +52,54 @@ module _ (named : Names) (words : List (List ℕ)) (way other : Way AnswerView) 
   one_end_to next xs ys x y end_x end_y to_x to_y =
       one_end named (way next) xs ys x y end_x end_y to_x (subst (λ w. Leads (Some named) (w next) ys y) (same_value (sym other_is ∙ is)) to_y)
 
+-- What is settled is settled of named files, and so is what is rejected.
+record SettledOf (told : Option Names) (words : List (List ℕ)) (of : AnswerView) : Type 0 where
+  named : Names
+  is : told ≡ Some named
+  asks : AsksFor words (λ way. (calls : List Call) × ((next : AnswerView → Course) → Leads (Some named) (way next) calls (next of)))
+
+settled_of : (told : Option Names) (words : List (List ℕ)) (of : AnswerView) → Settles told words of → SettledOf told words of
+settled_of None words of settled = absurd settled
+settled_of (Some named) words of settled = record { named = named; is = refl; asks = settled }
+
+record RejectedOf (told : Option Names) (words : List (List ℕ)) : Type 0 where
+  named : Names
+  is : told ≡ Some named
+  by : RejectsBy named words
+
+rejected_of : (told : Option Names) (words : List (List ℕ)) → Rejects told words → RejectedOf told words
+rejected_of None words rejects = absurd rejects
+rejected_of (Some named) words rejects = record { named = named; is = refl; by = rejects }
+
 -- what files settle is how the answer ends
-pub settled_status : (told : Option Names) (before after : Option (List Call)) (words : List (List ℕ)) (ending : Ending) (old new : SinkTells) (of : AnswerView) → Settles told words of
-    → WritesWhole told before after words ending old new → status_of ending ≡ status_of of.ending
+pub settled_status : (before after : FilesTold) (words : List (List ℕ)) (ending : Ending) (old new : SinkTold) (of : AnswerView) → Settles before.contents words of
+    → WritesWhole before after words ending old new → status_of ending ≡ status_of of.ending
 unfolding shows_status status_in
-settled_status None before after words ending old new of settled writes = absurd settled
-settled_status (Some named) before after words ending old new of settled writes =
+settled_status before after words ending old new of settled writes =
+    let it = settled_of before.contents words of settled in
     let came = writes.comes.fact shows_status in
-    ap status_in (one_end_to named words writes.comes.way settled.way writes.comes.is_asked settled.is_asked shows_status came.calls settled.fact.0
-    (shows_status (answer ending writes.text)) (shows_status of) tt tt came.leads (settled.fact.1 shows_status))
+    ap status_in (one_end_to it.named words writes.comes.way it.asks.way writes.comes.is_asked it.asks.is_asked shows_status came.calls it.asks.fact.0
+    (shows_status (answer ending writes.text)) (shows_status of) tt tt
+    (subst (λ told. Leads told (writes.comes.way shows_status) came.calls (shows_status (answer ending writes.text))) it.is came.leads) (it.asks.fact.1 shows_status))
 
 -- what is settled isn't refused
-pub settled_unrefused : (told : Option Names) (before after : Option (List Call)) (words : List (List ℕ)) (line : List ℕ) (of : AnswerView) → Settles told words of
-    → ComesToRefusal told before after words line → ⊥
+pub settled_unrefused : (before after : FilesTold) (words : List (List ℕ)) (line : List ℕ) (of : AnswerView) → Settles before.contents words of
+    → ComesToRefusal before after words line → ⊥
 unfolding shows_status
-settled_unrefused None before after words line of settled comes = settled
-settled_unrefused (Some named) before after words line of settled comes =
+settled_unrefused before after words line of settled comes =
+    let it = settled_of before.contents words of settled in
     let came = comes.fact shows_status in
-    text_no_refusal _ line (one_end_to named words settled.way comes.way settled.is_asked comes.is_asked shows_status settled.fact.0 came.calls
-    (shows_status of) (Refuses line) tt tt (settled.fact.1 shows_status) came.leads)
+    text_no_refusal _ line (one_end_to it.named words it.asks.way comes.way it.asks.is_asked comes.is_asked shows_status it.asks.fact.0 came.calls
+    (shows_status of) (Refuses line) tt tt (it.asks.fact.1 shows_status) (subst (λ told. Leads told (comes.way shows_status) came.calls (Refuses line)) it.is came.leads))
 
 -- what is refused comes to no answer
-pub rejected_unanswered : (told : Option Names) (before after : Option (List Call)) (words : List (List ℕ)) (of : AnswerView) → Rejects told words → ComesTo told before after words of → ⊥
+pub rejected_unanswered : (before after : FilesTold) (words : List (List ℕ)) (of : AnswerView) → Rejects before.contents words → ComesTo before after words of → ⊥
 unfolding shows_status
-rejected_unanswered None before after words of rejects comes = rejects
-rejected_unanswered (Some named) before after words of rejects comes =
+rejected_unanswered before after words of rejects comes =
+    let it = rejected_of before.contents words rejects in
     let came = comes.fact shows_status in
-    text_no_refusal _ rejects.line (one_end_to named words comes.way rejects.leads.way comes.is_asked rejects.leads.is_asked shows_status came.calls rejects.calls
-    (shows_status of) (Refuses rejects.line) tt tt came.leads (rejects.leads.fact shows_status))
+    text_no_refusal _ it.by.line (one_end_to it.named words comes.way it.by.leads.way comes.is_asked it.by.leads.is_asked shows_status came.calls it.by.calls
+    (shows_status of) (Refuses it.by.line) tt tt (subst (λ told. Leads told (comes.way shows_status) came.calls (shows_status of)) it.is came.leads) (it.by.leads.fact shows_status))
 
 none_not_some : {A : Type 0} {x : A} → None ≡ Some x → ⊥
 none_not_some e = cc

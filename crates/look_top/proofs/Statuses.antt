@@ -1,13 +1,14 @@
 -- Which end a status tells of.
-use Rattle.std.proofs.Common.{ℕ, ◌≡◌, ◌∙◌, false, eqb, List, refl, sym, subst, Option, Err, ⊎_elim, inl, inr}
+use Rattle.std.proofs.Common.{ℕ, ◌≡◌, ◌∙◌, false, eqb, List, refl, sym, subst, Err, ⊎_elim, inl, inr}
 use Rattle.std.specs.Prelude.{◌≢◌, ◌⊎◌}
 use Rattle.std.proofs.lemmas.Bool.{false≢true}
 use Rattle.std.proofs.lemmas.Bool.Decides.{eqb_tells}
 use Rattle.command_course.specs.Steps.{IsWant}
 use Rattle.command_course.specs.declared.stop.Stop.{Stop}
 use Rattle.command_course.specs.declared.stop.Stop.TheVariants as stop
-use Rattle.flux_outside.specs.Outside.{Call, Names, Rose}
-use Rattle.flux_top.specs.Clauses.{HasCause, IsQuiet, SinkTells, Tells}
+use Rattle.flux_outside.specs.Outside.{Rose}
+use Rattle.flux_outside.specs.Told.{FilesTold, SinkTold}
+use Rattle.flux_top.specs.Clauses.{HasCause, IsQuiet, Tells}
 use Rattle.look_course.specs.Answers.{AnswerView, status_of}
 use Rattle.look_course.specs.declared.answer.Ending.{Ending}
 use Rattle.look_course.specs.declared.answer.Ending.TheVariants.{Done, Faulty, Warned}
@@ -102,14 +103,6 @@ quiet_at old new stop.CannotWrite lost not quiet = absurd (not refl)
 quiet_at old new (stop.PairLost stage part line) lost not quiet = absurd lost
 quiet_at old new stop.OutOfMemory lost not quiet = quiet
 
-pub unread_cause_at : (before now : ℕ) (why : Stop) → status_at why ≡ 4 → HasCause before now why → Rose before now
-unread_cause_at before now stop.Usage is cause = absurd (differ 2 4 refl is)
-unread_cause_at before now (stop.Refused line) is cause = absurd (differ 3 4 refl is)
-unread_cause_at before now (stop.CannotRead line) is cause = cause
-unread_cause_at before now stop.CannotWrite is cause = absurd (differ 5 4 refl is)
-unread_cause_at before now (stop.PairLost stage part line) is cause = absurd (differ 6 4 refl is)
-unread_cause_at before now stop.OutOfMemory is cause = absurd (differ 8 4 refl is)
-
 pub still_at : (before now : ℕ) (why : Stop) → status_at why ≢ 4 → status_at why ≢ 8 → HasCause before now why → now ≡ before
 still_at before now stop.Usage unread want cause = cause
 still_at before now (stop.Refused line) unread want cause = cause
@@ -128,8 +121,8 @@ is_status_at stop.OutOfMemory lost = inr (inr (inr (inr (inr (inr refl)))))
 
 -- ---- why words came to a stop
 
-module _ (told : Option Names) (before after : Option (List Call)) (words : List (List ℕ)) (old new : SinkTells) (faults now : ℕ) where
-  pub no_pair_lost : (why : Stop) → StopsTo told before after words old new faults now why → LosesNoPair why
+module _ (before after : FilesTold) (words : List (List ℕ)) (old new : SinkTold) where
+  pub no_pair_lost : (why : Stop) → StopsTo before after words old new why → LosesNoPair why
   no_pair_lost stop.Usage stops = tt
   no_pair_lost (stop.Refused line) stops = tt
   no_pair_lost (stop.CannotRead line) stops = tt
@@ -138,40 +131,40 @@ module _ (told : Option Names) (before after : Option (List Call)) (words : List
   no_pair_lost stop.OutOfMemory stops = tt
 
   -- what files settle stops for want of memory alone, where no fault was counted
-  pub settled_short : (reads reads_now : ℕ) (why : Stop) (of : AnswerView) → StopsTo told before after words old new faults now why → HasCause reads reads_now why → Settles told words of
-      → (Rose reads reads_now → ⊥) → (Rose faults now → ⊥) → status_at why ≡ 8
-  settled_short reads reads_now stop.Usage of stops cause settled calm whole = absurd (settled_asked told words of settled stops)
-  settled_short reads reads_now (stop.Refused line) of stops cause settled calm whole = absurd (settled_unrefused told before after words stops.line of settled stops.comes)
+  pub settled_short : (reads reads_now : ℕ) (why : Stop) (of : AnswerView) → StopsTo before after words old new why → HasCause reads reads_now why → Settles before.contents words of
+      → (Rose reads reads_now → ⊥) → (Rose old.faults new.faults → ⊥) → status_at why ≡ 8
+  settled_short reads reads_now stop.Usage of stops cause settled calm whole = absurd (settled_asked before.contents words of settled stops)
+  settled_short reads reads_now (stop.Refused line) of stops cause settled calm whole = absurd (settled_unrefused before after words stops.line of settled stops.comes)
   settled_short reads reads_now (stop.CannotRead line) of stops cause settled calm whole = absurd (calm cause)
   settled_short reads reads_now stop.CannotWrite of stops cause settled calm whole = absurd (whole stops.rose)
   settled_short reads reads_now (stop.PairLost stage part line) of stops cause settled calm whole = absurd stops
   settled_short reads reads_now stop.OutOfMemory of stops cause settled calm whole = refl
 
   -- and what they reject is refused, or stops so
-  pub rejected_refused : (reads reads_now : ℕ) (why : Stop) → StopsTo told before after words old new faults now why → HasCause reads reads_now why → Rejects told words
+  pub rejected_refused : (reads reads_now : ℕ) (why : Stop) → StopsTo before after words old new why → HasCause reads reads_now why → Rejects before.contents words
       → (Rose reads reads_now → ⊥) → (status_at why ≡ 3) ⊎ (status_at why ≡ 8)
-  rejected_refused reads reads_now stop.Usage stops cause rejected calm = absurd (rejected_asked told words rejected stops)
+  rejected_refused reads reads_now stop.Usage stops cause rejected calm = absurd (rejected_asked before.contents words rejected stops)
   rejected_refused reads reads_now (stop.Refused line) stops cause rejected calm = inl refl
   rejected_refused reads reads_now (stop.CannotRead line) stops cause rejected calm = absurd (calm cause)
-  rejected_refused reads reads_now stop.CannotWrite stops cause rejected calm = absurd (rejected_unanswered told before after words stops.whole rejected stops.comes)
+  rejected_refused reads reads_now stop.CannotWrite stops cause rejected calm = absurd (rejected_unanswered before after words stops.whole rejected stops.comes)
   rejected_refused reads reads_now (stop.PairLost stage part line) stops cause rejected calm = absurd stops
   rejected_refused reads reads_now stop.OutOfMemory stops cause rejected calm = inr refl
 
-  module _ (said says : SinkTells) (lines later : ℕ) where
-    pub says_refusal : (why : Stop) → status_at why ≡ 3 → StopsTo told before after words old new faults now why → Tells said says lines later (line_at why)
-        → SaysRefusal told before after words said says lines later
+  module _ (said says : SinkTold) where
+    pub says_refusal : (why : Stop) → status_at why ≡ 3 → StopsTo before after words old new why → Tells said says (line_at why)
+        → SaysRefusal before after words said says
     says_refusal stop.Usage is stops tells = absurd (differ 2 3 refl is)
-    says_refusal (stop.Refused line) is stops tells = record { line = stops.line; comes = stops.comes; tells = subst (Tells said says lines later) stops.said_is tells }
+    says_refusal (stop.Refused line) is stops tells = record { line = stops.line; comes = stops.comes; tells = subst (Tells said says) stops.said_is tells }
     says_refusal (stop.CannotRead line) is stops tells = absurd (differ 4 3 refl is)
     says_refusal stop.CannotWrite is stops tells = absurd (differ 5 3 refl is)
     says_refusal (stop.PairLost stage part line) is stops tells = absurd stops
     says_refusal stop.OutOfMemory is stops tells = absurd (differ 8 3 refl is)
 
-    pub says_unread : (why : Stop) → status_at why ≡ 4 → StopsTo told before after words old new faults now why → Tells said says lines later (line_at why)
-        → SaysUnread told before after words said says lines later
-    says_unread stop.Usage is stops tells = absurd (differ 2 4 refl is)
-    says_unread (stop.Refused line) is stops tells = absurd (differ 3 4 refl is)
-    says_unread (stop.CannotRead line) is stops tells = record { line = stops.line; comes = stops.comes; tells = subst (Tells said says lines later) stops.said_is tells }
-    says_unread stop.CannotWrite is stops tells = absurd (differ 5 4 refl is)
-    says_unread (stop.PairLost stage part line) is stops tells = absurd stops
-    says_unread stop.OutOfMemory is stops tells = absurd (differ 8 4 refl is)
+    pub says_unread : (why : Stop) → status_at why ≡ 4 → StopsTo before after words old new why → HasCause before.read_faults after.read_faults why → Tells said says (line_at why)
+        → SaysUnread before after words said says
+    says_unread stop.Usage is stops cause tells = absurd (differ 2 4 refl is)
+    says_unread (stop.Refused line) is stops cause tells = absurd (differ 3 4 refl is)
+    says_unread (stop.CannotRead line) is stops cause tells = record { line = stops.line; comes = stops.comes; tells = subst (Tells said says) stops.said_is tells; rose = cause }
+    says_unread stop.CannotWrite is stops cause tells = absurd (differ 5 4 refl is)
+    says_unread (stop.PairLost stage part line) is stops cause tells = absurd stops
+    says_unread stop.OutOfMemory is stops cause tells = absurd (differ 8 4 refl is)

@@ -6,7 +6,8 @@ use Rattle.command_course.specs.Steps.{GivesBy, IsUnread}
 use Rattle.command_course.specs.declared.stop.Stop.{Stop}
 use Rattle.command_course.specs.declared.stop.Stop.TheVariants as stop
 use Rattle.flux_outside.specs.Outside.{Call, Names, OffersRests, Rose, Takes, TakesPart}
-use Rattle.flux_top.specs.Clauses.{SinkTells, Tells}
+use Rattle.flux_outside.specs.Told.{FilesTold, SinkTold}
+use Rattle.flux_top.specs.Clauses.{Tells}
 use Rattle.look_course.specs.Answers.{AnswerView, answer}
 use Rattle.look_course.specs.declared.answer.Ending.{Ending}
 use Rattle.look_top.specs.Asked.{AsksFor, asked}
@@ -19,53 +20,54 @@ abbrev pub IsStatus : ℕ → Type 0
 IsStatus status = (status ≡ 0) ⊎ (status ≡ 1) ⊎ (status ≡ 2) ⊎ (status ≡ 3) ⊎ (status ≡ 4) ⊎ (status ≡ 5) ⊎ (status ≡ 8)
 
 -- the words' inputs were read by just the calls that were added, and what they say comes to this answer
-abbrev pub ComesTo : Option Names → Option (List Call) → Option (List Call) → List (List ℕ) → AnswerView → Type 0
-ComesTo told before after words answer = AsksFor words (λ way. GivesBy told before after way answer)
+abbrev pub ComesTo : FilesTold → FilesTold → List (List ℕ) → AnswerView → Type 0
+ComesTo before after words answer = AsksFor words (λ way. GivesBy before after way answer)
 
 -- a text was put whole, each put being given all that was left of it; it is that of an answer which ends so
-pub record IsPut (old new : SinkTells) (ending : Ending) (of : AnswerView) : Type 0 where
+pub record IsPut (old new : SinkTold) (ending : Ending) (of : AnswerView) : Type 0 where
   pub ends : ending ≡ of.ending
-  pub takes : Takes old.0 new.0 of.text
-  pub offers : OffersRests old.1 new.1 of.text
+  pub takes : Takes old.taken new.taken of.text
+  pub offers : OffersRests old.offered new.offered of.text
 
 -- the words came to an answer that ends so, and its text was written whole
-pub record WritesWhole (told : Option Names) (before after : Option (List Call)) (words : List (List ℕ)) (ending : Ending) (old new : SinkTells) : Type 0 where
+pub record WritesWhole (before after : FilesTold) (words : List (List ℕ)) (ending : Ending) (old new : SinkTold) : Type 0 where
   pub text : List ℕ
-  pub comes : ComesTo told before after words (answer ending text)
-  pub takes : Takes old.0 new.0 text
-  pub offers : OffersRests old.1 new.1 text
+  pub comes : ComesTo before after words (answer ending text)
+  pub takes : Takes old.taken new.taken text
+  pub offers : OffersRests old.offered new.offered text
 
 -- or a proper front of it, in the same way, as the count of the sink's faults rose
-pub record WritesPart (told : Option Names) (before after : Option (List Call)) (words : List (List ℕ)) (old new : SinkTells) (faults now : ℕ) : Type 0 where
+pub record WritesPart (before after : FilesTold) (words : List (List ℕ)) (old new : SinkTold) : Type 0 where
   pub whole : AnswerView
-  pub comes : ComesTo told before after words whole
-  pub takes : TakesPart old.0 new.0 whole.text
-  pub offers : OffersRests old.1 new.1 whole.text
-  pub rose : Rose faults now
+  pub comes : ComesTo before after words whole
+  pub takes : TakesPart old.taken new.taken whole.text
+  pub offers : OffersRests old.offered new.offered whole.text
+  pub rose : Rose old.faults new.faults
 
 -- whatever comes behind the words' answer, they came to a refusal by the calls that were added
-abbrev pub ComesToRefusal : Option Names → Option (List Call) → Option (List Call) → List (List ℕ) → List ℕ → Type 0
-ComesToRefusal told before after words line = AsksFor words (λ way. (next : AnswerView → Course) → Came told before after (way next) (Refuses line))
+abbrev pub ComesToRefusal : FilesTold → FilesTold → List (List ℕ) → List ℕ → Type 0
+ComesToRefusal before after words line = AsksFor words (λ way. (next : AnswerView → Course) → Came before after (way next) (Refuses line))
 
 -- whatever comes behind the words' answer, they came to the reading of a file, and this line says that it can't be read
-abbrev pub ComesToRead : Option Names → Option (List Call) → Option (List Call) → List (List ℕ) → List ℕ → Type 0
-ComesToRead told before after words line = AsksFor words (λ way. (next : AnswerView → Course) → IsUnread told before after (way next) line)
+abbrev pub ComesToRead : FilesTold → FilesTold → List (List ℕ) → List ℕ → Type 0
+ComesToRead before after words line = AsksFor words (λ way. (next : AnswerView → Course) → IsUnread before after (way next) line)
 
 -- the words' command stopped on its way, if they ask for one
-abbrev pub StopsShort : Option Names → Option (List Call) → Option (List Call) → List (List ℕ) → Type 0
-StopsShort told before after words = IfSome (asked words) (λ way. (next : AnswerView → Course) → StoppedShort told before after (way next))
+abbrev pub StopsShort : FilesTold → FilesTold → List (List ℕ) → Type 0
+StopsShort before after words = IfSome (asked words) (λ way. (next : AnswerView → Course) → StoppedShort before after (way next))
 
 -- an input or an event was refused, and the line of `flux` was said of it, under the own name
-pub record SaysRefusal (told : Option Names) (before after : Option (List Call)) (words : List (List ℕ)) (old new : SinkTells) (faults now : ℕ) : Type 0 where
+pub record SaysRefusal (before after : FilesTold) (words : List (List ℕ)) (old new : SinkTold) : Type 0 where
   pub line : List ℕ
-  pub comes : ComesToRefusal told before after words line
-  pub tells : Tells old new faults now (own_line line)
+  pub comes : ComesToRefusal before after words line
+  pub tells : Tells old new (own_line line)
 
--- the file that was to be read last could not be read, and its name was said
-pub record SaysUnread (told : Option Names) (before after : Option (List Call)) (words : List (List ℕ)) (old new : SinkTells) (faults now : ℕ) : Type 0 where
+-- the file that was to be read last could not be read, as the count of faults of reads rose, and its name was said
+pub record SaysUnread (before after : FilesTold) (words : List (List ℕ)) (old new : SinkTold) : Type 0 where
   pub line : List ℕ
-  pub comes : ComesToRead told before after words line
-  pub tells : Tells old new faults now (own_line line)
+  pub comes : ComesToRead before after words line
+  pub tells : Tells old new (own_line line)
+  pub rose : Rose before.read_faults after.read_faults
 
 -- the files tell what they hold, and of that the words come to this answer
 abbrev pub Settles : Option Names → List (List ℕ) → AnswerView → Type 0
@@ -94,48 +96,48 @@ IsOwn (stop.PairLost stage part line) own = own ≡ stop.PairLost stage part lin
 IsOwn stop.OutOfMemory own = own ≡ stop.OutOfMemory
 
 -- a line is said of a refused input
-pub record RefusesBy (told : Option Names) (before after : Option (List Call)) (words : List (List ℕ)) (said : List ℕ) : Type 0 where
+pub record RefusesBy (before after : FilesTold) (words : List (List ℕ)) (said : List ℕ) : Type 0 where
   pub line : List ℕ
-  pub comes : ComesToRefusal told before after words line
+  pub comes : ComesToRefusal before after words line
   pub said_is : said ≡ own_line line
 
 -- a line is said of a file that can't be read
-pub record UnreadBy (told : Option Names) (before after : Option (List Call)) (words : List (List ℕ)) (said : List ℕ) : Type 0 where
+pub record UnreadBy (before after : FilesTold) (words : List (List ℕ)) (said : List ℕ) : Type 0 where
   pub line : List ℕ
-  pub comes : ComesToRead told before after words line
+  pub comes : ComesToRead before after words line
   pub said_is : said ≡ own_line line
 
 -- why the words came to no answer
-abbrev pub StopsBefore : Option Names → Option (List Call) → Option (List Call) → List (List ℕ) → Stop → Type 0
-StopsBefore told before after words stop.Usage = asked words ≡ None
-StopsBefore told before after words (stop.Refused line) = RefusesBy told before after words (string_bytes line)
-StopsBefore told before after words (stop.CannotRead line) = UnreadBy told before after words (string_bytes line)
-StopsBefore told before after words stop.CannotWrite = ⊥
-StopsBefore told before after words (stop.PairLost stage part line) = ⊥
-StopsBefore told before after words stop.OutOfMemory = StopsShort told before after words
+abbrev pub StopsBefore : FilesTold → FilesTold → List (List ℕ) → Stop → Type 0
+StopsBefore before after words stop.Usage = asked words ≡ None
+StopsBefore before after words (stop.Refused line) = RefusesBy before after words (string_bytes line)
+StopsBefore before after words (stop.CannotRead line) = UnreadBy before after words (string_bytes line)
+StopsBefore before after words stop.CannotWrite = ⊥
+StopsBefore before after words (stop.PairLost stage part line) = ⊥
+StopsBefore before after words stop.OutOfMemory = StopsShort before after words
 
 -- why a text was not put whole
-pub record IsPutPart (old new : SinkTells) (faults now : ℕ) (text : List ℕ) : Type 0 where
-  pub takes : TakesPart old.0 new.0 text
-  pub offers : OffersRests old.1 new.1 text
-  pub rose : Rose faults now
+pub record IsPutPart (old new : SinkTold) (text : List ℕ) : Type 0 where
+  pub takes : TakesPart old.taken new.taken text
+  pub offers : OffersRests old.offered new.offered text
+  pub rose : Rose old.faults new.faults
 
-abbrev pub StopsPut : SinkTells → SinkTells → (faults now : ℕ) → List ℕ → Stop → Type 0
-StopsPut old new faults now text stop.Usage = ⊥
-StopsPut old new faults now text (stop.Refused line) = ⊥
-StopsPut old new faults now text (stop.CannotRead line) = ⊥
-StopsPut old new faults now text stop.CannotWrite = IsPutPart old new faults now text
-StopsPut old new faults now text (stop.PairLost stage part line) = ⊥
-StopsPut old new faults now text stop.OutOfMemory = ⊥
+abbrev pub StopsPut : SinkTold → SinkTold → List ℕ → Stop → Type 0
+StopsPut old new text stop.Usage = ⊥
+StopsPut old new text (stop.Refused line) = ⊥
+StopsPut old new text (stop.CannotRead line) = ⊥
+StopsPut old new text stop.CannotWrite = IsPutPart old new text
+StopsPut old new text (stop.PairLost stage part line) = ⊥
+StopsPut old new text stop.OutOfMemory = ⊥
 
 -- why the words came to no answer, or to one that was not written whole
-abbrev pub StopsTo : Option Names → Option (List Call) → Option (List Call) → List (List ℕ) → SinkTells → SinkTells → (faults now : ℕ) → Stop → Type 0
-StopsTo told before after words old new faults now stop.Usage = asked words ≡ None
-StopsTo told before after words old new faults now (stop.Refused line) = RefusesBy told before after words (string_bytes line)
-StopsTo told before after words old new faults now (stop.CannotRead line) = UnreadBy told before after words (string_bytes line)
-StopsTo told before after words old new faults now stop.CannotWrite = WritesPart told before after words old new faults now
-StopsTo told before after words old new faults now (stop.PairLost stage part line) = ⊥
-StopsTo told before after words old new faults now stop.OutOfMemory = StopsShort told before after words
+abbrev pub StopsTo : FilesTold → FilesTold → List (List ℕ) → SinkTold → SinkTold → Stop → Type 0
+StopsTo before after words old new stop.Usage = asked words ≡ None
+StopsTo before after words old new (stop.Refused line) = RefusesBy before after words (string_bytes line)
+StopsTo before after words old new (stop.CannotRead line) = UnreadBy before after words (string_bytes line)
+StopsTo before after words old new stop.CannotWrite = WritesPart before after words old new
+StopsTo before after words old new (stop.PairLost stage part line) = ⊥
+StopsTo before after words old new stop.OutOfMemory = StopsShort before after words
 
 -- the program runs nothing, so no pair is lost
 abbrev pub LosesNoPair : Stop → Type 0

@@ -1,13 +1,13 @@
 // What words come to, before anything of it is written.
-ghost use Rattle.command_course.specs.Steps.{GivesBy, HasReadCause, IsWant, StopsBy};
+ghost use Rattle.command_course.specs.Steps.{GivesBy, OnlyReads, StopsBy};
 ghost use Rattle.command_course.specs.declared.stop.Stop.TheVariants.{Usage};
-ghost use Rattle.flux_outside.specs.Outside.{StopsAtWant};
+ghost use Rattle.flux_top.specs.Outcome.{texts};
 ghost use Rattle.look_command.specs.Courses.{way_of};
 ghost use Rattle.look_course.specs.Answers.{answer_of};
 ghost use Rattle.look_top.specs.Asked.{asked};
 ghost use Rattle.look_top.specs.Clauses.{ComesTo, StopsBefore};
 ghost use Rattle.look_words.specs.Forms.{request_of};
-ghost use Rattle.std.specs.Prelude.{◌≡◌, Err, IfErr, IfOk, None, OnOk, map, string_bytes};
+ghost use Rattle.std.specs.Prelude.{◌≡◌, Err, IfErr, IfOk, None};
 
 use crate::own::own_stop;
 use command_course::Stop;
@@ -23,15 +23,11 @@ pub(crate) fn answered<F: Files>(
     words: &[String],
     files: &mut F,
 ) -> Result<Answer, Stop>
-    ensures comes { IfOk result (λ answer. ComesTo (F.contents files.old) (F.calls files.old) (F.calls files.new) (map string_bytes words.now) (answer_of answer)) }
-    ensures usage { asked (map string_bytes words.now) ≡ None → result ≡ Err Usage }
-    ensures unasked { asked (map string_bytes words.now) ≡ None → files.new ≡ files.old }
-    ensures stops { IfErr result (λ stop. StopsBefore (F.contents files.old) (F.calls files.old) (F.calls files.new) (map string_bytes words.now) stop) }
-    ensures cause { IfErr result (λ stop. HasReadCause (F.read_faults files.old) (F.read_faults files.new) stop) }
-    ensures still { OnOk result (F.read_faults files.new ≡ F.read_faults files.old) }
-    ensures wants { StopsAtWant (F.wants files.old) (F.wants files.new) (IsWant result) }
-    ensures contents { F.contents files.new ≡ F.contents files.old }
-    ensures saves { F.save_faults files.new ≡ F.save_faults files.old }
+    ensures comes { IfOk result (λ answer. ComesTo (F.told files.old) (F.told files.new) (texts words.now) (answer_of answer)) }
+    ensures usage { asked (texts words.now) ≡ None → result ≡ Err Usage }
+    ensures unasked { asked (texts words.now) ≡ None → files.new ≡ files.old }
+    ensures stops { IfErr result (λ stop. StopsBefore (F.told files.old) (F.told files.new) (texts words.now) stop) }
+    ensures reads { OnlyReads (F.told files.old) (F.told files.new) result }
 {
     match read_words(words) {
         None => Err(Stop::Usage),
@@ -48,13 +44,9 @@ fn answer_of<F: Files>(
     files: &mut F,
     command: LookCommand<'_>,
 ) -> Result<Answer, Stop>
-    ensures gives { IfOk result (λ answer. GivesBy (F.contents files.old) (F.calls files.old) (F.calls files.new) (way_of (request_of command.entry)) (answer_of answer)) }
-    ensures stops { IfErr result (λ stop. StopsBy (F.contents files.old) (F.calls files.old) (F.calls files.new) (way_of (request_of command.entry)) stop) }
-    ensures cause { IfErr result (λ stop. HasReadCause (F.read_faults files.old) (F.read_faults files.new) stop) }
-    ensures still { OnOk result (F.read_faults files.new ≡ F.read_faults files.old) }
-    ensures wants { StopsAtWant (F.wants files.old) (F.wants files.new) (IsWant result) }
-    ensures contents { F.contents files.new ≡ F.contents files.old }
-    ensures saves { F.save_faults files.new ≡ F.save_faults files.old }
+    ensures gives { IfOk result (λ answer. GivesBy (F.told files.old) (F.told files.new) (way_of (request_of command.entry)) (answer_of answer)) }
+    ensures stops { IfErr result (λ stop. StopsBy (F.told files.old) (F.told files.new) (way_of (request_of command.entry)) stop) }
+    ensures reads { OnlyReads (F.told files.old) (F.told files.new) result }
 {
     match command {
         LookCommand::Check {

@@ -3,12 +3,13 @@ ghost use Rattle.command_course.specs.Steps.{IsWant};
 ghost use Rattle.command_course.specs.declared.stop.Stop.TheVariants.{Usage};
 ghost use Rattle.flux_outside.specs.Outside.{Rose, StopsAtWant};
 ghost use Rattle.flux_top.specs.Clauses.{HasCause, IsQuiet, Tells};
+ghost use Rattle.flux_top.specs.Outcome.{texts};
 ghost use Rattle.look_course.specs.Answers.{AnswerView, answer_of, status_of};
 ghost use Rattle.look_course.specs.declared.answer.Ending.TheVariants.{Done, Faulty, Warned};
 ghost use Rattle.look_top.specs.Asked.{asked};
 ghost use Rattle.look_top.specs.Clauses.{IsPut, IsStatus, LosesNoPair, Rejects, SaysRefusal, SaysUnread, Settles, StopsPut, StopsShort, StopsTo, WritesPart, WritesWhole, line_at, status_at};
 ghost use Rattle.look_top.specs.Lines.{cannot_write_line, memory_line, usage_line};
-ghost use Rattle.std.specs.Prelude.{◌≡◌, ◌≢◌, ◌⊎◌, Err, IfErr, IfOk, None, OnOk, map, string_bytes};
+ghost use Rattle.std.specs.Prelude.{◌≡◌, ◌≢◌, ◌⊎◌, Err, IfErr, IfOk, None, OnOk};
 
 use crate::answered::answered;
 use command_course::Stop;
@@ -36,47 +37,46 @@ pub fn flux_look<F: Files, S: Sink, E: Sink>(
     err: &mut E,
 ) -> u8
     // 0 and 1: the text that the words ask for was written whole, and nothing is said. At 1 it warns.
-    ensures done { result ≡ 0 → WritesWhole (F.contents files.old) (F.calls files.old) (F.calls files.new) (map string_bytes words.now) Done (S.taken out.old, S.offered out.old) (S.taken out.new, S.offered out.new) }
-    ensures warned { result ≡ 1 → WritesWhole (F.contents files.old) (F.calls files.old) (F.calls files.new) (map string_bytes words.now) Warned (S.taken out.old, S.offered out.old) (S.taken out.new, S.offered out.new) }
+    ensures done { result ≡ 0 → WritesWhole (F.told files.old) (F.told files.new) (texts words.now) Done (S.told out.old) (S.told out.new) }
+    ensures warned { result ≡ 1 → WritesWhole (F.told files.old) (F.told files.new) (texts words.now) Warned (S.told out.old) (S.told out.new) }
     ensures silent { result ≡ 0 → err.new ≡ err.old }
     ensures silent_warned { result ≡ 1 → err.new ≡ err.old }
 
     // 2: the words have no form, and just such words end so. No file is asked for.
-    ensures usage { result ≡ 2 → asked (map string_bytes words.now) ≡ None }
-    ensures formless { asked (map string_bytes words.now) ≡ None → result ≡ 2 }
-    ensures usage_line { result ≡ 2 → Tells (E.taken err.old, E.offered err.old) (E.taken err.new, E.offered err.new) (E.faults err.old) (E.faults err.new) usage_line }
-    ensures unasked { asked (map string_bytes words.now) ≡ None → files.new ≡ files.old }
+    ensures usage { result ≡ 2 → asked (texts words.now) ≡ None }
+    ensures formless { asked (texts words.now) ≡ None → result ≡ 2 }
+    ensures usage_line { result ≡ 2 → Tells (E.told err.old) (E.told err.new) usage_line }
+    ensures unasked { asked (texts words.now) ≡ None → files.new ≡ files.old }
 
     // 3: the first fault of each input was written whole, and nothing is said; or an input or an event is refused, it
     // is said why, and nothing is written.
-    ensures refused { result ≡ 3 → (WritesWhole (F.contents files.old) (F.calls files.old) (F.calls files.new) (map string_bytes words.now) Faulty (S.taken out.old, S.offered out.old) (S.taken out.new, S.offered out.new) × (err.new ≡ err.old))
-        ⊎ (SaysRefusal (F.contents files.old) (F.calls files.old) (F.calls files.new) (map string_bytes words.now) (E.taken err.old, E.offered err.old) (E.taken err.new, E.offered err.new) (E.faults err.old) (E.faults err.new) × (out.new ≡ out.old)) }
+    ensures refused { result ≡ 3 → (WritesWhole (F.told files.old) (F.told files.new) (texts words.now) Faulty (S.told out.old) (S.told out.new) × (err.new ≡ err.old))
+        ⊎ (SaysRefusal (F.told files.old) (F.told files.new) (texts words.now) (E.told err.old) (E.told err.new) × (out.new ≡ out.old)) }
 
     // 4: the input that was asked for last was not to be had, only where the count of read faults rose; its name is said.
-    ensures unread { result ≡ 4 → SaysUnread (F.contents files.old) (F.calls files.old) (F.calls files.new) (map string_bytes words.now) (E.taken err.old, E.offered err.old) (E.taken err.new, E.offered err.new) (E.faults err.old) (E.faults err.new) }
-    ensures unread_cause { result ≡ 4 → Rose (F.read_faults files.old) (F.read_faults files.new) }
+    ensures unread { result ≡ 4 → SaysUnread (F.told files.old) (F.told files.new) (texts words.now) (E.told err.old) (E.told err.new) }
 
     // 5: a proper front of the text was written, only where the count of faults of `out` rose.
-    ensures unwritten { result ≡ 5 → WritesPart (F.contents files.old) (F.calls files.old) (F.calls files.new) (map string_bytes words.now) (S.taken out.old, S.offered out.old) (S.taken out.new, S.offered out.new) (S.faults out.old) (S.faults out.new) }
-    ensures unwritten_line { result ≡ 5 → Tells (E.taken err.old, E.offered err.old) (E.taken err.new, E.offered err.new) (E.faults err.old) (E.faults err.new) cannot_write_line }
+    ensures unwritten { result ≡ 5 → WritesPart (F.told files.old) (F.told files.new) (texts words.now) (S.told out.old) (S.told out.new) }
+    ensures unwritten_line { result ≡ 5 → Tells (E.told err.old) (E.told err.new) cannot_write_line }
 
     // 8: want of memory, after which no file is asked for. There is no other status.
-    ensures short { result ≡ 8 → StopsShort (F.contents files.old) (F.calls files.old) (F.calls files.new) (map string_bytes words.now) }
-    ensures memory_line { result ≡ 8 → Tells (E.taken err.old, E.offered err.old) (E.taken err.new, E.offered err.new) (E.faults err.old) (E.faults err.new) memory_line }
-    ensures wants { StopsAtWant (F.wants files.old) (F.wants files.new) (result ≡ 8) }
+    ensures short { result ≡ 8 → StopsShort (F.told files.old) (F.told files.new) (texts words.now) }
+    ensures memory_line { result ≡ 8 → Tells (E.told err.old) (E.told err.new) memory_line }
+    ensures wants { StopsAtWant (F.told files.old).wants (F.told files.new).wants (result ≡ 8) }
     ensures statuses { IsStatus result }
 
     // It writes only at 0, 1, 3 and 5, and the count of read faults stays but at 4 and 8. No file is changed.
     ensures quiet { result ≢ 0 → result ≢ 1 → result ≢ 3 → result ≢ 5 → out.new ≡ out.old }
-    ensures still { result ≢ 4 → result ≢ 8 → F.read_faults files.new ≡ F.read_faults files.old }
-    ensures kept { F.contents files.new ≡ F.contents files.old }
-    ensures saves_still { F.save_faults files.new ≡ F.save_faults files.old }
+    ensures still { result ≢ 4 → result ≢ 8 → (F.told files.new).read_faults ≡ (F.told files.old).read_faults }
+    ensures kept { (F.told files.new).contents ≡ (F.told files.old).contents }
+    ensures saves_still { (F.told files.new).save_faults ≡ (F.told files.old).save_faults }
 
     // Where the files tell what they hold and no count rose, what they hold comes to its status, or it is refused,
     // unless no memory was to be had.
-    ensures complete { (answer : AnswerView) → Settles (F.contents files.old) (map string_bytes words.now) answer → (Rose (F.read_faults files.old) (F.read_faults files.new) → ⊥)
-        → (Rose (S.faults out.old) (S.faults out.new) → ⊥) → (result ≡ status_of answer.ending) ⊎ (result ≡ 8) }
-    ensures rejects { Rejects (F.contents files.old) (map string_bytes words.now) → (Rose (F.read_faults files.old) (F.read_faults files.new) → ⊥) → (result ≡ 3) ⊎ (result ≡ 8) }
+    ensures complete { (answer : AnswerView) → Settles (F.told files.old).contents (texts words.now) answer → (Rose (F.told files.old).read_faults (F.told files.new).read_faults → ⊥)
+        → (Rose (S.told out.old).faults (S.told out.new).faults → ⊥) → (result ≡ status_of answer.ending) ⊎ (result ≡ 8) }
+    ensures rejects { Rejects (F.told files.old).contents (texts words.now) → (Rose (F.told files.old).read_faults (F.told files.new).read_faults → ⊥) → (result ≡ 3) ⊎ (result ≡ 8) }
 {
     match run(alloc, words, files, out) {
         Ok(ending) => status_of(ending),
@@ -99,7 +99,7 @@ fn status_of(ending: Ending) -> u8
 fn said<E: Sink>(err: &mut E, stop: &Stop) -> u8
     requires { LosesNoPair stop.now }
     ensures status { result ≡ status_at stop.now }
-    ensures line { Tells (E.taken err.old, E.offered err.old) (E.taken err.new, E.offered err.new) (E.faults err.old) (E.faults err.new) (line_at stop.now) }
+    ensures line { Tells (E.told err.old) (E.told err.new) (line_at stop.now) }
 {
     match stop {
         Stop::Usage => {
@@ -133,15 +133,15 @@ fn run<F: Files, S: Sink>(
     files: &mut F,
     out: &mut S,
 ) -> Result<Ending, Stop>
-    ensures written { IfOk result (λ ending. WritesWhole (F.contents files.old) (F.calls files.old) (F.calls files.new) (map string_bytes words.now) ending (S.taken out.old, S.offered out.old) (S.taken out.new, S.offered out.new)) }
-    ensures usage { asked (map string_bytes words.now) ≡ None → result ≡ Err Usage }
-    ensures unasked { asked (map string_bytes words.now) ≡ None → files.new ≡ files.old }
-    ensures stops { IfErr result (λ stop. StopsTo (F.contents files.old) (F.calls files.old) (F.calls files.new) (map string_bytes words.now) (S.taken out.old, S.offered out.old) (S.taken out.new, S.offered out.new) (S.faults out.old) (S.faults out.new) stop) }
-    ensures cause { IfErr result (λ stop. HasCause (F.read_faults files.old) (F.read_faults files.new) stop) }
-    ensures still { OnOk result (F.read_faults files.new ≡ F.read_faults files.old) }
-    ensures wants { StopsAtWant (F.wants files.old) (F.wants files.new) (IsWant result) }
-    ensures contents { F.contents files.new ≡ F.contents files.old }
-    ensures saves { F.save_faults files.new ≡ F.save_faults files.old }
+    ensures written { IfOk result (λ ending. WritesWhole (F.told files.old) (F.told files.new) (texts words.now) ending (S.told out.old) (S.told out.new)) }
+    ensures usage { asked (texts words.now) ≡ None → result ≡ Err Usage }
+    ensures unasked { asked (texts words.now) ≡ None → files.new ≡ files.old }
+    ensures stops { IfErr result (λ stop. StopsTo (F.told files.old) (F.told files.new) (texts words.now) (S.told out.old) (S.told out.new) stop) }
+    ensures cause { IfErr result (λ stop. HasCause (F.told files.old).read_faults (F.told files.new).read_faults stop) }
+    ensures still { OnOk result ((F.told files.new).read_faults ≡ (F.told files.old).read_faults) }
+    ensures wants { StopsAtWant (F.told files.old).wants (F.told files.new).wants (IsWant result) }
+    ensures contents { (F.told files.new).contents ≡ (F.told files.old).contents }
+    ensures saves { (F.told files.new).save_faults ≡ (F.told files.old).save_faults }
     ensures quiet { IfErr result (λ stop. IsQuiet out.old out.new stop) }
 {
     match answered(alloc, words, files) {
@@ -152,8 +152,8 @@ fn run<F: Files, S: Sink>(
 
 // Writes an answer's text.
 fn written<S: Sink>(out: &mut S, answer: &Answer) -> Result<Ending, Stop>
-    ensures whole { IfOk result (λ ending. IsPut (S.taken out.old, S.offered out.old) (S.taken out.new, S.offered out.new) ending (answer_of answer.now)) }
-    ensures stops { IfErr result (λ stop. StopsPut (S.taken out.old, S.offered out.old) (S.taken out.new, S.offered out.new) (S.faults out.old) (S.faults out.new) (answer_of answer.now).text stop) }
+    ensures whole { IfOk result (λ ending. IsPut (S.told out.old) (S.told out.new) ending (answer_of answer.now)) }
+    ensures stops { IfErr result (λ stop. StopsPut (S.told out.old) (S.told out.new) (answer_of answer.now).text stop) }
 {
     match write_all(out, &answer.text) {
         Ok(()) => Ok(answer.ending),

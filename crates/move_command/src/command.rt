@@ -1,10 +1,9 @@
 // The command `move`: what it writes, of its inputs one after the other.
-ghost use Rattle.std.specs.Prelude.{◌≡◌, All, IfErr, IfOk, IsTrue, OnOk};
+ghost use Rattle.std.specs.Prelude.{◌≡◌, All, IfErr, IfOk, IsTrue};
 ghost use Rattle.bucket_move.specs.ByKey.{is_by_key};
 ghost use Rattle.bucket_move.specs.Shifts.{DontFall, IsShiftOf};
 ghost use Rattle.command_course.specs.Course.{Came, Writes};
-ghost use Rattle.command_course.specs.Steps.{HasReadCause, IsWant, StopsOf};
-ghost use Rattle.flux_outside.specs.Outside.{StopsAtWant};
+ghost use Rattle.command_course.specs.Steps.{OnlyReads, StopsOf};
 ghost use Rattle.move_command.specs.Outcome.{move_course, move_moves, move_plan, move_trades};
 ghost use Rattle.move_command.specs.Text.{move_text};
 
@@ -20,7 +19,7 @@ use trade_text::Trades;
 
 /// The text that `move` writes: the output of the plan for the trades, worked in buckets that move as the file of moves says, and
 /// then for each partition how many keys stand there at the end.
-#[tactic(auto, using(crate::proofs::Courses::wants_on))]
+#[tactic(auto, using(crate::proofs::Courses::reads_on, crate::proofs::Courses::reads_stopped))]
 pub fn move_text<R: Threads + Sync, F: Files>(
     rt: &R,
     alloc: Global,
@@ -29,13 +28,9 @@ pub fn move_text<R: Threads + Sync, F: Files>(
     trades: &str,
     moves: &str,
 ) -> Result<Vec<u8>, Stop>
-    ensures comes { IfOk result (λ bytes. Came (F.contents files.old) (F.calls files.old) (F.calls files.new) (move_course plan.now trades.now moves.now) (Writes bytes.items)) }
-    ensures stops { IfErr result (λ stop. StopsOf (F.contents files.old) (F.calls files.old) (F.calls files.new) (move_course plan.now trades.now moves.now) stop) }
-    ensures cause { IfErr result (λ stop. HasReadCause (F.read_faults files.old) (F.read_faults files.new) stop) }
-    ensures still { OnOk result (F.read_faults files.new ≡ F.read_faults files.old) }
-    ensures wants { StopsAtWant (F.wants files.old) (F.wants files.new) (IsWant result) }
-    ensures contents { F.contents files.new ≡ F.contents files.old }
-    ensures saves { F.save_faults files.new ≡ F.save_faults files.old }
+    ensures comes { IfOk result (λ bytes. Came (F.told files.old) (F.told files.new) (move_course plan.now trades.now moves.now) (Writes bytes.items)) }
+    ensures stops { IfErr result (λ stop. StopsOf (F.told files.old) (F.told files.new) (move_course plan.now trades.now moves.now) stop) }
+    ensures reads { OnlyReads (F.told files.old) (F.told files.new) result }
 {
     match input_at(alloc, files, plan, &PlanFile) {
         Ok(it) => text_of_plan(rt, alloc, files, plan, &it, trades, moves),
@@ -44,7 +39,7 @@ pub fn move_text<R: Threads + Sync, F: Files>(
 }
 
 // The text, once the plan was read: it is to be by key.
-#[tactic(auto, using(crate::proofs::Courses::refused_here))]
+#[tactic(auto, using(crate::proofs::Courses::refused_here, crate::proofs::Courses::reads_refused))]
 fn text_of_plan<R: Threads + Sync, F: Files>(
     rt: &R,
     alloc: Global,
@@ -54,13 +49,9 @@ fn text_of_plan<R: Threads + Sync, F: Files>(
     trades: &str,
     moves: &str,
 ) -> Result<Vec<u8>, Stop>
-    ensures comes { IfOk result (λ bytes. Came (F.contents files.old) (F.calls files.old) (F.calls files.new) (move_plan name.now trades.now moves.now plan.now) (Writes bytes.items)) }
-    ensures stops { IfErr result (λ stop. StopsOf (F.contents files.old) (F.calls files.old) (F.calls files.new) (move_plan name.now trades.now moves.now plan.now) stop) }
-    ensures cause { IfErr result (λ stop. HasReadCause (F.read_faults files.old) (F.read_faults files.new) stop) }
-    ensures still { OnOk result (F.read_faults files.new ≡ F.read_faults files.old) }
-    ensures wants { StopsAtWant (F.wants files.old) (F.wants files.new) (IsWant result) }
-    ensures contents { F.contents files.new ≡ F.contents files.old }
-    ensures saves { F.save_faults files.new ≡ F.save_faults files.old }
+    ensures comes { IfOk result (λ bytes. Came (F.told files.old) (F.told files.new) (move_plan name.now trades.now moves.now plan.now) (Writes bytes.items)) }
+    ensures stops { IfErr result (λ stop. StopsOf (F.told files.old) (F.told files.new) (move_plan name.now trades.now moves.now plan.now) stop) }
+    ensures reads { OnlyReads (F.told files.old) (F.told files.new) result }
 {
     if is_by_key(plan) {
         text_of_trades(rt, alloc, files, plan, trades, moves)
@@ -70,7 +61,7 @@ fn text_of_plan<R: Threads + Sync, F: Files>(
 }
 
 // The text, once the plan was accepted.
-#[tactic(auto, using(crate::proofs::Courses::wants_on))]
+#[tactic(auto, using(crate::proofs::Courses::reads_on, crate::proofs::Courses::reads_stopped))]
 fn text_of_trades<R: Threads + Sync, F: Files>(
     rt: &R,
     alloc: Global,
@@ -80,13 +71,9 @@ fn text_of_trades<R: Threads + Sync, F: Files>(
     moves: &str,
 ) -> Result<Vec<u8>, Stop>
     requires { IsTrue (is_by_key plan.now) }
-    ensures comes { IfOk result (λ bytes. Came (F.contents files.old) (F.calls files.old) (F.calls files.new) (move_trades trades.now moves.now plan.now) (Writes bytes.items)) }
-    ensures stops { IfErr result (λ stop. StopsOf (F.contents files.old) (F.calls files.old) (F.calls files.new) (move_trades trades.now moves.now plan.now) stop) }
-    ensures cause { IfErr result (λ stop. HasReadCause (F.read_faults files.old) (F.read_faults files.new) stop) }
-    ensures still { OnOk result (F.read_faults files.new ≡ F.read_faults files.old) }
-    ensures wants { StopsAtWant (F.wants files.old) (F.wants files.new) (IsWant result) }
-    ensures contents { F.contents files.new ≡ F.contents files.old }
-    ensures saves { F.save_faults files.new ≡ F.save_faults files.old }
+    ensures comes { IfOk result (λ bytes. Came (F.told files.old) (F.told files.new) (move_trades trades.now moves.now plan.now) (Writes bytes.items)) }
+    ensures stops { IfErr result (λ stop. StopsOf (F.told files.old) (F.told files.new) (move_trades trades.now moves.now plan.now) stop) }
+    ensures reads { OnlyReads (F.told files.old) (F.told files.new) result }
 {
     match input_at(alloc, files, trades, &TradesFile) {
         Ok(trades) => text_of_moves(rt, alloc, files, plan, &trades, moves),
@@ -95,7 +82,7 @@ fn text_of_trades<R: Threads + Sync, F: Files>(
 }
 
 // The text, once the trades were read too.
-#[tactic(auto, using(crate::proofs::Courses::wants_on))]
+#[tactic(auto, using(crate::proofs::Courses::reads_then, crate::proofs::Courses::reads_stopped))]
 fn text_of_moves<R: Threads + Sync, F: Files>(
     rt: &R,
     alloc: Global,
@@ -105,13 +92,9 @@ fn text_of_moves<R: Threads + Sync, F: Files>(
     moves: &str,
 ) -> Result<Vec<u8>, Stop>
     requires { IsTrue (is_by_key plan.now) }
-    ensures comes { IfOk result (λ bytes. Came (F.contents files.old) (F.calls files.old) (F.calls files.new) (move_moves moves.now plan.now trades.now) (Writes bytes.items)) }
-    ensures stops { IfErr result (λ stop. StopsOf (F.contents files.old) (F.calls files.old) (F.calls files.new) (move_moves moves.now plan.now trades.now) stop) }
-    ensures cause { IfErr result (λ stop. HasReadCause (F.read_faults files.old) (F.read_faults files.new) stop) }
-    ensures still { OnOk result (F.read_faults files.new ≡ F.read_faults files.old) }
-    ensures wants { StopsAtWant (F.wants files.old) (F.wants files.new) (IsWant result) }
-    ensures contents { F.contents files.new ≡ F.contents files.old }
-    ensures saves { F.save_faults files.new ≡ F.save_faults files.old }
+    ensures comes { IfOk result (λ bytes. Came (F.told files.old) (F.told files.new) (move_moves moves.now plan.now trades.now) (Writes bytes.items)) }
+    ensures stops { IfErr result (λ stop. StopsOf (F.told files.old) (F.told files.new) (move_moves moves.now plan.now trades.now) stop) }
+    ensures reads { OnlyReads (F.told files.old) (F.told files.new) result }
 {
     match input_at(alloc, files, moves, &MovesFile { plan }) {
         Ok(moves) => written(rt, alloc, plan, trades, &moves),

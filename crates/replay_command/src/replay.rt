@@ -2,14 +2,13 @@
 ghost use Rattle.std.specs.Prelude.{◌≡◌, ◌≢◌, true, IfErr, IfOk, OnOk, option_map};
 ghost use Rattle.command_course.specs.Course.{Came, Writes};
 ghost use Rattle.command_course.specs.Feeds.{feed_of};
-ghost use Rattle.command_course.specs.Steps.{HasReadCause, IsRefusedBy, IsWant, StopsOf};
+ghost use Rattle.command_course.specs.Steps.{IsRefusedBy, OnlyReads, StopsOf};
 ghost use Rattle.command_course.specs.Lines.{line_of};
 ghost use Rattle.text_words.specs.Messages.{at_line};
 ghost use Rattle.replay_command.specs.Replaying.{error_text};
 ghost use Rattle.flux_core.specs.CoreView.{flow_in, inputs_of};
 ghost use Rattle.flux_core.specs.Follows.{AreNamed};
 ghost use Rattle.flux_core.specs.Stands.{StandsFor};
-ghost use Rattle.flux_outside.specs.Outside.{StopsAtWant};
 ghost use Rattle.pair_machine.specs.Machine.{State, opening};
 ghost use Rattle.trade_text.specs.TradesView.{inputs_in};
 ghost use Rattle.replay_command.specs.Courses.{replay_course, replays, replays_file};
@@ -26,6 +25,7 @@ use std::alloc::Global;
 use trade_text::Trades;
 
 /// The text that `replay` writes: that of the state which the events of a file reach from the opening of a plan.
+#[tactic(auto, using(crate::proofs::Ways::reads_on, crate::proofs::Ways::reads_stopped))]
 pub fn replay_text<F: Files>(
     alloc: Global,
     files: &mut F,
@@ -34,13 +34,9 @@ pub fn replay_text<F: Files>(
     events: &str,
     cash: Option<&str>,
 ) -> Result<Vec<u8>, Stop>
-    ensures comes { IfOk result (λ bytes. Came (F.contents files.old) (F.calls files.old) (F.calls files.new) (replay_course plan.now trades.now events.now (option_map (λ name. name.now) cash.entry)) (Writes bytes.items)) }
-    ensures stops { IfErr result (λ stop. StopsOf (F.contents files.old) (F.calls files.old) (F.calls files.new) (replay_course plan.now trades.now events.now (option_map (λ name. name.now) cash.entry)) stop) }
-    ensures cause { IfErr result (λ stop. HasReadCause (F.read_faults files.old) (F.read_faults files.new) stop) }
-    ensures still { OnOk result (F.read_faults files.new ≡ F.read_faults files.old) }
-    ensures wants { StopsAtWant (F.wants files.old) (F.wants files.new) (IsWant result) }
-    ensures contents { F.contents files.new ≡ F.contents files.old }
-    ensures saves { F.save_faults files.new ≡ F.save_faults files.old }
+    ensures comes { IfOk result (λ bytes. Came (F.told files.old) (F.told files.new) (replay_course plan.now trades.now events.now (option_map (λ name. name.now) cash.entry)) (Writes bytes.items)) }
+    ensures stops { IfErr result (λ stop. StopsOf (F.told files.old) (F.told files.new) (replay_course plan.now trades.now events.now (option_map (λ name. name.now) cash.entry)) stop) }
+    ensures reads { OnlyReads (F.told files.old) (F.told files.new) result }
 {
     match feed_at(alloc, files, plan, trades, cash) {
         Ok(feed) => fed_text(alloc, files, &feed, events),
@@ -49,19 +45,16 @@ pub fn replay_text<F: Files>(
 }
 
 // The same, once all inputs but the events were read.
+#[tactic(auto, using(crate::proofs::Ways::reads_in, crate::proofs::Ways::reads_stopped))]
 fn fed_text<F: Files>(
     alloc: Global,
     files: &mut F,
     feed: &Feed,
     events: &str,
 ) -> Result<Vec<u8>, Stop>
-    ensures comes { IfOk result (λ bytes. Came (F.contents files.old) (F.calls files.old) (F.calls files.new) (replays_file events.now (feed_of feed.now)) (Writes bytes.items)) }
-    ensures stops { IfErr result (λ stop. StopsOf (F.contents files.old) (F.calls files.old) (F.calls files.new) (replays_file events.now (feed_of feed.now)) stop) }
-    ensures cause { IfErr result (λ stop. HasReadCause (F.read_faults files.old) (F.read_faults files.new) stop) }
-    ensures still { OnOk result (F.read_faults files.new ≡ F.read_faults files.old) }
-    ensures wants { StopsAtWant (F.wants files.old) (F.wants files.new) (IsWant result) }
-    ensures contents { F.contents files.new ≡ F.contents files.old }
-    ensures saves { F.save_faults files.new ≡ F.save_faults files.old }
+    ensures comes { IfOk result (λ bytes. Came (F.told files.old) (F.told files.new) (replays_file events.now (feed_of feed.now)) (Writes bytes.items)) }
+    ensures stops { IfErr result (λ stop. StopsOf (F.told files.old) (F.told files.new) (replays_file events.now (feed_of feed.now)) stop) }
+    ensures reads { OnlyReads (F.told files.old) (F.told files.new) result }
 {
     let file = EventsFile { plan: &feed.plan };
     match input_at(alloc, files, events, &file) {

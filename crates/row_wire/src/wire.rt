@@ -30,9 +30,9 @@ pub trait Wire {
 
 /// A sink is a wire.
 impl<S: Sink> Wire for S {
-    ghost taken = { λ s. S.taken s };
+    ghost taken = { λ s. (S.told s).taken };
 
-    ghost faults = { λ s. S.faults s };
+    ghost faults = { λ s. (S.told s).faults };
 
     fn put(&mut self, bytes: &[u8]) -> Result<usize, Broken> {
         match Sink::put(self, bytes) {

@@ -11,7 +11,7 @@ use Rattle.pair_machine.specs.Numbers.{Partition}
 use Rattle.run_journal.specs.Text.{events_text}
 use Rattle.drained_run.specs.Ended.{IsLostAt, IsWhole}
 use Rattle.command_course.specs.Course.{Came, Course, Run, Runs}
-use Rattle.flux_outside.specs.Outside.{Call, Names}
+use Rattle.flux_outside.specs.Told.{FilesTold}
 use Rattle.run_command.specs.declared.outcome.Outcome.{Outcome}
 
 -- what is written, and what is saved before it: a file's name and its bytes
@@ -65,7 +65,7 @@ HasEnded run drained.Whole ending = EndsWhole run ending
 HasEnded run (drained.Lost stage part) ending = EndsLost run (partition stage part) ending
 
 -- a course came to a run, which ended so
-pub record CameToRun (told : Option Names) (old new : Option (List Call)) (course : Course) (outcome : Outcome) : Type 0 where
+pub record CameToRun (old new : FilesTold) (course : Course) (outcome : Outcome) : Type 0 where
   pub run : Run
-  pub came : Came told old new course (Runs run)
+  pub came : Came old new course (Runs run)
   pub ended : HasEnded run outcome.drained (ending_of outcome)

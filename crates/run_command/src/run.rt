@@ -1,9 +1,8 @@
 // The command `run`.
-ghost use Rattle.std.specs.Prelude.{◌≡◌, IfErr, IfOk, OnOk};
+ghost use Rattle.std.specs.Prelude.{◌≡◌, IfErr, IfOk};
 ghost use Rattle.command_course.specs.Feeds.{IsFed, feed_of};
-ghost use Rattle.command_course.specs.Steps.{HasReadCause, IsWant, StopsOf};
+ghost use Rattle.command_course.specs.Steps.{OnlyReads, StopsOf};
 ghost use Rattle.command_line.specs.Views.{AreInRange, options_in};
-ghost use Rattle.flux_outside.specs.Outside.{StopsAtWant};
 ghost use Rattle.run_command.specs.Courses.{run_course, run_of, runs};
 ghost use Rattle.run_command.specs.Endings.{CameToRun, HasEnded, ending_of};
 
@@ -19,7 +18,7 @@ use std::alloc::Global;
 use std::thread::Threads;
 
 /// What `run` comes to: a plan is run by pairs on threads for its inputs, under the failure script.
-#[tactic(auto, using(crate::proofs::Ways::wants_on))]
+#[tactic(auto, using(crate::proofs::Ways::reads_on, crate::proofs::Ways::reads_stopped))]
 pub fn run_outcome<'a, R: Threads + Sync, F: Files, G: Gate>(
     rt: &R,
     alloc: Global,
@@ -30,13 +29,9 @@ pub fn run_outcome<'a, R: Threads + Sync, F: Files, G: Gate>(
     gate: &G,
 ) -> Result<Outcome<'a>, Stop>
     requires { AreInRange options }
-    ensures comes { IfOk result (λ outcome. CameToRun (F.contents files.old) (F.calls files.old) (F.calls files.new) (run_course plan.now trades.now (options_in options.entry)) outcome) }
-    ensures stops { IfErr result (λ stop. StopsOf (F.contents files.old) (F.calls files.old) (F.calls files.new) (run_course plan.now trades.now (options_in options.entry)) stop) }
-    ensures cause { IfErr result (λ stop. HasReadCause (F.read_faults files.old) (F.read_faults files.new) stop) }
-    ensures still { OnOk result (F.read_faults files.new ≡ F.read_faults files.old) }
-    ensures wants { StopsAtWant (F.wants files.old) (F.wants files.new) (IsWant result) }
-    ensures contents { F.contents files.new ≡ F.contents files.old }
-    ensures saves { F.save_faults files.new ≡ F.save_faults files.old }
+    ensures comes { IfOk result (λ outcome. CameToRun (F.told files.old) (F.told files.new) (run_course plan.now trades.now (options_in options.entry)) outcome) }
+    ensures stops { IfErr result (λ stop. StopsOf (F.told files.old) (F.told files.new) (run_course plan.now trades.now (options_in options.entry)) stop) }
+    ensures reads { OnlyReads (F.told files.old) (F.told files.new) result }
 {
     match feed_at(alloc, files, plan, trades, options.cash) {
         Ok(feed) => fed_outcome(rt, alloc, files, &feed, options, false, gate),
@@ -45,7 +40,7 @@ pub fn run_outcome<'a, R: Threads + Sync, F: Files, G: Gate>(
 }
 
 /// What a run comes to, once all inputs but the script were read.
-#[tactic(auto, using(crate::proofs::Ways::wants_on))]
+#[tactic(auto, using(crate::proofs::Ways::reads_then, crate::proofs::Ways::reads_stopped))]
 pub(crate) fn fed_outcome<'a, R: Threads + Sync, F: Files, G: Gate>(
     rt: &R,
     alloc: Global,
@@ -57,13 +52,9 @@ pub(crate) fn fed_outcome<'a, R: Threads + Sync, F: Files, G: Gate>(
 ) -> Result<Outcome<'a>, Stop>
     requires range { AreInRange options }
     requires fed { IsFed feed.now }
-    ensures comes { IfOk result (λ outcome. CameToRun (F.contents files.old) (F.calls files.old) (F.calls files.new) (runs (options_in options.entry) is_summary (feed_of feed.now)) outcome) }
-    ensures stops { IfErr result (λ stop. StopsOf (F.contents files.old) (F.calls files.old) (F.calls files.new) (runs (options_in options.entry) is_summary (feed_of feed.now)) stop) }
-    ensures cause { IfErr result (λ stop. HasReadCause (F.read_faults files.old) (F.read_faults files.new) stop) }
-    ensures still { OnOk result (F.read_faults files.new ≡ F.read_faults files.old) }
-    ensures wants { StopsAtWant (F.wants files.old) (F.wants files.new) (IsWant result) }
-    ensures contents { F.contents files.new ≡ F.contents files.old }
-    ensures saves { F.save_faults files.new ≡ F.save_faults files.old }
+    ensures comes { IfOk result (λ outcome. CameToRun (F.told files.old) (F.told files.new) (runs (options_in options.entry) is_summary (feed_of feed.now)) outcome) }
+    ensures stops { IfErr result (λ stop. StopsOf (F.told files.old) (F.told files.new) (runs (options_in options.entry) is_summary (feed_of feed.now)) stop) }
+    ensures reads { OnlyReads (F.told files.old) (F.told files.new) result }
 {
     match script_at(alloc, files, &feed.plan, options.script) {
         Ok(script) => ended(rt, alloc, feed, &script, options, is_summary, gate),

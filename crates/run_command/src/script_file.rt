@@ -1,8 +1,7 @@
 // The file of a failure script.
-ghost use Rattle.std.specs.Prelude.{◌≡◌, IfErr, IfOk, OnOk, option_map};
+ghost use Rattle.std.specs.Prelude.{IfErr, IfOk, option_map};
 ghost use Rattle.failure_script.specs.Limits.{max_script_bytes};
-ghost use Rattle.command_course.specs.Steps.{GivesBy, HasReadCause, IsWant, StopsBy};
-ghost use Rattle.flux_outside.specs.Outside.{StopsAtWant};
+ghost use Rattle.command_course.specs.Steps.{GivesBy, OnlyReads, StopsBy};
 ghost use Rattle.run_command.specs.Scripts.{script_from, with_script};
 
 use command_course::{Input, Stop, input_at, refused};
@@ -46,19 +45,16 @@ impl<'a> Input for ScriptFile<'a> {
 }
 
 /// Reads the failure script for a plan, where a file of it is named; else there are no orders.
+#[tactic(auto, using(crate::proofs::Ways::reads_none))]
 pub fn script_at<F: Files>(
     alloc: Global,
     files: &mut F,
     plan: &Plan,
     script: Option<&str>,
 ) -> Result<Script, Stop>
-    ensures gives { IfOk result (λ orders. GivesBy (F.contents files.old) (F.calls files.old) (F.calls files.new) (with_script (option_map (λ name. name.now) script.entry) plan.now) orders) }
-    ensures stops { IfErr result (λ stop. StopsBy (F.contents files.old) (F.calls files.old) (F.calls files.new) (with_script (option_map (λ name. name.now) script.entry) plan.now) stop) }
-    ensures cause { IfErr result (λ stop. HasReadCause (F.read_faults files.old) (F.read_faults files.new) stop) }
-    ensures still { OnOk result (F.read_faults files.new ≡ F.read_faults files.old) }
-    ensures wants { StopsAtWant (F.wants files.old) (F.wants files.new) (IsWant result) }
-    ensures contents { F.contents files.new ≡ F.contents files.old }
-    ensures saves { F.save_faults files.new ≡ F.save_faults files.old }
+    ensures gives { IfOk result (λ orders. GivesBy (F.told files.old) (F.told files.new) (with_script (option_map (λ name. name.now) script.entry) plan.now) orders) }
+    ensures stops { IfErr result (λ stop. StopsBy (F.told files.old) (F.told files.new) (with_script (option_map (λ name. name.now) script.entry) plan.now) stop) }
+    ensures reads { OnlyReads (F.told files.old) (F.told files.new) result }
 {
     match script {
         None => Ok(Script::empty(alloc)),

@@ -1,10 +1,9 @@
 // The command `trial`: a run over made trades, with a summary in place of the rows.
-ghost use Rattle.std.specs.Prelude.{◌≡◌, ◌≤◌, false, true, IfErr, IfOk, OnOk, Ok};
+ghost use Rattle.std.specs.Prelude.{◌≡◌, ◌≤◌, false, true, IfErr, IfOk, Ok};
 ghost use Rattle.command_course.specs.Feeds.{with_movements};
-ghost use Rattle.command_course.specs.Steps.{HasReadCause, IsWant, StopsOf};
+ghost use Rattle.command_course.specs.Steps.{OnlyReads, StopsOf};
 ghost use Rattle.command_line.specs.Forms.{max_count, max_start};
 ghost use Rattle.command_line.specs.Views.{AreInRange, options_in};
-ghost use Rattle.flux_outside.specs.Outside.{StopsAtWant};
 ghost use Rattle.run_command.specs.Courses.{runs, trial_course, trial_with};
 ghost use Rattle.run_command.specs.Endings.{CameToRun};
 ghost use Rattle.trade_maker.specs.MadeText.{made_text};
@@ -24,7 +23,7 @@ use trade_text::{Trades, read_trades};
 use tuple_edge::OutOfMemory;
 
 /// What `trial` comes to: a plan is run by pairs on threads for made trades, under the failure script.
-#[tactic(auto, using(crate::proofs::Ways::wants_on))]
+#[tactic(auto, using(crate::proofs::Ways::reads_on, crate::proofs::Ways::reads_stopped))]
 pub fn trial_outcome<'a, R: Threads + Sync, F: Files, G: Gate>(
     rt: &R,
     alloc: Global,
@@ -38,13 +37,9 @@ pub fn trial_outcome<'a, R: Threads + Sync, F: Files, G: Gate>(
     requires start { start ≤ max_start }
     requires count { count ≤ max_count }
     requires range { AreInRange options }
-    ensures comes { IfOk result (λ outcome. CameToRun (F.contents files.old) (F.calls files.old) (F.calls files.new) (trial_course plan.now start count (options_in options.entry)) outcome) }
-    ensures stops { IfErr result (λ stop. StopsOf (F.contents files.old) (F.calls files.old) (F.calls files.new) (trial_course plan.now start count (options_in options.entry)) stop) }
-    ensures cause { IfErr result (λ stop. HasReadCause (F.read_faults files.old) (F.read_faults files.new) stop) }
-    ensures still { OnOk result (F.read_faults files.new ≡ F.read_faults files.old) }
-    ensures wants { StopsAtWant (F.wants files.old) (F.wants files.new) (IsWant result) }
-    ensures contents { F.contents files.new ≡ F.contents files.old }
-    ensures saves { F.save_faults files.new ≡ F.save_faults files.old }
+    ensures comes { IfOk result (λ outcome. CameToRun (F.told files.old) (F.told files.new) (trial_course plan.now start count (options_in options.entry)) outcome) }
+    ensures stops { IfErr result (λ stop. StopsOf (F.told files.old) (F.told files.new) (trial_course plan.now start count (options_in options.entry)) stop) }
+    ensures reads { OnlyReads (F.told files.old) (F.told files.new) result }
 {
     match plan_at(alloc, files, plan, options.cash) {
         Ok(plan) => planned_outcome(rt, alloc, files, plan, start, count, options, gate),
@@ -53,7 +48,7 @@ pub fn trial_outcome<'a, R: Threads + Sync, F: Files, G: Gate>(
 }
 
 // What it comes to, once the plan was read.
-#[tactic(auto, using(crate::proofs::Ways::wants_on))]
+#[tactic(auto, using(crate::proofs::Ways::reads_none))]
 fn planned_outcome<'a, R: Threads + Sync, F: Files, G: Gate>(
     rt: &R,
     alloc: Global,
@@ -67,13 +62,9 @@ fn planned_outcome<'a, R: Threads + Sync, F: Files, G: Gate>(
     requires start { start ≤ max_start }
     requires count { count ≤ max_count }
     requires range { AreInRange options }
-    ensures comes { IfOk result (λ outcome. CameToRun (F.contents files.old) (F.calls files.old) (F.calls files.new) (trial_with start count (options_in options.entry) plan) outcome) }
-    ensures stops { IfErr result (λ stop. StopsOf (F.contents files.old) (F.calls files.old) (F.calls files.new) (trial_with start count (options_in options.entry) plan) stop) }
-    ensures cause { IfErr result (λ stop. HasReadCause (F.read_faults files.old) (F.read_faults files.new) stop) }
-    ensures still { OnOk result (F.read_faults files.new ≡ F.read_faults files.old) }
-    ensures wants { StopsAtWant (F.wants files.old) (F.wants files.new) (IsWant result) }
-    ensures contents { F.contents files.new ≡ F.contents files.old }
-    ensures saves { F.save_faults files.new ≡ F.save_faults files.old }
+    ensures comes { IfOk result (λ outcome. CameToRun (F.told files.old) (F.told files.new) (trial_with start count (options_in options.entry) plan) outcome) }
+    ensures stops { IfErr result (λ stop. StopsOf (F.told files.old) (F.told files.new) (trial_with start count (options_in options.entry) plan) stop) }
+    ensures reads { OnlyReads (F.told files.old) (F.told files.new) result }
 {
     match made(alloc, start, count) {
         Ok(trades) => made_outcome(rt, alloc, files, plan, trades, options, gate),
@@ -96,7 +87,7 @@ fn made(alloc: Global, start: u32, count: u32) -> Result<Trades, OutOfMemory>
 }
 
 // What it comes to, once the trades were made too.
-#[tactic(auto, using(crate::proofs::Ways::wants_on))]
+#[tactic(auto, using(crate::proofs::Ways::reads_on, crate::proofs::Ways::reads_stopped))]
 fn made_outcome<'a, R: Threads + Sync, F: Files, G: Gate>(
     rt: &R,
     alloc: Global,
@@ -108,13 +99,9 @@ fn made_outcome<'a, R: Threads + Sync, F: Files, G: Gate>(
 ) -> Result<Outcome<'a>, Stop>
     requires unmerged { trades.merged ≡ false }
     requires range { AreInRange options }
-    ensures comes { IfOk result (λ outcome. CameToRun (F.contents files.old) (F.calls files.old) (F.calls files.new) (with_movements (options_in options.entry).cash plan trades (runs (options_in options.entry) true)) outcome) }
-    ensures stops { IfErr result (λ stop. StopsOf (F.contents files.old) (F.calls files.old) (F.calls files.new) (with_movements (options_in options.entry).cash plan trades (runs (options_in options.entry) true)) stop) }
-    ensures cause { IfErr result (λ stop. HasReadCause (F.read_faults files.old) (F.read_faults files.new) stop) }
-    ensures still { OnOk result (F.read_faults files.new ≡ F.read_faults files.old) }
-    ensures wants { StopsAtWant (F.wants files.old) (F.wants files.new) (IsWant result) }
-    ensures contents { F.contents files.new ≡ F.contents files.old }
-    ensures saves { F.save_faults files.new ≡ F.save_faults files.old }
+    ensures comes { IfOk result (λ outcome. CameToRun (F.told files.old) (F.told files.new) (with_movements (options_in options.entry).cash plan trades (runs (options_in options.entry) true)) outcome) }
+    ensures stops { IfErr result (λ stop. StopsOf (F.told files.old) (F.told files.new) (with_movements (options_in options.entry).cash plan trades (runs (options_in options.entry) true)) stop) }
+    ensures reads { OnlyReads (F.told files.old) (F.told files.new) result }
 {
     match movements_at(alloc, files, plan, trades, options.cash) {
         Ok(feed) => fed_outcome(rt, alloc, files, &feed, options, true, gate),

@@ -44,11 +44,7 @@ struct Watched<'a> {
 }
 
 impl<'a> Sink for Watched<'a> {
-    ghost taken = { λ _. None };
-
-    ghost offered = { λ _. None };
-
-    ghost faults = { λ s. s.faults };
+    ghost told = { λ s. record { taken = None; offered = None; faults = s.faults } };
 
     fn put(&mut self, bytes: &[u8]) -> Result<usize, Failed> {
         if !self.kept.is_empty() {

@@ -1,7 +1,7 @@
 // Calls of the program over files and sinks in memory: their statuses, and what is said and written.
 use crate::fixture::{Story, made};
 use flux_outside::{FileStop, Files, MemFiles, MemSink};
-use live_top::{FreeGate, flux_live};
+use live_top::flux_live;
 use std::alloc::Global;
 use std::sync::Wait;
 use std::test::Fail;
@@ -159,7 +159,7 @@ fn ends_so<R: Threads + Wait + Sync>(
     let words = words_of(alloc, call.words)?;
     let mut out = MemSink::new(alloc, Vec::new(alloc), 1_000_000, call.room)?;
     let mut err = MemSink::new(alloc, Vec::new(alloc), 1_000, 1_000)?;
-    let status = flux_live(rt, alloc, &words, files, &mut out, &mut err, &FreeGate);
+    let status = flux_live(rt, alloc, &words, files, &mut out, &mut err);
     let text = story.text.as_slice();
     let written = match status {
         0 => out.taken() == text,

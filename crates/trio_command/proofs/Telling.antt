@@ -45,27 +45,27 @@ text_is core s d symbols groups with_line whole rows groups_are line_is ends row
 pub writes_along : (old now : CoreView) (symbols : List (List ℕ)) (name text : List ℕ) (lines : List TrioLined) → IsTrioPlan old.plan → StandsFor old opening → IsFollowed old now lines
     → now.plan ≡ old.plan → inputs_of now ≡ inputs_of old → ((s : State) → StandsFor now s → IsSound (flow_in now) s → text ≡ trio_text now.plan (inputs_of now) symbols s)
     → WritesHere (goes_along name (record { plan = old.plan; inputs = inputs_of old; symbols = symbols }) lines) text
-writes_along old now symbols name text lines is opens followed plan inputs told files calls =
+writes_along old now symbols name text lines is opens followed plan inputs told files =
     let z = followed opening (opening_sound old is opens) in
     let written : text ≡ trio_text old.plan (inputs_of old) symbols z.0 = told z.0 z.1.stands z.1.sound ∙ (λ j. trio_text (plan j) (inputs j) symbols z.0) in
-    came_here files calls _ (Writes text) (ap (writes_text name (record { plan = old.plan; inputs = inputs_of old; symbols = symbols })) z.2 ∙ ap Writes (sym written))
+    came_here files _ (Writes text) (ap (writes_text name (record { plan = old.plan; inputs = inputs_of old; symbols = symbols })) z.2 ∙ ap Writes (sym written))
 
 -- or the first of them that is no step is refused
 pub refuses_along : (old : CoreView) (symbols : List (List ℕ)) (name : List ℕ) (lines : List TrioLined) (stopped : Stopped) (why : Stop) → IsTrioPlan old.plan → StandsFor old opening
     → IsStopped old lines stopped → IsRefusedBy why (line_of name (at_line stopped.line (error_text stopped.error))) (stopped.error ≢ error.OutOfMemory)
     → StopsHere (goes_along name (record { plan = old.plan; inputs = inputs_of old; symbols = symbols }) lines) why
-refuses_along old symbols name lines stopped stop.Usage is opens stops by files calls = by
-refuses_along old symbols name lines stopped (stop.Refused said) is opens stops by files calls =
+refuses_along old symbols name lines stopped stop.Usage is opens stops by files = by
+refuses_along old symbols name lines stopped (stop.Refused said) is opens stops by files =
     let z = stops by.1 opening (opening_sound old is opens) in
-    came_here files calls _ (Refuses (string_bytes said))
+    came_here files _ (Refuses (string_bytes said))
     (ap (writes_text name (record { plan = old.plan; inputs = inputs_of old; symbols = symbols })) z.refused
     ∙ ap (λ text. Refuses (line_of name (at_line stopped.line text))) (sym z.said)
     ∙ ap Refuses (sym by.0))
-refuses_along old symbols name lines stopped (stop.CannotRead said) is opens stops by files calls = absurd by
-refuses_along old symbols name lines stopped stop.CannotWrite is opens stops by files calls = by
-refuses_along old symbols name lines stopped (stop.PairLost stage part said) is opens stops by files calls = by
-refuses_along old symbols name lines stopped stop.OutOfMemory is opens stops by files calls =
-    want_here (goes_along name (record { plan = old.plan; inputs = inputs_of old; symbols = symbols }) lines) files calls
+refuses_along old symbols name lines stopped (stop.CannotRead said) is opens stops by files = absurd by
+refuses_along old symbols name lines stopped stop.CannotWrite is opens stops by files = by
+refuses_along old symbols name lines stopped (stop.PairLost stage part said) is opens stops by files = by
+refuses_along old symbols name lines stopped stop.OutOfMemory is opens stops by files =
+    want_here (goes_along name (record { plan = old.plan; inputs = inputs_of old; symbols = symbols }) lines) files
 
 -- ---- a row
 

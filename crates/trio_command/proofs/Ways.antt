@@ -16,12 +16,12 @@ use Rattle.trio_core.specs.CoreView.{CoreView}
 use Rattle.trio_core.specs.CoreView.{inputs_of as inputs_of_core}
 use Rattle.trio_command.specs.Ends.{StopsHere}
 use Rattle.trio_command.specs.Courses.{not_for_trio_line, trio_plan, trio_trades}
-pub use Rattle.command_course.proofs.Courses.{err_on, ok_on, refused_here, wants_on}
+pub use Rattle.command_course.proofs.Courses.{err_on, ok_on, reads_judged, reads_on, reads_refused, reads_stopped, refused_here}
 pub use Rattle.trio_core.proofs.Acting.{if_err-map, if_ok-map}
 
 -- want of memory may stop a course anywhere
 pub want_here : (course : Course) → StopsHere course stop.OutOfMemory
-want_here course told calls = Between course (came_here told calls course course refl)
+want_here course told = Between course (came_here told course course refl)
 
 pub want_stops : {X : Type 0} (r : Result X Stop) (course : Course) → IfErr r (λ why. why ≡ stop.OutOfMemory) → IfErr r (StopsHere course)
 want_stops r course want = if_err-map r (λ why. why ≡ stop.OutOfMemory) (StopsHere course) (λ why e. subst (StopsHere course) (sym e) (want_here course)) want

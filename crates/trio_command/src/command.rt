@@ -1,9 +1,8 @@
 // The command `trio`: what it writes, of its inputs one after the other.
 ghost use Rattle.command_course.specs.Course.{Came, Writes};
 ghost use Rattle.command_course.specs.Feeds.{fed};
-ghost use Rattle.command_course.specs.Steps.{HasReadCause, IsWant, StopsOf};
-ghost use Rattle.flux_outside.specs.Outside.{StopsAtWant};
-ghost use Rattle.std.specs.Prelude.{◌≡◌, [], ℕ, All, IfErr, IfOk, OnOk, false};
+ghost use Rattle.command_course.specs.Steps.{HasReadCause, OnlyReads, StopsOf};
+ghost use Rattle.std.specs.Prelude.{◌≡◌, [], ℕ, All, IfErr, IfOk, false};
 ghost use Rattle.trade_text.specs.TradesView.{inputs_in};
 ghost use Rattle.trio_command.specs.Courses.{goes_along, trio_course, trio_events, trio_plan, trio_trades};
 ghost use Rattle.trio_command.specs.Ends.{StopsHere, WritesHere};
@@ -27,7 +26,7 @@ use trio_core::TrioCore;
 
 /// The text that `trio` writes: the groups of the state which the events of a file reach from the opening of a plan,
 /// how the drain from there ended, and the rows that were emitted then.
-#[tactic(auto, using(crate::proofs::Ways::wants_on))]
+#[tactic(auto, using(crate::proofs::Ways::reads_on, crate::proofs::Ways::reads_stopped))]
 pub fn text_of_trio<F: Files>(
     alloc: Global,
     files: &mut F,
@@ -35,13 +34,9 @@ pub fn text_of_trio<F: Files>(
     trades: &str,
     events: &str,
 ) -> Result<Vec<u8>, Stop>
-    ensures comes { IfOk result (λ bytes. Came (F.contents files.old) (F.calls files.old) (F.calls files.new) (trio_course plan.now trades.now events.now) (Writes bytes.items)) }
-    ensures stops { IfErr result (λ stop. StopsOf (F.contents files.old) (F.calls files.old) (F.calls files.new) (trio_course plan.now trades.now events.now) stop) }
-    ensures cause { IfErr result (λ stop. HasReadCause (F.read_faults files.old) (F.read_faults files.new) stop) }
-    ensures still { OnOk result (F.read_faults files.new ≡ F.read_faults files.old) }
-    ensures wants { StopsAtWant (F.wants files.old) (F.wants files.new) (IsWant result) }
-    ensures contents { F.contents files.new ≡ F.contents files.old }
-    ensures saves { F.save_faults files.new ≡ F.save_faults files.old }
+    ensures comes { IfOk result (λ bytes. Came (F.told files.old) (F.told files.new) (trio_course plan.now trades.now events.now) (Writes bytes.items)) }
+    ensures stops { IfErr result (λ stop. StopsOf (F.told files.old) (F.told files.new) (trio_course plan.now trades.now events.now) stop) }
+    ensures reads { OnlyReads (F.told files.old) (F.told files.new) result }
 {
     match input_at(alloc, files, plan, &PlanFile) {
         Ok(it) => text_of_plan(alloc, files, plan, &it, trades, events),
@@ -50,7 +45,7 @@ pub fn text_of_trio<F: Files>(
 }
 
 // The text, once the plan was read: it is to have one source.
-#[tactic(auto, using(crate::proofs::Ways::refused_here))]
+#[tactic(auto, using(crate::proofs::Ways::refused_here, crate::proofs::Ways::reads_refused))]
 fn text_of_plan<F: Files>(
     alloc: Global,
     files: &mut F,
@@ -59,13 +54,9 @@ fn text_of_plan<F: Files>(
     trades: &str,
     events: &str,
 ) -> Result<Vec<u8>, Stop>
-    ensures comes { IfOk result (λ bytes. Came (F.contents files.old) (F.calls files.old) (F.calls files.new) (trio_plan name.now trades.now events.now plan.now) (Writes bytes.items)) }
-    ensures stops { IfErr result (λ stop. StopsOf (F.contents files.old) (F.calls files.old) (F.calls files.new) (trio_plan name.now trades.now events.now plan.now) stop) }
-    ensures cause { IfErr result (λ stop. HasReadCause (F.read_faults files.old) (F.read_faults files.new) stop) }
-    ensures still { OnOk result (F.read_faults files.new ≡ F.read_faults files.old) }
-    ensures wants { StopsAtWant (F.wants files.old) (F.wants files.new) (IsWant result) }
-    ensures contents { F.contents files.new ≡ F.contents files.old }
-    ensures saves { F.save_faults files.new ≡ F.save_faults files.old }
+    ensures comes { IfOk result (λ bytes. Came (F.told files.old) (F.told files.new) (trio_plan name.now trades.now events.now plan.now) (Writes bytes.items)) }
+    ensures stops { IfErr result (λ stop. StopsOf (F.told files.old) (F.told files.new) (trio_plan name.now trades.now events.now plan.now) stop) }
+    ensures reads { OnlyReads (F.told files.old) (F.told files.new) result }
 {
     if plan.version() == 1 {
         text_of_trades(alloc, files, plan, trades, events)
@@ -75,7 +66,7 @@ fn text_of_plan<F: Files>(
 }
 
 // The text, once the plan was accepted.
-#[tactic(auto, using(crate::proofs::Ways::wants_on))]
+#[tactic(auto, using(crate::proofs::Ways::reads_on, crate::proofs::Ways::reads_stopped))]
 fn text_of_trades<F: Files>(
     alloc: Global,
     files: &mut F,
@@ -84,13 +75,9 @@ fn text_of_trades<F: Files>(
     events: &str,
 ) -> Result<Vec<u8>, Stop>
     requires { plan.now.version ≡ 1 }
-    ensures comes { IfOk result (λ bytes. Came (F.contents files.old) (F.calls files.old) (F.calls files.new) (trio_trades trades.now events.now plan.now) (Writes bytes.items)) }
-    ensures stops { IfErr result (λ stop. StopsOf (F.contents files.old) (F.calls files.old) (F.calls files.new) (trio_trades trades.now events.now plan.now) stop) }
-    ensures cause { IfErr result (λ stop. HasReadCause (F.read_faults files.old) (F.read_faults files.new) stop) }
-    ensures still { OnOk result (F.read_faults files.new ≡ F.read_faults files.old) }
-    ensures wants { StopsAtWant (F.wants files.old) (F.wants files.new) (IsWant result) }
-    ensures contents { F.contents files.new ≡ F.contents files.old }
-    ensures saves { F.save_faults files.new ≡ F.save_faults files.old }
+    ensures comes { IfOk result (λ bytes. Came (F.told files.old) (F.told files.new) (trio_trades trades.now events.now plan.now) (Writes bytes.items)) }
+    ensures stops { IfErr result (λ stop. StopsOf (F.told files.old) (F.told files.new) (trio_trades trades.now events.now plan.now) stop) }
+    ensures reads { OnlyReads (F.told files.old) (F.told files.new) result }
 {
     match input_at(alloc, files, trades, &TradesFile) {
         Ok(trades) => text_of_events(alloc, files, plan, &trades, events),
@@ -99,7 +86,7 @@ fn text_of_trades<F: Files>(
 }
 
 // The text, once the trades were read too.
-#[tactic(auto, using(crate::proofs::Ways::wants_on))]
+#[tactic(auto, using(crate::proofs::Ways::reads_stopped))]
 fn text_of_events<F: Files>(
     alloc: Global,
     files: &mut F,
@@ -109,13 +96,9 @@ fn text_of_events<F: Files>(
 ) -> Result<Vec<u8>, Stop>
     requires version { plan.now.version ≡ 1 }
     requires unmerged { trades.now.merged ≡ false }
-    ensures comes { IfOk result (λ bytes. Came (F.contents files.old) (F.calls files.old) (F.calls files.new) (trio_events events.now plan.now trades.now) (Writes bytes.items)) }
-    ensures stops { IfErr result (λ stop. StopsOf (F.contents files.old) (F.calls files.old) (F.calls files.new) (trio_events events.now plan.now trades.now) stop) }
-    ensures cause { IfErr result (λ stop. HasReadCause (F.read_faults files.old) (F.read_faults files.new) stop) }
-    ensures still { OnOk result (F.read_faults files.new ≡ F.read_faults files.old) }
-    ensures wants { StopsAtWant (F.wants files.old) (F.wants files.new) (IsWant result) }
-    ensures contents { F.contents files.new ≡ F.contents files.old }
-    ensures saves { F.save_faults files.new ≡ F.save_faults files.old }
+    ensures comes { IfOk result (λ bytes. Came (F.told files.old) (F.told files.new) (trio_events events.now plan.now trades.now) (Writes bytes.items)) }
+    ensures stops { IfErr result (λ stop. StopsOf (F.told files.old) (F.told files.new) (trio_events events.now plan.now trades.now) stop) }
+    ensures reads { OnlyReads (F.told files.old) (F.told files.new) result }
 {
     match input_at(alloc, files, events, &EventsFile { plan }) {
         Ok(lines) => text_along(alloc, plan, trades, events, &lines),

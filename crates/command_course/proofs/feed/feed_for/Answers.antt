@@ -8,15 +8,13 @@ use Rattle.command_course.proofs.feed.feed_for.Goals as goal
 
 pub returns-in-Ok-clause-gives : goal.returns-in-Ok-clause-gives
 returns-in-Ok-clause-gives g c =
-    ok_gives feed_of (g.F.Files.contents c.args.files.now) (g.F.Files.contents c.input_at.new.files) (g.F.Files.calls c.args.files.now) (g.F.Files.calls c.input_at.new.files)
-    (g.F.Files.calls c.movements_at.new.files) (reads max_input_bytes trades_from c.args.trades.now) (with_movements (option_map (λ name. name.now) c.args.cash) c.args.plan) c.in-Ok.trades c.movements_at.result
-    c.input_at.ensures.contents c.in-Ok.ensures.gives c.movements_at.ensures.gives
+    ok_gives feed_of (g.F.Files.told c.args.files.now) (g.F.Files.told c.input_at.new.files) (g.F.Files.told c.movements_at.new.files) (reads max_input_bytes trades_from c.args.trades.now) (with_movements (option_map (λ name. name.now) c.args.cash) c.args.plan) c.in-Ok.trades c.movements_at.result
+    c.in-Ok.ensures.reads.contents c.in-Ok.ensures.gives c.movements_at.ensures.gives
 
 pub returns-in-Ok-clause-stops : goal.returns-in-Ok-clause-stops
 returns-in-Ok-clause-stops g c =
-    err_stops (g.F.Files.contents c.args.files.now) (g.F.Files.contents c.input_at.new.files) (g.F.Files.calls c.args.files.now) (g.F.Files.calls c.input_at.new.files)
-    (g.F.Files.calls c.movements_at.new.files) (reads max_input_bytes trades_from c.args.trades.now) (with_movements (option_map (λ name. name.now) c.args.cash) c.args.plan) c.in-Ok.trades c.movements_at.result
-    c.input_at.ensures.contents c.in-Ok.ensures.gives c.movements_at.ensures.stops
+    err_stops (g.F.Files.told c.args.files.now) (g.F.Files.told c.input_at.new.files) (g.F.Files.told c.movements_at.new.files) (reads max_input_bytes trades_from c.args.trades.now) (with_movements (option_map (λ name. name.now) c.args.cash) c.args.plan) c.in-Ok.trades c.movements_at.result
+    c.in-Ok.ensures.reads.contents c.in-Ok.ensures.gives c.movements_at.ensures.stops
 
 pub returns-in-Err-clause-stops : goal.returns-in-Err-clause-stops
 returns-in-Err-clause-stops g c = λ next. c.in-Err.ensures.stops (λ trades. with_movements (option_map (λ name. name.now) c.args.cash) c.args.plan trades next)

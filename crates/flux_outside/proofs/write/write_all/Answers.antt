@@ -8,7 +8,7 @@ pub returns-in_err-count-clause-failed : goal.returns-in_err-count-clause-failed
 returns-in_err-count-clause-failed g c =
     let p = err_from_is_err_and c.from_residual.result c.from_residual.ensures.1 in
     let w = c.loop-rest.invariant.written in
-    rw p.1 (takes_part_more (g.S.Sink.taken c.args.sink.now) (g.S.Sink.taken c.loop-rest.sink) (g.S.Sink.taken c.put.new.self) w.0 c.loop-rest.rest.now c.args.bytes.now w.2 w.1 c.in_err-count.ensures.failed)
+    rw p.1 (takes_part_more (g.S.Sink.told c.args.sink.now).taken (g.S.Sink.told c.loop-rest.sink).taken (g.S.Sink.told c.put.new.self).taken w.0 c.loop-rest.rest.now c.args.bytes.now w.2 w.1 c.in_err-count.ensures.failed)
 
 pub loop-rest-preserved : goal.loop-rest-preserved
 loop-rest-preserved g c =
@@ -20,8 +20,8 @@ loop-rest-preserved g c =
     w.1 ∙ ap (λ rest. w.0 ++ rest) splits ∙ sym (append_assoc w.0 taken c.split_at.result.1.now) in
     let some : 0 < length taken = rw (length-take-le c.in_ok-count.count c.loop-rest.rest.now c.in_ok-count.ensures.within) (omega arith) in
     record {
-      written = (w.0 ++ taken, whole, takes_more (g.S.Sink.taken c.args.sink.now) (g.S.Sink.taken c.loop-rest.sink) (g.S.Sink.taken c.put.new.self) w.0 taken w.2 c.in_ok-count.ensures.ok);
-      offers = offers_more (g.S.Sink.offered c.args.sink.now) (g.S.Sink.offered c.loop-rest.sink) (g.S.Sink.offered c.put.new.self) c.args.bytes.now c.loop-rest.rest.now c.split_at.result.1.now
+      written = (w.0 ++ taken, whole, takes_more (g.S.Sink.told c.args.sink.now).taken (g.S.Sink.told c.loop-rest.sink).taken (g.S.Sink.told c.put.new.self).taken w.0 taken w.2 c.in_ok-count.ensures.ok);
+      offers = offers_more (g.S.Sink.told c.args.sink.now).offered (g.S.Sink.told c.loop-rest.sink).offered (g.S.Sink.told c.put.new.self).offered c.args.bytes.now c.loop-rest.rest.now c.split_at.result.1.now
           c.loop-rest.invariant.offers c.in_ok-count.ensures.given (taken, some, splits);
       later = omega arith;
     }

@@ -5,9 +5,9 @@ use Rattle.flux_outside.proofs.write.write_all.Given as goal
 
 abbrev pub invariant-loop-rest : goal.invariant-loop-rest
 invariant-loop-rest g l = record {
-  written : (front : List ℕ) × (l.fn.bytes ≡ front ++ l.rest) × Takes (g.S.Sink.taken l.fn.sink) (g.S.Sink.taken l.sink) front;
-  offers : OffersTo (g.S.Sink.offered l.fn.sink) (g.S.Sink.offered l.sink) l.fn.bytes l.rest;
-  later : g.S.Sink.faults l.fn.sink ≤ g.S.Sink.faults l.sink;
+  written : (front : List ℕ) × (l.fn.bytes ≡ front ++ l.rest) × Takes (g.S.Sink.told l.fn.sink).taken (g.S.Sink.told l.sink).taken front;
+  offers : OffersTo (g.S.Sink.told l.fn.sink).offered (g.S.Sink.told l.sink).offered l.fn.bytes l.rest;
+  later : (g.S.Sink.told l.fn.sink).faults ≤ (g.S.Sink.told l.sink).faults;
 }
 
 abbrev pub decreases-loop-rest : goal.decreases-loop-rest

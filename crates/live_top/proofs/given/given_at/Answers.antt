@@ -8,15 +8,15 @@ use Rattle.live_top.proofs.given.given_at.Goals as goal
 
 pub returns-in-Ok-clause-comes : goal.returns-in-Ok-clause-comes
 returns-in-Ok-clause-comes g c =
-    ok_given_on (g.F.Files.contents c.args.files.now) (g.F.Files.contents c.feed_at.new.files) (g.F.Files.calls c.args.files.now) (g.F.Files.calls c.feed_at.new.files) (g.F.Files.calls c.scripted.new.files)
+    ok_given_on (g.F.Files.told c.args.files.now) (g.F.Files.told c.feed_at.new.files) (g.F.Files.told c.scripted.new.files)
     (course_over (files_in c.args.named)) (runs (options_with (text_in c.args.named.script)) false (feed_of c.in-Ok.feed)) c.scripted.result
-    c.feed_at.ensures.contents (c.in-Ok.ensures.gives (runs (options_with (text_in c.args.named.script)) false)) c.scripted.ensures.comes
+    c.in-Ok.ensures.reads.contents (c.in-Ok.ensures.gives (runs (options_with (text_in c.args.named.script)) false)) c.scripted.ensures.comes
 
 pub returns-in-Ok-clause-stops : goal.returns-in-Ok-clause-stops
 returns-in-Ok-clause-stops g c =
-    err_given_on (g.F.Files.contents c.args.files.now) (g.F.Files.contents c.feed_at.new.files) (g.F.Files.calls c.args.files.now) (g.F.Files.calls c.feed_at.new.files) (g.F.Files.calls c.scripted.new.files)
+    err_given_on (g.F.Files.told c.args.files.now) (g.F.Files.told c.feed_at.new.files) (g.F.Files.told c.scripted.new.files)
     (course_over (files_in c.args.named)) (runs (options_with (text_in c.args.named.script)) false (feed_of c.in-Ok.feed)) c.scripted.result
-    c.feed_at.ensures.contents (c.in-Ok.ensures.gives (runs (options_with (text_in c.args.named.script)) false)) c.scripted.ensures.stops
+    c.in-Ok.ensures.reads.contents (c.in-Ok.ensures.gives (runs (options_with (text_in c.args.named.script)) false)) c.scripted.ensures.stops
 
 pub returns-in-Err-clause-stops : goal.returns-in-Err-clause-stops
 returns-in-Err-clause-stops g c = c.in-Err.ensures.stops (runs (options_with (text_in c.args.named.script)) false)

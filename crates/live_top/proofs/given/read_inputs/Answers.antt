@@ -1,7 +1,9 @@
-use Rattle.std.proofs.Common.{◌∙◌, ap, map, option_map, string_bytes, sym}
+use Rattle.std.proofs.Common.{◌∙◌, Err, ap, map, option_map, refl, string_bytes, sym}
+use Rattle.command_course.specs.declared.stop.Stop.TheVariants as stop
+use Rattle.command_course.proofs.Courses.{reads_nothing}
 use Rattle.live_top.specs.Words.{course_over, files_in}
 use Rattle.live_top.proofs.AsRun.{asks_for, asks_nothing, asks_something}
-use Rattle.live_top.proofs.Inputs.{own_cause, own_stops, own_wants}
+use Rattle.live_top.proofs.Inputs.{own_reads, own_stops}
 use Rattle.live_top.specs.declared.given.Given.{Given}
 use Rattle.live_top.proofs.given.read_inputs.Goals as goal
 
@@ -40,13 +42,12 @@ pub returns-in-Err-clause-stops : goal.returns-in-Err-clause-stops
 returns-in-Err-clause-stops g c =
     let words = map string_bytes c.args.words.now in
     let files = files_in c.in-Some.named in
-    own_stops (g.F.Files.contents c.args.files.now) (g.F.Files.calls c.args.files.now) (g.F.Files.calls c.given_at.new.files) words (course_over files)
+    own_stops (g.F.Files.told c.args.files.now) (g.F.Files.told c.given_at.new.files) words (course_over files)
     (asks_for words files (sym c.read_words.ensures ∙ ap (option_map files_in) c.in-Some.is)) c.in-Err.stop c.own_stop.result c.in-Err.ensures.stops c.own_stop.ensures
 
-pub returns-in-Err-clause-cause : goal.returns-in-Err-clause-cause
-returns-in-Err-clause-cause g c =
-    own_cause (g.F.Files.read_faults c.args.files.now) (g.F.Files.read_faults c.given_at.new.files) c.in-Err.stop c.own_stop.result c.in-Err.ensures.cause c.own_stop.ensures
+pub returns-in-None-clause-reads : goal.returns-in-None-clause-reads
+returns-in-None-clause-reads g c = reads_nothing (g.F.Files.told c.args.files.now) (Err stop.Usage) (λ faults. refl)
 
-pub returns-in-Err-clause-wants : goal.returns-in-Err-clause-wants
-returns-in-Err-clause-wants g c =
-    own_wants Given (g.F.Files.wants c.args.files.now) (g.F.Files.wants c.given_at.new.files) c.in-Err.stop c.own_stop.result c.own_stop.ensures c.in-Err.ensures.wants
+pub returns-in-Err-clause-reads : goal.returns-in-Err-clause-reads
+returns-in-Err-clause-reads g c =
+    own_reads Given (g.F.Files.told c.args.files.now) (g.F.Files.told c.given_at.new.files) c.in-Err.stop c.own_stop.result c.own_stop.ensures c.in-Err.ensures.reads

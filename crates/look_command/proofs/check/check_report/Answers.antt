@@ -8,15 +8,15 @@ use Rattle.look_command.specs.Check.{checks_trades, plan_told}
 
 pub returns-in-Ok-clause-gives : goal.returns-in-Ok-clause-gives
 returns-in-Ok-clause-gives g c =
-    ok_gives answer_of (g.F.Files.contents c.args.files.now) (g.F.Files.contents c.tried_at.new.files) (g.F.Files.calls c.args.files.now) (g.F.Files.calls c.tried_at.new.files) (g.F.Files.calls c.with_trades.new.files)
+    ok_gives answer_of (g.F.Files.told c.args.files.now) (g.F.Files.told c.tried_at.new.files) (g.F.Files.told c.with_trades.new.files)
     (tries max_plan_bytes plan_told c.args.plan.now) (checks_trades (option_map (λ n. n.now) c.args.trades) (option_map (λ n. n.now) c.args.cash) (option_map (λ n. n.now) c.args.script)) (tried_of c.in-Ok.plan) c.with_trades.result
-    c.tried_at.ensures.contents c.in-Ok.ensures.gives c.with_trades.ensures.gives
+    c.in-Ok.ensures.reads.contents c.in-Ok.ensures.gives c.with_trades.ensures.gives
 
 pub returns-in-Ok-clause-stops : goal.returns-in-Ok-clause-stops
 returns-in-Ok-clause-stops g c =
-    err_stops (g.F.Files.contents c.args.files.now) (g.F.Files.contents c.tried_at.new.files) (g.F.Files.calls c.args.files.now) (g.F.Files.calls c.tried_at.new.files) (g.F.Files.calls c.with_trades.new.files)
+    err_stops (g.F.Files.told c.args.files.now) (g.F.Files.told c.tried_at.new.files) (g.F.Files.told c.with_trades.new.files)
     (tries max_plan_bytes plan_told c.args.plan.now) (checks_trades (option_map (λ n. n.now) c.args.trades) (option_map (λ n. n.now) c.args.cash) (option_map (λ n. n.now) c.args.script)) (tried_of c.in-Ok.plan) c.with_trades.result
-    c.tried_at.ensures.contents c.in-Ok.ensures.gives c.with_trades.ensures.stops
+    c.in-Ok.ensures.reads.contents c.in-Ok.ensures.gives c.with_trades.ensures.stops
 
 pub returns-in-Err-clause-stops : goal.returns-in-Err-clause-stops
 returns-in-Err-clause-stops g c = λ next.

@@ -8,4 +8,4 @@ pub returns-in-Ok-clause-stops : goal.returns-in-Ok-clause-stops
 returns-in-Ok-clause-stops g c = rw c.in-Ok.is c.tried_if_named.ensures.stops
 
 pub returns-in-Err-clause-gives : goal.returns-in-Err-clause-gives
-returns-in-Err-clause-gives g c = rw c.in-Err.is (unnamed (g.F.Files.contents c.args.files.now) (g.F.Files.calls c.args.files.now))
+returns-in-Err-clause-gives g c = rw c.in-Err.is (unnamed (g.F.Files.told c.args.files.now))

@@ -10,16 +10,16 @@ use Rattle.look_command.proofs.story.fed_story.Goals as goal
 pub returns-in-Ok-clause-gives : goal.returns-in-Ok-clause-gives
 returns-in-Ok-clause-gives g c =
     let feed = feed_of c.args.feed.now in
-    ok_gives answer_of (g.F.Files.contents c.args.files.now) (g.F.Files.contents c.script_at.new.files) (g.F.Files.calls c.args.files.now) (g.F.Files.calls c.script_at.new.files) (g.F.Files.calls c.reported_at.new.files)
+    ok_gives answer_of (g.F.Files.told c.args.files.now) (g.F.Files.told c.script_at.new.files) (g.F.Files.told c.reported_at.new.files)
     (with_script (option_map (λ n. n.now) c.args.script) feed.plan) (λ orders. reports (story_telling orders) c.args.events.now feed) c.in-Ok.script c.reported_at.result
-    c.script_at.ensures.contents c.in-Ok.ensures.gives c.reported_at.ensures.gives
+    c.in-Ok.ensures.reads.contents c.in-Ok.ensures.gives c.reported_at.ensures.gives
 
 pub returns-in-Ok-clause-stops : goal.returns-in-Ok-clause-stops
 returns-in-Ok-clause-stops g c =
     let feed = feed_of c.args.feed.now in
-    err_stops (g.F.Files.contents c.args.files.now) (g.F.Files.contents c.script_at.new.files) (g.F.Files.calls c.args.files.now) (g.F.Files.calls c.script_at.new.files) (g.F.Files.calls c.reported_at.new.files)
+    err_stops (g.F.Files.told c.args.files.now) (g.F.Files.told c.script_at.new.files) (g.F.Files.told c.reported_at.new.files)
     (with_script (option_map (λ n. n.now) c.args.script) feed.plan) (λ orders. reports (story_telling orders) c.args.events.now feed) c.in-Ok.script c.reported_at.result
-    c.script_at.ensures.contents c.in-Ok.ensures.gives c.reported_at.ensures.stops
+    c.in-Ok.ensures.reads.contents c.in-Ok.ensures.gives c.reported_at.ensures.stops
 
 pub returns-in-Err-clause-stops : goal.returns-in-Err-clause-stops
 returns-in-Err-clause-stops g c = λ next. c.in-Err.ensures.stops (λ orders. reports (story_telling orders) c.args.events.now (feed_of c.args.feed.now) next)

@@ -8,15 +8,15 @@ use Rattle.look_command.proofs.timeline.timeline_text.Goals as goal
 
 pub returns-in-Ok-clause-gives : goal.returns-in-Ok-clause-gives
 returns-in-Ok-clause-gives g c =
-    ok_gives answer_of (g.F.Files.contents c.args.files.now) (g.F.Files.contents c.feed_at.new.files) (g.F.Files.calls c.args.files.now) (g.F.Files.calls c.feed_at.new.files) (g.F.Files.calls c.reported_at.new.files)
+    ok_gives answer_of (g.F.Files.told c.args.files.now) (g.F.Files.told c.feed_at.new.files) (g.F.Files.told c.reported_at.new.files)
     (with_feed c.args.plan.now c.args.trades.now (option_map (λ n. n.now) c.args.cash)) (reports (timeline_telling c.args.svg) c.args.events.now) (feed_of c.in-Ok.feed) c.reported_at.result
-    c.feed_at.ensures.contents c.in-Ok.ensures.gives c.reported_at.ensures.gives
+    c.in-Ok.ensures.reads.contents c.in-Ok.ensures.gives c.reported_at.ensures.gives
 
 pub returns-in-Ok-clause-stops : goal.returns-in-Ok-clause-stops
 returns-in-Ok-clause-stops g c =
-    err_stops (g.F.Files.contents c.args.files.now) (g.F.Files.contents c.feed_at.new.files) (g.F.Files.calls c.args.files.now) (g.F.Files.calls c.feed_at.new.files) (g.F.Files.calls c.reported_at.new.files)
+    err_stops (g.F.Files.told c.args.files.now) (g.F.Files.told c.feed_at.new.files) (g.F.Files.told c.reported_at.new.files)
     (with_feed c.args.plan.now c.args.trades.now (option_map (λ n. n.now) c.args.cash)) (reports (timeline_telling c.args.svg) c.args.events.now) (feed_of c.in-Ok.feed) c.reported_at.result
-    c.feed_at.ensures.contents c.in-Ok.ensures.gives c.reported_at.ensures.stops
+    c.in-Ok.ensures.reads.contents c.in-Ok.ensures.gives c.reported_at.ensures.stops
 
 pub returns-in-Err-clause-stops : goal.returns-in-Err-clause-stops
 returns-in-Err-clause-stops g c = λ next. c.in-Err.ensures.stops (λ feed. reports (timeline_telling c.args.svg) c.args.events.now feed next)

@@ -3,7 +3,7 @@ use Rattle.look_course.proofs.Tries.{unnamed}
 use Rattle.look_course.proofs.trying.tried_if_named.Goals as goal
 
 pub returns-in-None-clause-gives : goal.returns-in-None-clause-gives
-returns-in-None-clause-gives g c = rw c.in-None.is (unnamed (g.F.Files.contents c.args.files.now) (g.F.Files.calls c.args.files.now))
+returns-in-None-clause-gives g c = rw c.in-None.is (unnamed (g.F.Files.told c.args.files.now))
 
 pub returns-in-Ok-clause-gives : goal.returns-in-Ok-clause-gives
 returns-in-Ok-clause-gives g c = λ next. rw c.in-Some.is (c.in-Ok.ensures.gives (λ said. next (Some said)))

@@ -1,8 +1,10 @@
-use Rattle.std.proofs.Common.{◌∙◌, ap, map, option_map, string_bytes, sym}
+use Rattle.std.proofs.Common.{◌∙◌, Err, ap, map, option_map, refl, string_bytes, sym}
+use Rattle.command_course.specs.declared.stop.Stop.TheVariants as stop
+use Rattle.command_course.proofs.Courses.{reads_nothing}
 use Rattle.look_command.specs.Courses.{way_of}
 use Rattle.look_course.specs.declared.answer.Answer.{Answer}
 use Rattle.look_words.specs.Forms.{request_of}
-use Rattle.look_top.proofs.Answering.{asked_none, asked_of, asks_something, own_cause, own_stops, own_wants}
+use Rattle.look_top.proofs.Answering.{asked_none, asked_of, asks_something, own_reads, own_stops}
 use Rattle.look_top.proofs.answered.answered.Goals as goal
 
 pub returns-in-Ok-clause-comes : goal.returns-in-Ok-clause-comes
@@ -34,13 +36,12 @@ returns-in-Err-clause-unasked g c = λ none. absurd
 
 pub returns-in-Err-clause-stops : goal.returns-in-Err-clause-stops
 returns-in-Err-clause-stops g c =
-    own_stops (g.F.Files.contents c.args.files.now) (g.F.Files.calls c.args.files.now) (g.F.Files.calls c.answer_of.new.files) (map string_bytes c.args.words.now) (way_of (request_of c.in-Some.command))
+    own_stops (g.F.Files.told c.args.files.now) (g.F.Files.told c.answer_of.new.files) (map string_bytes c.args.words.now) (way_of (request_of c.in-Some.command))
     (asked_of (map string_bytes c.args.words.now) (request_of c.in-Some.command) (sym c.read_words.ensures ∙ ap (option_map request_of) c.in-Some.is)) c.in-Err.stop c.own_stop.result c.in-Err.ensures.stops c.own_stop.ensures
 
-pub returns-in-Err-clause-cause : goal.returns-in-Err-clause-cause
-returns-in-Err-clause-cause g c =
-    own_cause (g.F.Files.read_faults c.args.files.now) (g.F.Files.read_faults c.answer_of.new.files) c.in-Err.stop c.own_stop.result c.in-Err.ensures.cause c.own_stop.ensures
+pub returns-in-None-clause-reads : goal.returns-in-None-clause-reads
+returns-in-None-clause-reads g c = reads_nothing (g.F.Files.told c.args.files.now) (Err stop.Usage) (λ faults. refl)
 
-pub returns-in-Err-clause-wants : goal.returns-in-Err-clause-wants
-returns-in-Err-clause-wants g c =
-    own_wants Answer (g.F.Files.wants c.args.files.now) (g.F.Files.wants c.answer_of.new.files) c.in-Err.stop c.own_stop.result c.own_stop.ensures c.in-Err.ensures.wants
+pub returns-in-Err-clause-reads : goal.returns-in-Err-clause-reads
+returns-in-Err-clause-reads g c =
+    own_reads Answer (g.F.Files.told c.args.files.now) (g.F.Files.told c.answer_of.new.files) c.in-Err.stop c.own_stop.result c.own_stop.ensures c.in-Err.ensures.reads

@@ -4,13 +4,11 @@ use Rattle.move_command.proofs.command.move_text.Goals as goal
 
 pub returns-in-Ok-clause-comes : goal.returns-in-Ok-clause-comes
 returns-in-Ok-clause-comes g c =
-    ok_on (g.F.Files.contents c.args.files.now) (g.F.Files.contents c.input_at.new.files) (g.F.Files.calls c.args.files.now) (g.F.Files.calls c.input_at.new.files)
-    (g.F.Files.calls c.text_of_plan.new.files) _ _ c.text_of_plan.result c.input_at.ensures.contents (c.in-Ok.ensures.gives (move_plan c.args.plan.now c.args.trades.now c.args.moves.now)) c.text_of_plan.ensures.comes
+    ok_on (g.F.Files.told c.args.files.now) (g.F.Files.told c.input_at.new.files) (g.F.Files.told c.text_of_plan.new.files) _ _ c.text_of_plan.result c.in-Ok.ensures.reads.contents (c.in-Ok.ensures.gives (move_plan c.args.plan.now c.args.trades.now c.args.moves.now)) c.text_of_plan.ensures.comes
 
 pub returns-in-Ok-clause-stops : goal.returns-in-Ok-clause-stops
 returns-in-Ok-clause-stops g c =
-    err_on (g.F.Files.contents c.args.files.now) (g.F.Files.contents c.input_at.new.files) (g.F.Files.calls c.args.files.now) (g.F.Files.calls c.input_at.new.files)
-    (g.F.Files.calls c.text_of_plan.new.files) _ _ c.text_of_plan.result c.input_at.ensures.contents (c.in-Ok.ensures.gives (move_plan c.args.plan.now c.args.trades.now c.args.moves.now)) c.text_of_plan.ensures.stops
+    err_on (g.F.Files.told c.args.files.now) (g.F.Files.told c.input_at.new.files) (g.F.Files.told c.text_of_plan.new.files) _ _ c.text_of_plan.result c.in-Ok.ensures.reads.contents (c.in-Ok.ensures.gives (move_plan c.args.plan.now c.args.trades.now c.args.moves.now)) c.text_of_plan.ensures.stops
 
 pub returns-in-Err-clause-stops : goal.returns-in-Err-clause-stops
 returns-in-Err-clause-stops g c = c.in-Err.ensures.stops (move_plan c.args.plan.now c.args.trades.now c.args.moves.now)

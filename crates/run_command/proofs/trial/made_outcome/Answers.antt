@@ -7,15 +7,15 @@ use Rattle.run_command.proofs.trial.made_outcome.Goals as goal
 
 pub returns-in-Ok-clause-comes : goal.returns-in-Ok-clause-comes
 returns-in-Ok-clause-comes g c =
-    ok_run_on (g.F.Files.contents c.args.files.now) (g.F.Files.contents c.movements_at.new.files) (g.F.Files.calls c.args.files.now) (g.F.Files.calls c.movements_at.new.files) (g.F.Files.calls c.fed_outcome.new.files)
+    ok_run_on (g.F.Files.told c.args.files.now) (g.F.Files.told c.movements_at.new.files) (g.F.Files.told c.fed_outcome.new.files)
     (with_movements (text_in c.args.options.cash) c.args.plan c.args.trades) (runs (options_in c.args.options) true) (feed_of c.in-Ok.feed) c.fed_outcome.result
-    c.movements_at.ensures.contents c.in-Ok.ensures.gives c.fed_outcome.ensures.comes
+    c.in-Ok.ensures.reads.contents c.in-Ok.ensures.gives c.fed_outcome.ensures.comes
 
 pub returns-in-Ok-clause-stops : goal.returns-in-Ok-clause-stops
 returns-in-Ok-clause-stops g c =
-    err_run_on (g.F.Files.contents c.args.files.now) (g.F.Files.contents c.movements_at.new.files) (g.F.Files.calls c.args.files.now) (g.F.Files.calls c.movements_at.new.files) (g.F.Files.calls c.fed_outcome.new.files)
+    err_run_on (g.F.Files.told c.args.files.now) (g.F.Files.told c.movements_at.new.files) (g.F.Files.told c.fed_outcome.new.files)
     (with_movements (text_in c.args.options.cash) c.args.plan c.args.trades) (runs (options_in c.args.options) true) (feed_of c.in-Ok.feed) c.fed_outcome.result
-    c.movements_at.ensures.contents c.in-Ok.ensures.gives c.fed_outcome.ensures.stops
+    c.in-Ok.ensures.reads.contents c.in-Ok.ensures.gives c.fed_outcome.ensures.stops
 
 pub returns-in-Err-clause-stops : goal.returns-in-Err-clause-stops
 returns-in-Err-clause-stops g c = c.in-Err.ensures.stops (runs (options_in c.args.options) true)

@@ -9,15 +9,15 @@ use Rattle.run_command.proofs.trial.planned_outcome.Goals as goal
 
 pub returns-in-Ok-clause-comes : goal.returns-in-Ok-clause-comes
 returns-in-Ok-clause-comes g c =
-    ok_made (g.F.Files.contents c.args.files.now) (g.F.Files.calls c.args.files.now) (g.F.Files.calls c.made_outcome.new.files) c.args.start c.args.count c.in-Ok.trades
+    ok_made (g.F.Files.told c.args.files.now) (g.F.Files.told c.made_outcome.new.files) c.args.start c.args.count c.in-Ok.trades
     (λ trades. with_movements (options_in c.args.options).cash c.args.plan trades (runs (options_in c.args.options) true)) c.made_outcome.result c.in-Ok.ensures.value c.made_outcome.ensures.comes
 
 pub returns-in-Ok-clause-stops : goal.returns-in-Ok-clause-stops
 returns-in-Ok-clause-stops g c =
-    err_made (g.F.Files.contents c.args.files.now) (g.F.Files.calls c.args.files.now) (g.F.Files.calls c.made_outcome.new.files) c.args.start c.args.count c.in-Ok.trades
+    err_made (g.F.Files.told c.args.files.now) (g.F.Files.told c.made_outcome.new.files) c.args.start c.args.count c.in-Ok.trades
     (λ trades. with_movements (options_in c.args.options).cash c.args.plan trades (runs (options_in c.args.options) true)) c.made_outcome.result c.in-Ok.ensures.value c.made_outcome.ensures.stops
 
 pub returns-in-Err-clause-stops : goal.returns-in-Err-clause-stops
 returns-in-Err-clause-stops g c =
     let course = trial_with c.args.start c.args.count (options_in c.args.options) c.args.plan in
-    Between course (came_here (g.F.Files.contents c.args.files.now) (g.F.Files.calls c.args.files.now) course course refl)
+    Between course (came_here (g.F.Files.told c.args.files.now) course course refl)

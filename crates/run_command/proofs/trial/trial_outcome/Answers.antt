@@ -6,15 +6,15 @@ use Rattle.run_command.proofs.trial.trial_outcome.Goals as goal
 
 pub returns-in-Ok-clause-comes : goal.returns-in-Ok-clause-comes
 returns-in-Ok-clause-comes g c =
-    ok_run_on (g.F.Files.contents c.args.files.now) (g.F.Files.contents c.plan_at.new.files) (g.F.Files.calls c.args.files.now) (g.F.Files.calls c.plan_at.new.files) (g.F.Files.calls c.planned_outcome.new.files)
+    ok_run_on (g.F.Files.told c.args.files.now) (g.F.Files.told c.plan_at.new.files) (g.F.Files.told c.planned_outcome.new.files)
     (with_plan c.args.plan.now (text_in c.args.options.cash)) (trial_with c.args.start c.args.count (options_in c.args.options)) c.in-Ok.plan c.planned_outcome.result
-    c.plan_at.ensures.contents c.in-Ok.ensures.gives c.planned_outcome.ensures.comes
+    c.in-Ok.ensures.reads.contents c.in-Ok.ensures.gives c.planned_outcome.ensures.comes
 
 pub returns-in-Ok-clause-stops : goal.returns-in-Ok-clause-stops
 returns-in-Ok-clause-stops g c =
-    err_run_on (g.F.Files.contents c.args.files.now) (g.F.Files.contents c.plan_at.new.files) (g.F.Files.calls c.args.files.now) (g.F.Files.calls c.plan_at.new.files) (g.F.Files.calls c.planned_outcome.new.files)
+    err_run_on (g.F.Files.told c.args.files.now) (g.F.Files.told c.plan_at.new.files) (g.F.Files.told c.planned_outcome.new.files)
     (with_plan c.args.plan.now (text_in c.args.options.cash)) (trial_with c.args.start c.args.count (options_in c.args.options)) c.in-Ok.plan c.planned_outcome.result
-    c.plan_at.ensures.contents c.in-Ok.ensures.gives c.planned_outcome.ensures.stops
+    c.in-Ok.ensures.reads.contents c.in-Ok.ensures.gives c.planned_outcome.ensures.stops
 
 pub returns-in-Err-clause-stops : goal.returns-in-Err-clause-stops
 returns-in-Err-clause-stops g c = c.in-Err.ensures.stops (trial_with c.args.start c.args.count (options_in c.args.options))
