@@ -7,16 +7,17 @@ ghost use Rattle.std.specs.Prelude.{◌≡◌, IfOk, OnErr};
 
 use crate::serving::first_lost;
 use crate::turn::drain_all;
+use event_log::EventBlocks;
 use flux_core::Core;
-use tuple_edge::{Drained, Event, OutOfMemory};
+use tuple_edge::{Drained, OutOfMemory};
 
 /// Brings a core to its end by makes, pulls and merges alone, with no packet, and appends these events. Lost
 /// exactly where egress has more to merge and no counted replica of a pair runs: it names the first such pair,
 /// stage by stage, and nothing is done. Else Whole, and all of the plan's output is emitted; where it was
 /// already, nothing is done. Where memory is wanting, the core stands after the events that were appended.
-pub fn drain(core: &mut Core, events: &mut Vec<Event>) -> Result<Drained, OutOfMemory>
-    ensures drained { IfOk result (IsDrained core.old core.new events.old.items events.new.items) }
-    ensures cut_short { OnErr result (IsCutShort core.old core.new events.old.items events.new.items) }
+pub fn drain(core: &mut Core, events: &mut EventBlocks) -> Result<Drained, OutOfMemory>
+    ensures drained { IfOk result (IsDrained core.old core.new events.old.events events.new.events) }
+    ensures cut_short { OnErr result (IsCutShort core.old core.new events.old.events events.new.events) }
     ensures plan { core.new.plan ≡ core.old.plan }
     ensures inputs { inputs_of core.new ≡ inputs_of core.old }
     ensures whole { core.new.whole ≡ core.old.whole }

@@ -1,8 +1,8 @@
 //! The drain of a core: from whatever state it stands for, the caller alone brings all of the output, or names the
 //! first pair that is lost.
 //!
-//! It stands on flux_core, whose events it applies one by one, and on the machine's law that the drain is whole
-//! where no pair is lost.
+//! It stands on flux_core, whose events it applies one by one, on event_log, which keeps them, and on the machine's law
+//! that the drain is whole where no pair is lost.
 #![tactic(auto)]
 
 mod draining;

@@ -10,6 +10,7 @@ ghost use Rattle.plan_reader.specs.Nodes.{has_node, names_event};
 ghost use Rattle.std.specs.Prelude.{◌≡◌, ◌≢◌, ◌↔◌, ◌++◌, ℕ, List, IfOk, IsTrue, OnErr, OnOk, replicate};
 ghost use Rattle.tuple_edge.specs.declared.event.Event.{Event};
 
+use event_log::EventBlocks;
 use flux_core::{ApplyError, Core};
 use tuple_edge::{Event, NodeId, OutOfMemory};
 
@@ -60,11 +61,11 @@ fn refusal(error: ApplyError) -> Result<(), OutOfMemory>
 
 // Applies an event and lists it, where it is one of the drain's and a step; else it says that it isn't. Its
 // room in the list is made first.
-fn apply_next(core: &mut Core, events: &mut Vec<Event>, event: Event) -> Result<bool, OutOfMemory>
+fn apply_next(core: &mut Core, events: &mut EventBlocks, event: Event) -> Result<bool, OutOfMemory>
     requires named { IsTrue (names_event core.old.plan event) }
     requires free { TakesNoMessage event }
-    ensures tried { IfOk result (λ did. IsTried did core.old core.new events.old.items events.new.items event) }
-    ensures unchanged { OnErr result ((core.new ≡ core.old) × (events.new.items ≡ events.old.items)) }
+    ensures tried { IfOk result (λ did. IsTried did core.old core.new events.old.events events.new.events event) }
+    ensures unchanged { OnErr result ((core.new ≡ core.old) × (events.new.events ≡ events.old.events)) }
     ensures keeps { Keeps core.old core.new }
 {
     core.known();
@@ -87,15 +88,15 @@ fn apply_next(core: &mut Core, events: &mut Vec<Event>, event: Event) -> Result<
 // Applies an event as often as it is a step.
 pub(crate) fn repeat(
     core: &mut Core,
-    events: &mut Vec<Event>,
+    events: &mut EventBlocks,
     event: Event,
 ) -> Result<(), OutOfMemory>
     requires named { IsTrue (names_event core.old.plan event) }
     requires free { TakesNoMessage event }
-    ensures done { OnOk result ((b : Start) (done : List Event) (n : ℕ) → MayBegin b → IsAfter b core.old events.old.items done
-        → IsBlock b done event n → IsAfter b core.new events.new.items (done ++ replicate n event)) }
-    ensures within { OnErr result ((b : Start) (done : List Event) (n : ℕ) → MayBegin b → IsAfter b core.old events.old.items done
-        → IsBlock b done event n → IsWithin b core.new events.new.items) }
+    ensures done { OnOk result ((b : Start) (done : List Event) (n : ℕ) → MayBegin b → IsAfter b core.old events.old.events done
+        → IsBlock b done event n → IsAfter b core.new events.new.events (done ++ replicate n event)) }
+    ensures within { OnErr result ((b : Start) (done : List Event) (n : ℕ) → MayBegin b → IsAfter b core.old events.old.events done
+        → IsBlock b done event n → IsWithin b core.new events.new.events) }
     ensures keeps { Keeps core.old core.new }
 {
     core.known();

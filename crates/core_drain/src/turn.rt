@@ -7,13 +7,14 @@ ghost use Rattle.tuple_edge.specs.declared.node.NodeId.TheVariants as node;
 
 use crate::next::repeat;
 use crate::serving::{drainer, parts};
+use event_log::EventBlocks;
 use flux_core::Core;
 use tuple_edge::{Event, NodeId, OutOfMemory};
 
 // A consumer after stage 1 takes all that is left of each source, from the source's drainer.
 fn pull_from_each(
     core: &mut Core,
-    events: &mut Vec<Event>,
+    events: &mut EventBlocks,
     to: NodeId,
     stage: u32,
 ) -> Result<(), OutOfMemory>
@@ -21,10 +22,10 @@ fn pull_from_each(
     requires consumes { IsTrue (is_consumer to) }
     requires stage { stage_of_node core.old.plan to ≡ stage }
     requires later { 2 ≤ stage }
-    ensures done { OnOk result ((b : Start) → MayBegin b → IsTurnOf b to → IsAfter b core.old events.old.items (before_turn b to)
-        → IsAfter b core.new events.new.items (before_turn b to ++ pulls_of b to)) }
-    ensures within { OnErr result ((b : Start) → MayBegin b → IsTurnOf b to → IsAfter b core.old events.old.items (before_turn b to)
-        → IsWithin b core.new events.new.items) }
+    ensures done { OnOk result ((b : Start) → MayBegin b → IsTurnOf b to → IsAfter b core.old events.old.events (before_turn b to)
+        → IsAfter b core.new events.new.events (before_turn b to ++ pulls_of b to)) }
+    ensures within { OnErr result ((b : Start) → MayBegin b → IsTurnOf b to → IsAfter b core.old events.old.events (before_turn b to)
+        → IsWithin b core.new events.new.events) }
     ensures keeps { Keeps core.old core.new }
 {
     core.known();
@@ -43,7 +44,7 @@ fn pull_from_each(
 // A consumer takes all that is left. From ingress that is as long as any of its sources has more.
 fn pull_all(
     core: &mut Core,
-    events: &mut Vec<Event>,
+    events: &mut EventBlocks,
     to: NodeId,
     stage: u32,
 ) -> Result<(), OutOfMemory>
@@ -51,10 +52,10 @@ fn pull_all(
     requires consumes { IsTrue (is_consumer to) }
     requires stage { stage_of_node core.old.plan to ≡ stage }
     requires first { 1 ≤ stage }
-    ensures done { OnOk result ((b : Start) → MayBegin b → IsTurnOf b to → IsAfter b core.old events.old.items (before_turn b to)
-        → IsAfter b core.new events.new.items (before_turn b to ++ pulls_of b to)) }
-    ensures within { OnErr result ((b : Start) → MayBegin b → IsTurnOf b to → IsAfter b core.old events.old.items (before_turn b to)
-        → IsWithin b core.new events.new.items) }
+    ensures done { OnOk result ((b : Start) → MayBegin b → IsTurnOf b to → IsAfter b core.old events.old.events (before_turn b to)
+        → IsAfter b core.new events.new.events (before_turn b to ++ pulls_of b to)) }
+    ensures within { OnErr result ((b : Start) → MayBegin b → IsTurnOf b to → IsAfter b core.old events.old.events (before_turn b to)
+        → IsWithin b core.new events.new.events) }
     ensures keeps { Keeps core.old core.new }
 {
     if stage == 1 {
@@ -67,7 +68,7 @@ fn pull_all(
 // A consumer takes all that is left, and then merges all that is left.
 fn drain_into(
     core: &mut Core,
-    events: &mut Vec<Event>,
+    events: &mut EventBlocks,
     to: NodeId,
     stage: u32,
 ) -> Result<(), OutOfMemory>
@@ -75,10 +76,10 @@ fn drain_into(
     requires consumes { IsTrue (is_consumer to) }
     requires stage { stage_of_node core.old.plan to ≡ stage }
     requires first { 1 ≤ stage }
-    ensures done { OnOk result ((b : Start) → MayBegin b → IsTurnOf b to → IsAfter b core.old events.old.items (before_turn b to)
-        → IsAfter b core.new events.new.items (before_turn b to ++ turn_of b to)) }
-    ensures within { OnErr result ((b : Start) → MayBegin b → IsTurnOf b to → IsAfter b core.old events.old.items (before_turn b to)
-        → IsWithin b core.new events.new.items) }
+    ensures done { OnOk result ((b : Start) → MayBegin b → IsTurnOf b to → IsAfter b core.old events.old.events (before_turn b to)
+        → IsAfter b core.new events.new.events (before_turn b to ++ turn_of b to)) }
+    ensures within { OnErr result ((b : Start) → MayBegin b → IsTurnOf b to → IsAfter b core.old events.old.events (before_turn b to)
+        → IsWithin b core.new events.new.events) }
     ensures keeps { Keeps core.old core.new }
 {
     pull_all(core, events, to, stage)?;
@@ -88,15 +89,15 @@ fn drain_into(
 // The drainer of a pair does so.
 fn drain_pair(
     core: &mut Core,
-    events: &mut Vec<Event>,
+    events: &mut EventBlocks,
     stage: u32,
     part: u32,
 ) -> Result<(), OutOfMemory>
     requires there { IsTrue (has_pair core.old.plan stage part) }
-    ensures done { OnOk result ((b : Start) → MayBegin b → IsAfter b core.old events.old.items (done_before b stage part)
-        → IsAfter b core.new events.new.items (done_before b stage (part + 1))) }
-    ensures within { OnErr result ((b : Start) → MayBegin b → IsAfter b core.old events.old.items (done_before b stage part)
-        → IsWithin b core.new events.new.items) }
+    ensures done { OnOk result ((b : Start) → MayBegin b → IsAfter b core.old events.old.events (done_before b stage part)
+        → IsAfter b core.new events.new.events (done_before b stage (part + 1))) }
+    ensures within { OnErr result ((b : Start) → MayBegin b → IsAfter b core.old events.old.events (done_before b stage part)
+        → IsWithin b core.new events.new.events) }
     ensures keeps { Keeps core.old core.new }
 {
     let which = drainer(core, stage, part);
@@ -105,13 +106,13 @@ fn drain_pair(
 }
 
 // Each pair of a stage drains.
-fn drain_stage(core: &mut Core, events: &mut Vec<Event>, stage: u32) -> Result<(), OutOfMemory>
+fn drain_stage(core: &mut Core, events: &mut EventBlocks, stage: u32) -> Result<(), OutOfMemory>
     requires first { 1 ≤ stage }
     requires last { stage ≤ length core.old.plan.stages }
-    ensures done { OnOk result ((b : Start) → MayBegin b → IsAfter b core.old events.old.items (done_before b stage 0)
-        → IsAfter b core.new events.new.items (done_before b (stage + 1) 0)) }
-    ensures within { OnErr result ((b : Start) → MayBegin b → IsAfter b core.old events.old.items (done_before b stage 0)
-        → IsWithin b core.new events.new.items) }
+    ensures done { OnOk result ((b : Start) → MayBegin b → IsAfter b core.old events.old.events (done_before b stage 0)
+        → IsAfter b core.new events.new.events (done_before b (stage + 1) 0)) }
+    ensures within { OnErr result ((b : Start) → MayBegin b → IsAfter b core.old events.old.events (done_before b stage 0)
+        → IsWithin b core.new events.new.events) }
     ensures keeps { Keeps core.old core.new }
 {
     core.known();
@@ -123,12 +124,12 @@ fn drain_stage(core: &mut Core, events: &mut Vec<Event>, stage: u32) -> Result<(
 }
 
 // All stages do.
-fn drain_stages(core: &mut Core, events: &mut Vec<Event>, stages: u32) -> Result<(), OutOfMemory>
+fn drain_stages(core: &mut Core, events: &mut EventBlocks, stages: u32) -> Result<(), OutOfMemory>
     requires all { stages ≡ length core.old.plan.stages }
-    ensures done { OnOk result ((b : Start) → MayBegin b → IsAfter b core.old events.old.items (done_before b 1 0)
-        → IsAfter b core.new events.new.items (done_before b (stages + 1) 0)) }
-    ensures within { OnErr result ((b : Start) → MayBegin b → IsAfter b core.old events.old.items (done_before b 1 0)
-        → IsWithin b core.new events.new.items) }
+    ensures done { OnOk result ((b : Start) → MayBegin b → IsAfter b core.old events.old.events (done_before b 1 0)
+        → IsAfter b core.new events.new.events (done_before b (stages + 1) 0)) }
+    ensures within { OnErr result ((b : Start) → MayBegin b → IsAfter b core.old events.old.events (done_before b 1 0)
+        → IsWithin b core.new events.new.events) }
     ensures keeps { Keeps core.old core.new }
 {
     core.known();
@@ -139,11 +140,11 @@ fn drain_stages(core: &mut Core, events: &mut Vec<Event>, stages: u32) -> Result
 }
 
 // Ingress makes all, each pair drains, stage by stage, and then egress does.
-pub(crate) fn drain_all(core: &mut Core, events: &mut Vec<Event>) -> Result<(), OutOfMemory>
-    ensures done { OnOk result ((b : Start) → MayBegin b → IsAfter b core.old events.old.items []
-        → IsAfter b core.new events.new.items (drain_events (flow_at b) b.state)) }
-    ensures within { OnErr result ((b : Start) → MayBegin b → IsAfter b core.old events.old.items []
-        → IsWithin b core.new events.new.items) }
+pub(crate) fn drain_all(core: &mut Core, events: &mut EventBlocks) -> Result<(), OutOfMemory>
+    ensures done { OnOk result ((b : Start) → MayBegin b → IsAfter b core.old events.old.events []
+        → IsAfter b core.new events.new.events (drain_events (flow_at b) b.state)) }
+    ensures within { OnErr result ((b : Start) → MayBegin b → IsAfter b core.old events.old.events []
+        → IsWithin b core.new events.new.events) }
     ensures keeps { Keeps core.old core.new }
 {
     let stages = core.plan().stages().len() as u32;

@@ -29,8 +29,8 @@ use Rattle.ingress_egress.specs.EgressView.{IsFrontOf}
 use Rattle.flux_core.specs.CoreView.{CoreView, inputs_of}
 use Rattle.flux_core.specs.Opening.{bare_core}
 use Rattle.flux_core.specs.Stands.{IsGiven}
-use Rattle.partition_runner.specs.Ran.{IsLegalRun}
-use Rattle.partition_runner.specs.declared.ran.Ran.{Ran}
+use Rattle.partition_runner.specs.Ran.{IsLegalLeft}
+use Rattle.partition_runner.specs.declared.ran.Left.{Left}
 use Rattle.core_drain.specs.Drained.{IsDrained, IsDrainedFrom, IsLost, IsWhole}
 use Rattle.drained_run.specs.Ended.{EndsSo, IsLostAt, IsRun, rows_at}
 use Rattle.drained_run.specs.Ended as ended
@@ -56,7 +56,7 @@ behind : (old new : CoreView) (es after : List Event) (d : Drained) → IsDraine
 behind old new es after drained.Whole w = record { drained = λ s stands may. behind_from old new es after s (w.drained s stands may); rows = w.rows }
 behind old new es after (drained.Lost stage part) l = record { lost = l.lost; unchanged = l.unchanged; no_event = ap (λ xs. es ++ xs) l.no_event ∙ append-nil es }
 
-module _ (plan : PlanView) (script : List Order) (ran : Ran) (limits : IsPlan plan) (run : IsLegalRun plan ran.ingress.inputs script ran) (core : CoreView) (after : List Event)
+module _ (plan : PlanView) (script : List Order) (ran : Left) (limits : IsPlan plan) (run : IsLegalLeft plan ran.ingress.inputs script ran) (core : CoreView) (after : List Event)
     (same_plan : core.plan ≡ plan) (same_inputs : inputs_of core ≡ ran.ingress.inputs) where
   abbrev inputs : List Input
   inputs = ran.ingress.inputs
@@ -110,13 +110,13 @@ module _ (plan : PlanView) (script : List Order) (ran : Ran) (limits : IsPlan pl
 -- ---- of the run's own inputs
 
 -- ingress has the inputs of the run
-own_inputs : (plan : PlanView) (inputs : List Input) (script : List Order) (ran : Ran) → IsLegalRun plan inputs script ran → ran.ingress.inputs ≡ inputs
+own_inputs : (plan : PlanView) (inputs : List Input) (script : List Order) (ran : Left) → IsLegalLeft plan inputs script ran → ran.ingress.inputs ≡ inputs
 own_inputs plan inputs script ran run = (reaches plan inputs script ran run).stand.ingress.inputs
 
-own_run : (plan : PlanView) (inputs : List Input) (script : List Order) (ran : Ran) → IsLegalRun plan inputs script ran → IsLegalRun plan ran.ingress.inputs script ran
-own_run plan inputs script ran run = subst (λ (I : List Input). IsLegalRun plan I script ran) (sym (own_inputs plan inputs script ran run)) run
+own_run : (plan : PlanView) (inputs : List Input) (script : List Order) (ran : Left) → IsLegalLeft plan inputs script ran → IsLegalLeft plan ran.ingress.inputs script ran
+own_run plan inputs script ran run = subst (λ (I : List Input). IsLegalLeft plan I script ran) (sym (own_inputs plan inputs script ran run)) run
 
-module _ (plan : PlanView) (inputs : List Input) (script : List Order) (ran : Ran) (limits : IsPlan plan) (run : IsLegalRun plan inputs script ran) where
+module _ (plan : PlanView) (inputs : List Input) (script : List Order) (ran : Left) (limits : IsPlan plan) (run : IsLegalLeft plan inputs script ran) where
   abbrev bare_nodes : CoreView
   bare_nodes = bare_core plan ran.ingress ran.replicas.items ran.controls.items ran.egress
 

@@ -16,8 +16,8 @@ use Rattle.pair_machine.specs.declared.order.Order.{Order}
 use Rattle.pair_machine.proofs.CountLaws.{in_order}
 use Rattle.flux_core.specs.CoreView.{CoreView, inputs_of}
 use Rattle.flux_core.specs.Opening.{bare_core}
-use Rattle.partition_runner.specs.Ran.{IsLegalRun}
-use Rattle.partition_runner.specs.declared.ran.Ran.{Ran}
+use Rattle.partition_runner.specs.Ran.{IsLegalLeft}
+use Rattle.partition_runner.specs.declared.ran.Left.{Left}
 use Rattle.core_drain.specs.Drained.{IsDrained}
 use Rattle.drained_run.specs.Ended.{EndsSo}
 use Rattle.drained_run.proofs.Ending.{run_ends}
@@ -30,14 +30,14 @@ prefix_self xs = ([], append-nil xs)
 pub take_prefix : (ys xs : List Row) → take (length ys) xs ≡ ys → IsPrefix ys xs
 take_prefix ys xs e = (drop (length ys) xs, ap (λ l. l ++ drop (length ys) xs) (sym e) ∙ take-append-drop (length ys) xs)
 
-module _ (plan : PlanView) (inputs : List Input) (script : List Order) (ran : Ran) where
-  pub run_front : IsLegalRun plan inputs script ran → IsPrefix ran.egress.emitted (output plan inputs)
+module _ (plan : PlanView) (inputs : List Input) (script : List Order) (ran : Left) where
+  pub run_front : IsLegalLeft plan inputs script ran → IsPrefix ran.egress.emitted (output plan inputs)
   run_front run =
       let r = reaches plan inputs script ran run in
       let count = (egress_in (r.reached.nodes node.Egress)).count in
       subst (λ (l : List Row). IsPrefix l (output plan inputs)) (sym r.stand.egress.emitted) (take_prefix (output_first plan inputs count) (output plan inputs) (sym ((in_order plan inputs).front count)))
 
-  pub goes_on : (limits : IsPlan plan) (run : IsLegalRun plan inputs script ran) (old core : CoreView) (before after : List Event) (d : Drained) → old ≡ bare_core plan ran.ingress ran.replicas.items ran.controls.items ran.egress
+  pub goes_on : (limits : IsPlan plan) (run : IsLegalLeft plan inputs script ran) (old core : CoreView) (before after : List Event) (d : Drained) → old ≡ bare_core plan ran.ingress ran.replicas.items ran.controls.items ran.egress
       → before ≡ [] → core.plan ≡ old.plan → inputs_of core ≡ inputs_of old → IsDrained old core before after d → IsPrefix ran.egress.emitted core.egress.emitted
   goes_on limits run old core before after d bare none same_plan same_inputs h = go d h (run_ends plan inputs script ran limits run old core before after d bare none same_plan same_inputs h)
     where

@@ -11,7 +11,6 @@ use Rattle.plan_reader.specs.PlanView.{IsPlan, PlanView}
 use Rattle.pair_machine.specs.Counts.{flow_of}
 use Rattle.pair_machine.specs.Drain.{IsDrainable}
 use Rattle.pair_machine.specs.Flow.{Flow}
-use Rattle.pair_machine.specs.Joint.{logged_events}
 use Rattle.pair_machine.specs.Links.{HasNode}
 use Rattle.pair_machine.specs.Lists.{Each}
 use Rattle.pair_machine.specs.Machine.{State}
@@ -21,33 +20,35 @@ use Rattle.pair_machine.proofs.DrainAfter.{sound_drains}
 use Rattle.pair_machine.proofs.PlanFlow.{plan_is_flow}
 use Rattle.pair_machine.proofs.SoundKept.{opening_sound, sound_run}
 use Rattle.pair_machine.proofs.StepTurns.{HoldsOnOk}
+use Rattle.event_log.specs.Views.{named_logs}
+use Rattle.journal_writer.specs.Merged.{AreAscending, AreMergeable, merged, merged_events}
 use Rattle.pair_control.specs.ControllerView.{ControllerView}
 use Rattle.pair_control.specs.StandsFor as control
 use Rattle.replica_node.specs.ReplicaView.{ReplicaView, node_of}
 use Rattle.replica_node.specs.StandsFor as replica
-use Rattle.run_journal.proofs.MergeFacts.{is_log}
-use Rattle.run_journal.specs.Logs.{AreMergeable, log_of_histories}
+use Rattle.drained_run.proofs.Ascending.{nodes_ascend}
+use Rattle.drained_run.proofs.Logs.{is_log, mergeable_logs}
 use Rattle.flux_core.specs.CoreView.{CoreView, IngressIs, ReplicaIs, any_controller, any_log, any_replica, pair_place, replica_contents, replica_place}
 use Rattle.flux_core.specs.Opening.{bare_core}
 use Rattle.flux_core.specs.Stands.{ContentStands, IsGiven, PacketsStand, StandsFor}
 use Rattle.flux_core.proofs.Contents.{content_in}
 use Rattle.flux_core.proofs.Lists.{get-back, get-map}
-use Rattle.partition_runner.specs.Ran.{IsLegalRun, ReachesNodes}
-use Rattle.partition_runner.specs.declared.ran.Ran.{Ran}
+use Rattle.partition_runner.specs.Ran.{IsLegalLeft, ReachesNodes, nodes_left}
+use Rattle.partition_runner.specs.declared.ran.Left.{Left}
 use Rattle.drained_run.proofs.Places.{control_there, replica_there}
 
 -- ---- one log
 
-pub mergeable : (plan : PlanView) (inputs : List Input) (script : List Order) (ran : Ran) → IsLegalRun plan inputs script ran → AreMergeable ran.histories.items
-mergeable plan inputs script ran run = record { distinct = run.distinct; rising = run.rising }
+pub mergeable : (plan : PlanView) (inputs : List Input) (script : List Order) (ran : Left) → IsLegalLeft plan inputs script ran → AreMergeable (named_logs ran.logs.items)
+mergeable plan inputs script ran run = mergeable_logs ran.logs.items (subst AreAscending (sym run.histories) (nodes_ascend plan)) run.rising
 
 -- the events of all nodes in one list
-abbrev pub events_of : Ran → List Event
-events_of ran = logged_events (log_of_histories ran.histories.items)
+abbrev pub events_of : Left → List Event
+events_of ran = merged_events (named_logs ran.logs.items)
 
-pub reaches : (plan : PlanView) (inputs : List Input) (script : List Order) (ran : Ran) → IsLegalRun plan inputs script ran → ReachesNodes plan inputs script ran (log_of_histories ran.histories.items)
+pub reaches : (plan : PlanView) (inputs : List Input) (script : List Order) (ran : Left) → IsLegalLeft plan inputs script ran → ReachesNodes plan inputs script (nodes_left ran) (merged (named_logs ran.logs.items))
 reaches plan inputs script ran run =
-    run.joint (log_of_histories ran.histories.items) (is_log ran.histories.items (mergeable plan inputs script ran run))
+    run.joint (merged (named_logs ran.logs.items)) (is_log ran.logs.items run.distinct run.rising)
 
 -- ---- lists
 
@@ -63,7 +64,7 @@ empty_at (x ∷ xs) (suc i) = empty_at xs i
 
 -- ---- a core of the nodes
 
-module _ (plan : PlanView) (script : List Order) (ran : Ran) (limits : IsPlan plan) (run : IsLegalRun plan ran.ingress.inputs script ran) where
+module _ (plan : PlanView) (script : List Order) (ran : Left) (limits : IsPlan plan) (run : IsLegalLeft plan ran.ingress.inputs script ran) where
   abbrev pub rows : List Input
   rows = ran.ingress.inputs
 
@@ -73,7 +74,7 @@ module _ (plan : PlanView) (script : List Order) (ran : Ran) (limits : IsPlan pl
   abbrev pub bare : CoreView
   bare = bare_core plan ran.ingress ran.replicas.items ran.controls.items ran.egress
 
-  abbrev pub reached : ReachesNodes plan rows script ran (log_of_histories ran.histories.items)
+  abbrev pub reached : ReachesNodes plan rows script (nodes_left ran) (merged (named_logs ran.logs.items))
   reached = reaches plan rows script ran run
 
   -- the nodes as they stand, and empty links

@@ -1,4 +1,6 @@
+pub mod Ascending
 pub mod Ending
 pub mod Fronts
 pub mod Joined
+pub mod Logs
 pub mod Places

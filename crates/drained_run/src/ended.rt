@@ -1,11 +1,13 @@
 // What a run comes to.
 ghost use Rattle.std.specs.Prelude.{◌≡◌, IfOk};
+ghost use Rattle.run_journal.specs.Text.{events_text};
 
+use event_log::{EventBlocks, Log};
 use flux_core::Core;
-use run_journal::merge;
+use journal_writer::write_logs;
 use std::alloc::Global;
 use std::marker::Model;
-use tuple_edge::{Drained, Event, History, OutOfMemory, Row};
+use tuple_edge::{Drained, OutOfMemory, Row};
 
 /// A run that has ended.
 ///
@@ -14,27 +16,27 @@ use tuple_edge::{Drained, Event, History, OutOfMemory, Row};
 pub struct Ended {
     pub(crate) core: Core,
     // What happened on the threads, node by node.
-    pub(crate) histories: Vec<History>,
+    pub(crate) logs: Vec<Log>,
     // What the drain did then.
-    pub(crate) drain: Vec<Event>,
+    pub(crate) drain: EventBlocks,
     pub(crate) drained: Drained,
 }
 
 impl Model for Ended {
     ghost use Rattle.drained_run.specs.Ended.{EndedView};
-    ghost use Rattle.pair_machine.specs.Joint.{logged_events};
-    ghost use Rattle.run_journal.specs.Logs.{AreMergeable, log_of_histories};
+    ghost use Rattle.event_log.specs.Views.{named_logs};
+    ghost use Rattle.journal_writer.specs.Merged.{AreMergeable, merged_events};
     ghost use Rattle.std.specs.Prelude.{◌++◌};
 
     ghost Value = { EndedView };
 
     ghost view = { λ e. record {
       rows = e.core.egress.emitted;
-      events = logged_events (log_of_histories e.histories.items) ++ e.drain.items;
+      events = merged_events (named_logs e.logs.items) ++ e.drain.events;
       drained = e.drained;
     } };
 
-    ghost invariant = { λ e. AreMergeable e.histories.items };
+    ghost invariant = { λ e. AreMergeable (named_logs e.logs.items) };
 }
 
 impl Ended {
@@ -45,14 +47,12 @@ impl Ended {
         self.core.emitted()
     }
 
-    /// What happened at all nodes, in one order: on the threads, and then in the drain. The order is made by this
-    /// call, since only a journal needs it.
-    pub fn events(&self, alloc: Global) -> Result<Vec<Event>, OutOfMemory>
-        ensures { IfOk result (λ events. events.items ≡ self.now.events) }
+    /// The journal: the canonical text of what happened at all nodes, in one order, on the threads and then in the
+    /// drain. The order is made by this call, line by line, since only a journal needs it.
+    pub fn journal(&self, alloc: Global) -> Result<Vec<u8>, OutOfMemory>
+        ensures { IfOk result (λ text. text.items ≡ events_text self.now.events) }
     {
-        let mut events = merge(alloc, &self.histories)?;
-        events.extend_from_slice(&self.drain)?;
-        Ok(events)
+        write_logs(alloc, &self.logs, &self.drain)
     }
 
     /// How it ended: whole, or with the first lost pair.

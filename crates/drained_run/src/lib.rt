@@ -3,8 +3,8 @@
 //! It promises the sentence that the engine is for: whatever the threads did and whichever replicas failed, the rows
 //! are exactly the plan's output, each once and in order, and the events are one legal list within the script, along
 //! which the buffers hold what takeover owes; or it names the first lost pair, which a safe script never has. It reads
-//! and writes nothing. It stands on the runner (`partition_runner`), which turns the nodes, on `run_journal`, which
-//! puts their histories into one list, and on `flux_core` and `core_drain`, which bring what is left to its end.
+//! and writes nothing. It stands on the runner (`partition_runner`), which turns the nodes, on `flux_core` and
+//! `core_drain`, which bring what is left to its end, and on `journal_writer`, which writes the journal of their logs.
 #![tactic(auto)]
 
 mod ended;

@@ -2,16 +2,17 @@
 ghost use mathlib.Core.List.{IsPrefix};
 ghost use Rattle.drained_run.specs.Ended.{IsEnded};
 ghost use Rattle.pair_machine.specs.Output.{output};
-ghost use Rattle.partition_runner.specs.Ran.{IsLegalRun};
+ghost use Rattle.partition_runner.specs.Ran.{IsLegalLeft};
 ghost use Rattle.std.specs.Prelude.{◌≤◌, IfOk};
 ghost use Rattle.trade_text.specs.TradesView.{inputs_in};
 ghost use Rattle.tuple_edge.specs.Limits.{max_threads};
 
 use crate::ended::Ended;
 use core_drain::drain;
+use event_log::EventBlocks;
 use failure_script::Script;
 use flux_core::Core;
-use partition_runner::{Gate, Ran, run_nodes};
+use partition_runner::{Gate, Left, run_logged};
 use plan_reader::Plan;
 use std::alloc::Global;
 use std::thread::Threads;
@@ -27,28 +28,28 @@ pub fn finish_run(
     plan: &Plan,
     trades: &Trades,
     script: &Script,
-    ran: Ran,
+    left: Left,
 ) -> Result<Ended, OutOfMemory>
-    requires { IsLegalRun plan.now (inputs_in trades.now) script.now ran }
+    requires { IsLegalLeft plan.now (inputs_in trades.now) script.now left }
     ensures ended { IfOk result (IsEnded plan.now (inputs_in trades.now) script.now) }
-    ensures goes_on { IfOk result (λ ended. IsPrefix ran.egress.emitted ended.rows) }
-    ensures front { IsPrefix ran.egress.emitted (output plan.now (inputs_in trades.now)) }
+    ensures goes_on { IfOk result (λ ended. IsPrefix left.egress.emitted ended.rows) }
+    ensures front { IsPrefix left.egress.emitted (output plan.now (inputs_in trades.now)) }
 {
     // This call's clause says that a plan is within the limits.
     let _stages = plan.stages();
-    let Ran {
+    let Left {
         ingress,
         replicas,
         controls,
         egress,
-        histories,
-    } = ran;
+        logs,
+    } = left;
     let mut core = Core::of(alloc, plan, ingress, replicas, controls, egress)?;
-    let mut events = Vec::new(alloc);
+    let mut events = EventBlocks::new(alloc);
     let drained = drain(&mut core, &mut events)?;
     Ok(Ended {
         core,
-        histories,
+        logs,
         drain: events,
         drained,
     })
@@ -74,6 +75,6 @@ pub fn run_and_drain<R: Threads + Sync, G: Gate>(
     requires few { threads ≤ max_threads }
     ensures { IfOk result (IsEnded plan.now (inputs_in trades.now) script.now) }
 {
-    let ran = run_nodes(rt, alloc, plan, trades, script, threads, turns, gate)?;
-    finish_run(alloc, plan, trades, script, ran)
+    let left = run_logged(rt, alloc, plan, trades, script, threads, turns, gate)?;
+    finish_run(alloc, plan, trades, script, left)
 }

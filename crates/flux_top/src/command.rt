@@ -31,6 +31,9 @@ use tuple_edge::Drained;
 /// emitted, 8 where no memory was to be had. One line goes to `err` for each status but 0. The gate is called
 /// at each turn of a run's workers; no call waits.
 ///
+/// Where it is done, its text was written whole; of a run, that is all of the plan's output, each row once
+/// and in order, and its journal a legal list of events that reaches it.
+///
 /// The clauses of each status also say which calls of `files` were added, where they are told: at 0, 5 and 6
 /// one read of each input, in order, and then the save of a journal; at 3 those up to the input that is
 /// refused; at 4 those up to the one that could not be read, whose name is said; at 8 those of the inputs
@@ -45,8 +48,6 @@ pub fn flux<R: Threads + Sync, F: Files, S: Sink, E: Sink, G: Gate>(
     err: &mut E,
     gate: &G,
 ) -> u8
-    // 0: the command is done. Its text was written whole; of a run, that is all of the plan's output, each row
-    // once and in order, and its journal a legal list of events that reaches it.
     ensures done { result ≡ 0 → WritesWhole (F.told files.old) (F.told files.new) (texts words.now) Ends (S.told out.old) (S.told out.new) }
 
     // 2: the words ask for nothing: they have no form. Such words end with 2 or,

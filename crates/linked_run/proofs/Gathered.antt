@@ -18,20 +18,20 @@ use Rattle.run_node.specs.NodeView.{NodeName, NodeView, name_of}
 use Rattle.linked_run.specs.Runs.{IsJointCourse, IsRun, TapOfSome, any_tapped, ids_in, parts_in, parts_of}
 use Rattle.run_node.specs.declared.part.Part.{Part}
 
-pub parts_in-more : {A : Type 0} (ps : List (Part A)) (p : Part A) → parts_in (ps ++ p ∷ []) ≡ parts_in ps ++ (p.state, p.history.items) ∷ []
+pub parts_in-more : {A : Type 0} (ps : List (Part A)) (p : Part A) → parts_in (ps ++ p ∷ []) ≡ parts_in ps ++ (p.state, p.history.entries) ∷ []
 parts_in-more [] p = refl
-parts_in-more (q ∷ ps) p = ap (λ l. (q.state, q.history.items) ∷ l) (parts_in-more ps p)
+parts_in-more (q ∷ ps) p = ap (λ l. (q.state, q.history.entries) ∷ l) (parts_in-more ps p)
 
 module _ {A T : Type 0} (id : A → NodeId) where
   parts_of-more : (vs : List (NodeView A T)) (v : NodeView A T) → parts_of id (vs ++ v ∷ []) ≡ parts_of id vs ++ (v.state, v.history) ∷ []
   parts_of-more [] v = refl
   parts_of-more (w ∷ vs) v = ap (λ l. (w.state, w.history) ∷ l) (parts_of-more vs v)
 
-  pub parts_more : (ps ps_after : List (Part A)) (p : Part A) (vs : List (NodeView A T)) (v : NodeView A T) → ps_after ≡ ps ++ p ∷ [] → parts_in ps ≡ parts_of id vs → p.state ≡ v.state → p.history.items ≡ v.history →
+  pub parts_more : (ps ps_after : List (Part A)) (p : Part A) (vs : List (NodeView A T)) (v : NodeView A T) → ps_after ≡ ps ++ p ∷ [] → parts_in ps ≡ parts_of id vs → p.state ≡ v.state → p.history.entries ≡ v.history →
       parts_in ps_after ≡ parts_of id (vs ++ v ∷ [])
   parts_more ps ps_after p vs v e old state history =
-      let last : ◌≡◌ {A = A × List Stamped} (p.state, p.history.items) (v.state, v.history) = λ i. (state i, history i) in
-      ap parts_in e ∙ (parts_in-more ps p ∙ (ap (λ l. l ++ (p.state, p.history.items) ∷ []) old ∙ (ap (λ x. parts_of id vs ++ x ∷ []) last ∙ sym (parts_of-more vs v))))
+      let last : ◌≡◌ {A = A × List Stamped} (p.state, p.history.entries) (v.state, v.history) = λ i. (state i, history i) in
+      ap parts_in e ∙ (parts_in-more ps p ∙ (ap (λ l. l ++ (p.state, p.history.entries) ∷ []) old ∙ (ap (λ x. parts_of id vs ++ x ∷ []) last ∙ sym (parts_of-more vs v))))
 
 pub empty_list : {X : Type 0} (xs : List X) → length xs ≡ 0 → xs ≡ []
 empty_list [] e = refl
@@ -48,7 +48,7 @@ module _ {A T : Type 0} (given : T → List Row) (rows : A → List Row) where
       TapFits given rows its p.state → TapOfSome given rows old (parts_in ps) → TapOfSome given rows now (parts_in ps_after)
   tap_more ps ps_after p old its now e is fits h =
       subst (λ o. TapOfSome given rows o (parts_in ps_after)) (sym is)
-      (subst (TapOfSome given rows (option_or its old)) (sym (ap parts_in e ∙ parts_in-more ps p)) (tap_either its old (parts_in ps) (p.state, p.history.items) fits h))
+      (subst (TapOfSome given rows (option_or its old)) (sym (ap parts_in e ∙ parts_in-more ps p)) (tap_either its old (parts_in ps) (p.state, p.history.entries) fits h))
 
 -- ---- what is said of names
 

@@ -53,7 +53,7 @@ module _ {A : Type 0} (id : A → NodeId) (stands : PlanView → List Input → 
 -- the parts that a run leaves
 abbrev pub parts_in : {A : Type 0} → List (Part A) → List (A × List Stamped)
 parts_in [] = []
-parts_in (p ∷ ps) = (p.state, p.history.items) ∷ parts_in ps
+parts_in (p ∷ ps) = (p.state, p.history.entries) ∷ parts_in ps
 
 -- a tap gave on the first of the rows that one of these parts emitted
 abbrev pub TapOfSome : {A T : Type 0} → (T → List Row) → (A → List Row) → Option T → List (A × List Stamped) → Type 0

@@ -2,6 +2,7 @@
 ghost use Rattle.claim_board.specs.Board.{AllHoldNone, AreAll, opening_of};
 ghost use Rattle.linked_run.specs.Linked.{AreDistinct, AreLinked, ids_of};
 ghost use Rattle.linked_run.specs.Runs.{AreSettled, IsRun, TapOfSome, any_tapped, parts_in};
+ghost use Rattle.pair_machine.specs.Lists.{Each};
 ghost use Rattle.plan_reader.specs.PlanView.{IsPlan};
 ghost use Rattle.run_node.specs.NodeView.{name_of};
 ghost use Rattle.std.specs.Prelude.{◌≡◌, ◌<◌, ◌≤◌, is_some, length, map, vec_capacity, vec_len};
@@ -25,6 +26,7 @@ fn into_parts<N: RunNames, A: Acts, M: Links, T: Tap>(
     requires settled { AreSettled A.id nodes.items nodes.items }
     ensures run { IsRun A.id A.stands N.plan N.inputs N.script (ids_of (map (name_of A.id) nodes.items)) (parts_in result.0.items) }
     ensures tap { TapOfSome T.given A.rows result.1 (parts_in result.0.items) }
+    ensures named { Each (λ p. p.history.node ≡ A.id p.state) result.0.items }
     ensures tapped { is_some result.1 ≡ any_tapped (map (name_of A.id) nodes.items) }
 {
     let mut parts = parts;
@@ -58,6 +60,7 @@ pub fn run_linked<N: RunNames, A: Acts + Send, M: Links, T: Tap + Send, R: Threa
     requires linked { AreLinked (map (name_of A.id) (opening_of board)) (map (name_of A.id) (opening_of board)) }
     ensures run { IsRun A.id A.stands N.plan N.inputs N.script (ids_of (map (name_of A.id) (opening_of board))) (parts_in result.0.items) }
     ensures tap { TapOfSome T.given A.rows result.1 (parts_in result.0.items) }
+    ensures named { Each (λ p. p.history.node ≡ A.id p.state) result.0.items }
     ensures tapped { is_some result.1 ≡ any_tapped (map (name_of A.id) (opening_of board)) }
 {
     let mut back = float(rt, board, seats, nodes, shared);

@@ -2,14 +2,14 @@
 ghost use mathlib.Core.List.{IsPrefix};
 ghost use Rattle.live_feed.specs.Sides.{HasRun};
 ghost use Rattle.pair_machine.specs.Output.{output};
-ghost use Rattle.partition_runner.specs.Ran.{IsLegalRun};
+ghost use Rattle.partition_runner.specs.Ran.{IsLegalLeft};
 ghost use Rattle.std.specs.Prelude.{IfOk, List, MatchResult};
 ghost use Rattle.trade_text.specs.TradesView.{inputs_in};
 ghost use Rattle.tuple_edge.specs.declared.row.Row.{Row};
 
 use drained_run::{Ended, finish_run};
 use failure_script::Script;
-use partition_runner::Ran;
+use partition_runner::Left;
 use plan_reader::Plan;
 use std::alloc::Global;
 use trade_text::Trades;
@@ -21,13 +21,13 @@ pub(crate) fn end_of(
     plan: &Plan,
     trades: &Trades,
     script: &Script,
-    ran: Result<Ran, OutOfMemory>,
+    left: Result<Left, OutOfMemory>,
 ) -> Result<Ended, OutOfMemory>
-    requires { IfOk ran (IsLegalRun plan.now (inputs_in trades.now) script.now) }
-    ensures { (given : List Row) → MatchResult ran (λ ran. IsPrefix given ran.egress.emitted) (λ _. IsPrefix given (output plan.now (inputs_in trades.now))) → HasRun plan.now (inputs_in trades.now) script.now given result }
+    requires { IfOk left (IsLegalLeft plan.now (inputs_in trades.now) script.now) }
+    ensures { (given : List Row) → MatchResult left (λ left. IsPrefix given left.egress.emitted) (λ _. IsPrefix given (output plan.now (inputs_in trades.now))) → HasRun plan.now (inputs_in trades.now) script.now given result }
 {
-    match ran {
-        Ok(ran) => finish_run(alloc, plan, trades, script, ran),
+    match left {
+        Ok(left) => finish_run(alloc, plan, trades, script, left),
         Err(OutOfMemory) => Err(OutOfMemory),
     }
 }

@@ -57,8 +57,8 @@ fn run_side<N: RunNames, T: SendingTap + Send, R: Threads + Wait + Sync, G: Gate
     let Some(ready) = ready.take() else {
         unreachable!()
     };
-    let (ran, tap) = run_tapped(rt, alloc, plan, trades, script, turns, gate, ready);
-    let end = end_of(alloc, plan, trades, script, ran);
+    let (left, tap) = run_tapped(rt, alloc, plan, trades, script, turns, gate, ready);
+    let end = end_of(alloc, plan, trades, script, left);
     let mut sender = tap.into_sender();
     sender.stop(rt);
     RunSide { end, sender }

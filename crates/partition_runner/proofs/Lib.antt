@@ -2,3 +2,4 @@ pub mod Timely
 pub mod Unlinked
 pub mod Sorted
 pub mod TapLaw
+pub mod Told

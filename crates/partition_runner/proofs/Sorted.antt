@@ -2,7 +2,7 @@
 use Rattle.std.proofs.Common.{◌≡◌, ◌∙◌, List, [], ◌∷◌, ◌++◌, Option, None, Some, ⊎_elim, inl, refl, sym, ap, subst, append_assoc, append-nil}
 use Rattle.std.specs.Prelude.{if◌then◌else◌, map}
 use Rattle.tuple_edge.specs.Input.{Input}
-use Rattle.tuple_edge.specs.declared.event.History.{History}
+use Rattle.event_log.specs.Views.{LogView, named_logs}
 use Rattle.tuple_edge.specs.declared.event.Stamped.{Stamped}
 use Rattle.tuple_edge.specs.declared.node.NodeId.{NodeId}
 use Rattle.tuple_edge.specs.declared.node.NodeId.TheVariants as node
@@ -21,11 +21,11 @@ use Rattle.pair_control.specs.StandsFor as control
 use Rattle.replica_node.specs.ReplicaView.{ReplicaView, node_of}
 use Rattle.replica_node.specs.StandsFor as replica
 use Rattle.plan_nodes.specs.NodeOrder.{controls_among, nodes_before_egress, nodes_of, replicas_among}
-use Rattle.partition_runner.specs.Ran.{IsLegalRun, history_of}
+use Rattle.partition_runner.specs.Ran.{IsLegalLeft, history_in_logs}
 use Rattle.linked_run.specs.Runs.{IsRun, history_in, ids_in}
-use Rattle.partition_runner.specs.Sorted.{AreSorted, FoundEgress, FoundIngress, HasOneMore, IsNoEgress, IsNoIngress, control_of, controls_in, egress_with, ingress_with, named_histories, named_parts, replica_of, replicas_in}
+use Rattle.partition_runner.specs.Sorted.{AreSorted, FoundEgress, FoundIngress, HasOneMore, IsNoEgress, IsNoIngress, control_of, controls_in, egress_with, ingress_with, named_parts, replica_of, replicas_in}
 use Rattle.plan_nodes.specs.States.{StandsFor, id_of}
-use Rattle.partition_runner.specs.declared.ran.Ran.{Ran}
+use Rattle.partition_runner.specs.declared.ran.Left.{Left}
 use Rattle.partition_runner.specs.declared.sorting.Sorted.{Sorted}
 use Rattle.plan_nodes.specs.declared.state.NodeState.{NodeState}
 use Rattle.plan_nodes.specs.declared.state.NodeState.TheVariants as state
@@ -53,11 +53,11 @@ egress_still : (o : Option EgressView) (ps : List (NodeState × List Stamped)) (
 egress_still None ps p n h = each_more (λ (q : NodeState × List Stamped). IsNoEgress q.0) ps p h n
 egress_still (Some e) ps p n h = (h.0, among_left (state.Egress e, h.0) ps (p ∷ []) h.1)
 
-histories_more : (ps : List (NodeState × List Stamped)) (p : NodeState × List Stamped) (hs hs_after : List History) (h : History) → hs_after ≡ hs ++ h ∷ [] → h.node ≡ id_of p.0 → h.entries.items ≡ p.1 → named_histories hs ≡ named_parts ps →
-    named_histories hs_after ≡ named_parts (ps ++ p ∷ [])
-histories_more ps p hs hs_after h e n items old =
-    let last : ◌≡◌ {A = NodeId × List Stamped} (h.node, h.entries.items) (id_of p.0, p.1) = λ i. (n i, items i) in
-    ap named_histories e ∙ (map_more (λ (x : History). (x.node, x.entries.items)) hs h ∙ ((λ i. old i ++ last i ∷ []) ∙ sym (map_more (λ (q : NodeState × List Stamped). (id_of q.0, q.1)) ps p)))
+logs_more : (ps : List (NodeState × List Stamped)) (p : NodeState × List Stamped) (hs hs_after : List LogView) (h : LogView) → hs_after ≡ hs ++ h ∷ [] → h.node ≡ id_of p.0 → h.entries ≡ p.1 → named_logs hs ≡ named_parts ps →
+    named_logs hs_after ≡ named_parts (ps ++ p ∷ [])
+logs_more ps p hs hs_after h e n items old =
+    let last : ◌≡◌ {A = NodeId × List Stamped} (h.node, h.entries) (id_of p.0, p.1) = λ i. (n i, items i) in
+    ap named_logs e ∙ (map_more (λ (x : LogView). (x.node, x.entries)) hs h ∙ ((λ i. old i ++ last i ∷ []) ∙ sym (map_more (λ (q : NodeState × List Stamped). (id_of q.0, q.1)) ps p)))
 
 ingress_more : (s : NodeState) (items : List Stamped) (o : Option IngressView) (ps : List (NodeState × List Stamped)) → FoundIngress o ps → FoundIngress (ingress_with s o) (ps ++ (s, items) ∷ [])
 ingress_more (state.Ingress i) items o ps h = (items, among_last (state.Ingress i, items) ps)
@@ -72,48 +72,48 @@ egress_more (state.Control c) items o ps h = egress_still o ps (state.Control c,
 egress_more (state.Egress e) items o ps h = (items, among_last (state.Egress e, items) ps)
 
 -- a node's own part was put to those of its kind, and then its history behind the others
-pub more_part : (parts : List (NodeState × List Stamped)) (before put after : Sorted) (s : NodeState) (items : List Stamped) (h : History) → AreSorted parts before → HasOneMore s before put →
-    after.ingress ≡ put.ingress → after.replicas.items ≡ put.replicas.items → after.controls.items ≡ put.controls.items → after.egress ≡ put.egress → after.histories.items ≡ put.histories.items ++ h ∷ [] →
-    h.node ≡ id_of s → h.entries.items ≡ items → AreSorted (parts ++ (s, items) ∷ []) after
-more_part parts before put after s items h old one ingress replicas controls egress histories n entries = record {
+pub more_part : (parts : List (NodeState × List Stamped)) (before put after : Sorted) (s : NodeState) (items : List Stamped) (h : LogView) → AreSorted parts before → HasOneMore s before put →
+    after.ingress ≡ put.ingress → after.replicas.items ≡ put.replicas.items → after.controls.items ≡ put.controls.items → after.egress ≡ put.egress → after.logs.items ≡ put.logs.items ++ h ∷ [] →
+    h.node ≡ id_of s → h.entries ≡ items → AreSorted (parts ++ (s, items) ∷ []) after
+more_part parts before put after s items h old one ingress replicas controls egress logs n entries = record {
   ingress = subst (λ o. FoundIngress o (parts ++ (s, items) ∷ [])) (sym (ingress ∙ one.ingress)) (ingress_more s items before.ingress parts old.ingress);
   replicas = replicas ∙ (one.replicas ∙ (ap (λ l. l ++ replica_of s) old.replicas ∙ sym (replicas_more parts (s, items))));
   controls = controls ∙ (one.controls ∙ (ap (λ l. l ++ control_of s) old.controls ∙ sym (controls_more parts (s, items))));
   egress = subst (λ o. FoundEgress o (parts ++ (s, items) ∷ [])) (sym (egress ∙ one.egress)) (egress_more s items before.egress parts old.egress);
-  histories = histories_more parts (s, items) before.histories.items after.histories.items h (histories ∙ ap (λ l. l ++ h ∷ []) one.histories) n entries old.histories;
+  logs = logs_more parts (s, items) before.logs.items after.logs.items h (logs ∙ ap (λ l. l ++ h ∷ []) one.logs) n entries old.logs;
 }
 
 -- ---- names
 
-nodes_by : (hs : List History) (ps : List (NodeState × List Stamped)) → named_histories hs ≡ named_parts ps → map (λ (h : History). h.node) hs ≡ ids_in id_of ps
+nodes_by : (hs : List LogView) (ps : List (NodeState × List Stamped)) → named_logs hs ≡ named_parts ps → map (λ (h : LogView). h.node) hs ≡ ids_in id_of ps
 nodes_by [] [] e = refl
 nodes_by [] (p ∷ ps) e = cc e
 nodes_by (h ∷ hs) [] e = cc e
 nodes_by (h ∷ hs) (p ∷ ps) e =
-    let pair : ◌≡◌ {A = NodeId × List Stamped} (h.node, h.entries.items) (id_of p.0, p.1) = cc e in
+    let pair : ◌≡◌ {A = NodeId × List Stamped} (h.node, h.entries) (id_of p.0, p.1) = cc e in
     let first : h.node ≡ id_of p.0 = ap (λ (x : NodeId × List Stamped). x.0) pair in
-    let rest : named_histories hs ≡ named_parts ps = cc e in
+    let rest : named_logs hs ≡ named_parts ps = cc e in
     λ i. first i ∷ nodes_by hs ps rest i
 
-rising_by : (hs : List History) (ps : List (NodeState × List Stamped)) → named_histories hs ≡ named_parts ps → Each (λ (p : NodeState × List Stamped). AreRising p.1) ps → Each (λ (h : History). AreRising h.entries.items) hs
+rising_by : (hs : List LogView) (ps : List (NodeState × List Stamped)) → named_logs hs ≡ named_parts ps → Each (λ (p : NodeState × List Stamped). AreRising p.1) ps → Each (λ (h : LogView). AreRising h.entries) hs
 rising_by [] [] e r = tt
 rising_by [] (p ∷ ps) e r = let z : ⊥ = cc e in absurd z
 rising_by (h ∷ hs) [] e r = let z : ⊥ = cc e in absurd z
 rising_by (h ∷ hs) (p ∷ ps) e r =
-    let pair : ◌≡◌ {A = NodeId × List Stamped} (h.node, h.entries.items) (id_of p.0, p.1) = cc e in
-    let first : h.entries.items ≡ p.1 = ap (λ (x : NodeId × List Stamped). x.1) pair in
-    let rest : named_histories hs ≡ named_parts ps = cc e in
+    let pair : ◌≡◌ {A = NodeId × List Stamped} (h.node, h.entries) (id_of p.0, p.1) = cc e in
+    let first : h.entries ≡ p.1 = ap (λ (x : NodeId × List Stamped). x.1) pair in
+    let rest : named_logs hs ≡ named_parts ps = cc e in
     (subst AreRising (sym first) r.0, rising_by hs ps rest r.1)
 
-history_by : (hs : List History) (ps : List (NodeState × List Stamped)) (n : NodeId) → named_histories hs ≡ named_parts ps → history_of hs n ≡ history_in id_of ps n
+history_by : (hs : List LogView) (ps : List (NodeState × List Stamped)) (n : NodeId) → named_logs hs ≡ named_parts ps → history_in_logs hs n ≡ history_in id_of ps n
 history_by [] [] n e = refl
 history_by [] (p ∷ ps) n e = let z : ⊥ = cc e in absurd z
 history_by (h ∷ hs) [] n e = let z : ⊥ = cc e in absurd z
 history_by (h ∷ hs) (p ∷ ps) n e =
-    let pair : ◌≡◌ {A = NodeId × List Stamped} (h.node, h.entries.items) (id_of p.0, p.1) = cc e in
+    let pair : ◌≡◌ {A = NodeId × List Stamped} (h.node, h.entries) (id_of p.0, p.1) = cc e in
     let first : h.node ≡ id_of p.0 = ap (λ (x : NodeId × List Stamped). x.0) pair in
-    let items : h.entries.items ≡ p.1 = ap (λ (x : NodeId × List Stamped). x.1) pair in
-    let rest : named_histories hs ≡ named_parts ps = cc e in
+    let items : h.entries ≡ p.1 = ap (λ (x : NodeId × List Stamped). x.1) pair in
+    let rest : named_logs hs ≡ named_parts ps = cc e in
     λ i. if is_node (first i) n then items i else history_by hs ps n rest i
 
 replicas_named : (ps : List (NodeState × List Stamped)) → map (λ (r : ReplicaView). node_of r.role) (replicas_in ps) ≡ replicas_among (ids_in id_of ps)
@@ -188,21 +188,21 @@ module _ (plan : PlanView) (inputs : List Input) (script : List Order) where
       go (state.Control c) k rest = (k, rest)
       go (state.Egress x) k rest = rest
 
-  pub legal_run : (ps : List (NodeState × List Stamped)) (s : Sorted) (ran : Ran) → IsRun id_of StandsFor plan inputs script (nodes_of plan) ps → AreSorted ps s → s.ingress ≡ Some ran.ingress → s.egress ≡ Some ran.egress →
-      ran.replicas.items ≡ s.replicas.items → ran.controls.items ≡ s.controls.items → ran.histories.items ≡ s.histories.items → IsLegalRun plan inputs script ran
+  pub legal_run : (ps : List (NodeState × List Stamped)) (s : Sorted) (ran : Left) → IsRun id_of StandsFor plan inputs script (nodes_of plan) ps → AreSorted ps s → s.ingress ≡ Some ran.ingress → s.egress ≡ Some ran.egress →
+      ran.replicas.items ≡ s.replicas.items → ran.controls.items ≡ s.controls.items → ran.logs.items ≡ s.logs.items → IsLegalLeft plan inputs script ran
   legal_run ps s ran r sorted i_is e_is rs cs hs =
-      let named : named_histories ran.histories.items ≡ named_parts ps = ap named_histories hs ∙ sorted.histories in
-      let nodes : map (λ (h : History). h.node) ran.histories.items ≡ nodes_of plan = nodes_by ran.histories.items ps named ∙ r.nodes in
+      let named : named_logs ran.logs.items ≡ named_parts ps = ap named_logs hs ∙ sorted.logs in
+      let nodes : map (λ (h : LogView). h.node) ran.logs.items ≡ nodes_of plan = nodes_by ran.logs.items ps named ∙ r.nodes in
       let found_i : FoundIngress (Some ran.ingress) ps = subst (λ o. FoundIngress o ps) i_is sorted.ingress in
       let found_e : FoundEgress (Some ran.egress) ps = subst (λ o. FoundEgress o ps) e_is sorted.egress in
       record {
         histories = nodes;
         distinct = subst joint.AreDistinct (sym nodes) (ids_distinct (nodes_of plan) (nodes_apart plan));
-        rising = rising_by ran.histories.items ps named r.rising;
+        rising = rising_by ran.logs.items ps named r.rising;
         replicas = ap (map (λ (x : ReplicaView). node_of x.role)) (rs ∙ sorted.replicas) ∙ (replicas_named ps ∙ ap replicas_among r.nodes);
         controls = ap (map control.node_of) (cs ∙ sorted.controls) ∙ (controls_named ps ∙ ap controls_among r.nodes);
         joint = λ log l.
-            let own : IsLog (history_in id_of ps) log = record { in_order = l.in_order; whole = λ n. l.whole n ∙ history_by ran.histories.items ps n named } in
+            let own : IsLog (history_in id_of ps) log = record { in_order = l.in_order; whole = λ n. l.whole n ∙ history_by ran.logs.items ps n named } in
             let q = r.joint log own in
             record {
               reached = q.reached;

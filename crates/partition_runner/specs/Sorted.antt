@@ -1,6 +1,6 @@
 -- What a run leaves of its nodes, kind by kind.
 use Rattle.std.specs.Prelude.{◌≡◌, List, [], ◌∷◌, ◌++◌, Option, None, Some, map}
-use Rattle.tuple_edge.specs.declared.event.History.{History}
+use Rattle.event_log.specs.Views.{named_logs}
 use Rattle.tuple_edge.specs.declared.event.Stamped.{Stamped}
 use Rattle.tuple_edge.specs.declared.node.NodeId.{NodeId}
 use Rattle.pair_machine.specs.Lists.{Among, Each}
@@ -43,7 +43,7 @@ pub record HasOneMore (s : NodeState) (before after : Sorted) : Type 0 where
   pub replicas : after.replicas.items ≡ before.replicas.items ++ replica_of s
   pub controls : after.controls.items ≡ before.controls.items ++ control_of s
   pub egress : after.egress ≡ egress_with s before.egress
-  pub histories : after.histories.items ≡ before.histories.items
+  pub logs : after.logs.items ≡ before.logs.items
 
 -- the replicas among these, and the controllers, in their order
 abbrev pub replicas_in : List (NodeState × List Stamped) → List ReplicaView
@@ -71,9 +71,6 @@ abbrev pub FoundEgress : Option EgressView → List (NodeState × List Stamped) 
 FoundEgress None parts = Each (λ p. IsNoEgress p.0) parts
 FoundEgress (Some e) parts = (h : List Stamped) × Among (state.Egress e, h) parts
 
-abbrev pub named_histories : List History → List (NodeId × List Stamped)
-named_histories histories = map (λ (h : History). (h.node, h.entries.items)) histories
-
 abbrev pub named_parts : List (NodeState × List Stamped) → List (NodeId × List Stamped)
 named_parts parts = map (λ (p : NodeState × List Stamped). (id_of p.0, p.1)) parts
 
@@ -83,4 +80,4 @@ pub record AreSorted (parts : List (NodeState × List Stamped)) (s : Sorted) : T
   pub replicas : s.replicas.items ≡ replicas_in parts
   pub controls : s.controls.items ≡ controls_in parts
   pub egress : FoundEgress s.egress parts
-  pub histories : named_histories s.histories.items ≡ named_parts parts
+  pub logs : named_logs s.logs.items ≡ named_parts parts

@@ -7,7 +7,7 @@
 //! How far a run comes is not promised.
 //!
 //! It stands on `plan_nodes` for the nodes of a plan, on `linked_run`, which links nodes and turns them on a `claim_board`, on
-//! `run_node` for a node with its links, and on `flux_link` for rings.
+//! `run_node` for a node with its links, on `event_log` for their histories, and on `flux_link` for rings.
 #![tactic(auto)]
 
 mod lossy_rings;
@@ -20,7 +20,7 @@ mod sorting;
 
 pub use linked_run::{FreeGate, Gate};
 pub use lossy_rings::LossyRings;
-pub use ran::Ran;
+pub use ran::{Left, Ran};
 pub use rings::Rings;
 pub use run_node::{Links, NoTap, RunNames, Tap};
-pub use runs::{Tapped, ready_tapped, run_nodes, run_over, run_tapped};
+pub use runs::{Tapped, ready_tapped, run_logged, run_nodes, run_over, run_tapped};

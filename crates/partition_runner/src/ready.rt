@@ -1,4 +1,5 @@
 // A run that is ready: its nodes on the board, and room for what it leaves.
+ghost use Rattle.pair_machine.specs.Lists.{Each};
 ghost use Rattle.plan_nodes.specs.NodeOrder.{nodes_of};
 ghost use Rattle.linked_run.specs.Runs.{IsRun, TapOfSome, parts_in};
 ghost use Rattle.partition_runner.specs.Sorted.{AreSorted};
@@ -121,6 +122,7 @@ pub(crate) fn run_ready<N: RunNames, M: Links, T: Tap + Send, R: Threads + Sync,
     requires script { script.now ≡ N.script }
     ensures run { IsRun id_of StandsFor N.plan N.inputs N.script (nodes_of N.plan) (parts_in result.parts.items) }
     ensures tap { TapOfSome T.given rows_of (Some result.tap) (parts_in result.parts.items) }
+    ensures named { Each (λ p. p.history.node ≡ id_of p.state) result.parts.items }
     ensures room { AreSorted [] result.room }
 {
     // This call's clause says that a plan is within the limits.

@@ -1,15 +1,15 @@
 // Runs: over rings, over any links, and with a tap beside egress.
 ghost use mathlib.Core.List.{IsPrefix};
 ghost use Rattle.pair_machine.specs.Output.{output};
-ghost use Rattle.partition_runner.specs.Ran.{IsLegalRun};
+ghost use Rattle.partition_runner.specs.Ran.{IsLegalLeft, IsLegalRun};
 ghost use Rattle.std.specs.Prelude.{◌≡◌, ◌≤◌, [], IfOk, MatchResult};
 ghost use Rattle.trade_text.specs.TradesView.{inputs_in};
 ghost use Rattle.tuple_edge.specs.Limits.{max_threads};
 
-use crate::ran::Ran;
+use crate::ran::{Left, Ran};
 use crate::ready::{Ended, Ready, make_ready, run_ready};
 use crate::rings::Rings;
-use crate::sorting::ran_of;
+use crate::sorting::left_of;
 use failure_script::Script;
 use linked_run::Gate;
 use plan_reader::Plan;
@@ -58,11 +58,11 @@ fn run_named<N: RunNames, M: Links, T: Tap + Send, R: Threads + Sync, G: Gate>(
     gate: &G,
     links: &mut M,
     ready: Ready<N, M, T>,
-) -> (Result<Ran, OutOfMemory>, T)
+) -> (Result<Left, OutOfMemory>, T)
     requires plan { plan.now ≡ N.plan }
     requires script { script.now ≡ N.script }
-    ensures run { IfOk result.0 (IsLegalRun N.plan N.inputs N.script) }
-    ensures tap { MatchResult result.0 (λ ran. IsPrefix (T.given result.1) ran.egress.emitted) (λ _. IsPrefix (T.given result.1) (output N.plan N.inputs)) }
+    ensures run { IfOk result.0 (IsLegalLeft N.plan N.inputs N.script) }
+    ensures tap { MatchResult result.0 (λ left. IsPrefix (T.given result.1) left.egress.emitted) (λ _. IsPrefix (T.given result.1) (output N.plan N.inputs)) }
 {
     let Ended {
         parts,
@@ -73,8 +73,8 @@ fn run_named<N: RunNames, M: Links, T: Tap + Send, R: Threads + Sync, G: Gate>(
     if failed {
         return (Err(OutOfMemory), tap);
     }
-    let ran = ran_of::<N>(room, parts);
-    (ran, tap)
+    let left = left_of::<N>(room, parts);
+    (left, tap)
 }
 
 /// Runs what is ready: each worker takes the nodes in turn, until each has done its turns, or egress is done,
@@ -92,12 +92,12 @@ pub fn run_tapped<R: Threads + Sync, G: Gate, N: RunNames, T: Tap + Send>(
     turns: u64,
     gate: &G,
     ready: Tapped<N, T>,
-) -> (Result<Ran, OutOfMemory>, T)
+) -> (Result<Left, OutOfMemory>, T)
     requires plan { plan.now ≡ N.plan }
     requires trades { inputs_in trades.now ≡ N.inputs }
     requires script { script.now ≡ N.script }
-    ensures run { IfOk result.0 (IsLegalRun plan.now (inputs_in trades.now) script.now) }
-    ensures tap { MatchResult result.0 (λ ran. IsPrefix (T.given result.1) ran.egress.emitted) (λ _. IsPrefix (T.given result.1) (output plan.now (inputs_in trades.now))) }
+    ensures run { IfOk result.0 (IsLegalLeft plan.now (inputs_in trades.now) script.now) }
+    ensures tap { MatchResult result.0 (λ left. IsPrefix (T.given result.1) left.egress.emitted) (λ _. IsPrefix (T.given result.1) (output plan.now (inputs_in trades.now))) }
 {
     // The trades are those of the names that it was made ready under.
     let _rows = trades.rows();
@@ -116,16 +116,16 @@ fn run_with<N: RunNames, R: Threads + Sync, M: Links, G: Gate>(
     turns: u64,
     links: &mut M,
     gate: &G,
-) -> Result<Ran, OutOfMemory>
+) -> Result<Left, OutOfMemory>
     requires plan { plan.now ≡ N.plan }
     requires trades { inputs_in trades.now ≡ N.inputs }
     requires script { script.now ≡ N.script }
     requires some { 1 ≤ threads }
-    ensures { IfOk result (IsLegalRun plan.now (inputs_in trades.now) script.now) }
+    ensures { IfOk result (IsLegalLeft plan.now (inputs_in trades.now) script.now) }
 {
     let ready: Ready<N, M, NoTap> = make_ready(alloc, plan, trades, threads, links, NoTap)?;
-    let (ran, _tap) = run_named(rt, plan, script, turns, gate, links, ready);
-    ran
+    let (left, _tap) = run_named(rt, plan, script, turns, gate, links, ready);
+    left
 }
 
 /// Runs a plan over its trades by so many workers, each for so many turns, over any links.
@@ -148,10 +148,33 @@ pub fn run_over<R: Threads + Sync, M: Links, G: Gate>(
     requires few { threads ≤ max_threads }
     ensures { IfOk result (IsLegalRun plan.now (inputs_in trades.now) script.now) }
 {
-    run_with::<Brand, R, M, G>(rt, alloc, plan, trades, script, threads, turns, links, gate)
+    let left = run_with::<Brand, R, M, G>(
+        rt, alloc, plan, trades, script, threads, turns, links, gate,
+    )?;
+    left.told(alloc)
 }
 
-/// The same over rings.
+/// The same over rings, with the histories as logs.
+pub fn run_logged<R: Threads + Sync, G: Gate>(
+    rt: &R,
+    alloc: Global,
+    plan: &Plan,
+    trades: &Trades,
+    script: &Script,
+    threads: u32,
+    turns: u64,
+    gate: &G,
+) -> Result<Left, OutOfMemory>
+    requires some { 1 ≤ threads }
+    requires few { threads ≤ max_threads }
+    ensures { IfOk result (IsLegalLeft plan.now (inputs_in trades.now) script.now) }
+{
+    run_with::<Brand, R, Rings, G>(
+        rt, alloc, plan, trades, script, threads, turns, &mut Rings, gate,
+    )
+}
+
+/// A run over rings, with the histories as lists.
 pub fn run_nodes<R: Threads + Sync, G: Gate>(
     rt: &R,
     alloc: Global,

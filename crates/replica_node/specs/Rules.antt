@@ -191,7 +191,7 @@ pub record IsWorkOf (old new : ReplicaView) (sent : List (NodeId × Body)) (did 
 
 -- ---- work that leaves marks for later
 
--- no mark rose by so much since it was told, or by anything at all
+-- every mark rose, since it was told, by less than `rise`, and not at all where `rise` is 0
 abbrev pub NoneRose : ℕ → ConsumerView → Type 0
 NoneRose rise c = (q : ℕ) → q < length c.merge.marks → mark_of c.merge q < told_of c q + max rise 1
 

@@ -12,7 +12,6 @@ use command_course::Feed;
 use command_line::RunOptions;
 use drained_run::{Ended, Gate, run_and_drain};
 use failure_script::Script;
-use run_journal::write_events;
 use std::alloc::Global;
 use std::thread::Threads;
 use trade_maker::write_summary;
@@ -48,11 +47,8 @@ fn journal_of<'a>(
     let Some(name) = name else {
         return Ok(None);
     };
-    let events = ended.events(alloc)?;
-    match write_events(alloc, &events) {
-        Ok(bytes) => Ok(Some(Journal { name, bytes })),
-        Err(_) => Err(OutOfMemory),
-    }
+    let bytes = ended.journal(alloc)?;
+    Ok(Some(Journal { name, bytes }))
 }
 
 /// Runs a plan for what it is fed with, drains it, and makes the texts of its end.

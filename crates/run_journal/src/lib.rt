@@ -28,4 +28,4 @@ pub use listing::{EventForm, Repeated, once, read_listing};
 pub use name_text::{letter_of, push_member, push_node};
 pub use read::read_events;
 pub use words::{index, times};
-pub use write::{canonical_text_reads_back, write_events};
+pub use write::{begin_events, canonical_text_reads_back, push_event, write_events};

@@ -46,8 +46,8 @@ fn push_pull(text: &mut String, from: NodeId, to: NodeId) -> Result<(), OutOfMem
     Ok(())
 }
 
-// Appends the line of an event.
-fn push_event(text: &mut String, event: Event) -> Result<(), OutOfMemory>
+/// Appends the line of an event.
+pub fn push_event(text: &mut String, event: Event) -> Result<(), OutOfMemory>
     ensures { OnOk result (string_bytes text.new ≡ string_bytes text.old ++ line_text (event_words event)) }
 {
     match event {
@@ -74,13 +74,22 @@ fn push_events(text: &mut String, events: &[Event]) -> Result<(), OutOfMemory>
     Ok(())
 }
 
+/// The beginning of a text of events, before the line of the first one.
+#[tactic(auto, unfolding(crate::specs::Text::events_text))]
+pub fn begin_events(alloc: Global) -> Result<String, OutOfMemory>
+    ensures { IfOk result (λ text. string_bytes text ≡ events_text []) }
+{
+    let mut text = String::new(alloc);
+    text.push_str("events 1\n")?;
+    Ok(text)
+}
+
 // The canonical text of events.
 #[tactic(auto, unfolding(crate::specs::Text::events_text))]
 fn text_of(alloc: Global, events: &[Event]) -> Result<String, OutOfMemory>
     ensures { IfOk result (λ text. string_bytes text ≡ events_text events.now) }
 {
-    let mut text = String::new(alloc);
-    text.push_str("events 1\n")?;
+    let mut text = begin_events(alloc)?;
     push_events(&mut text, events)?;
     Ok(text)
 }

@@ -7,8 +7,8 @@
 //! sender of one of its in-links in the other, `settle` shows that what the node took there was sent to it.
 //!
 //! What a node is and does of itself is left to [`Acts`]: no crate of the nodes stands below this one. It stands on
-//! `flux_link` for the ends of links, on `failure_script` for orders, and on the laws of `pair_machine` for histories. Of
-//! `claim_board` it takes only that a node has a name there.
+//! `flux_link` for the ends of links, on `event_log`, which keeps its history, on `failure_script` for orders, and on the laws
+//! of `pair_machine` for histories. Of `claim_board` it takes only that a node has a name there.
 #![tactic(auto)]
 
 mod acts;

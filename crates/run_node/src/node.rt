@@ -16,7 +16,7 @@ ghost use Rattle.run_node.specs.NodeView.{name_of};
 ghost use Rattle.run_node.specs.SoundNode.{IsTrueView, TapFits};
 ghost use Rattle.run_node.specs.Tasks.{CameFor, event_of};
 ghost use Rattle.tuple_edge.specs.Limits.{most_packets};
-ghost use Rattle.std.specs.Prelude.{◌≡◌, ◌≢◌, ◌≤◌, ◌+◌, [], true, IfSome, IsTrue, None, Ok, OnOk, Some, vec_capacity, vec_len};
+ghost use Rattle.std.specs.Prelude.{◌≡◌, ◌≢◌, ◌≤◌, ◌+◌, ◌++◌, ◌∷◌, [], true, IfSome, IsTrue, None, Ok, OnOk, Some};
 ghost use Rattle.tuple_edge.specs.declared.node.NodeId.{NodeId};
 
 use crate::acts::{Acts, Task};
@@ -31,6 +31,7 @@ use crate::part::Part;
 use crate::receiving::receive;
 use crate::round::Round;
 use crate::tap::Tap;
+use event_log::Log;
 use flux_link::Outlet;
 use plan_reader::Plan;
 use std::alloc::Global;
@@ -46,14 +47,15 @@ const MOST_RISE: u64 = 32;
 
 // Makes room for what one event adds: an entry of the history, and the packets that it sends.
 fn reserve_event<O: Outlet + Drop>(
-    history: &mut Vec<Stamped>,
+    history: &mut Log,
     outs: &mut Outs<O>,
     outbox: &mut Outbox,
 ) -> Result<(), OutOfMemory>
-    ensures history { history.new.items ≡ history.old.items }
+    ensures history { history.new.entries ≡ history.old.entries }
+    ensures node { history.new.node ≡ history.old.node }
     ensures links { outs.new.links ≡ outs.old.links }
     ensures packets { outbox.new.packets ≡ outbox.old.packets }
-    ensures entry { OnOk result (vec_len history.new + 1 ≤ vec_capacity history.new) }
+    ensures entry { OnOk result (1 ≤ history.new.spare) }
     ensures room { OnOk result (most_packets ≤ outs.new.room) }
     ensures spare { OnOk result (most_packets ≤ outbox.new.spare) }
 {
@@ -61,6 +63,22 @@ fn reserve_event<O: Outlet + Drop>(
     outs.reserve(MOST_PACKETS)?;
     outbox.reserve(MOST_PACKETS)?;
     Ok(())
+}
+
+// Appends the event that a task is at the node whose history it is.
+fn note(history: &mut Log, task: &Task, clock: u64)
+    requires { 1 ≤ history.old.spare }
+    ensures node { history.new.node ≡ history.old.node }
+    ensures entries { history.new.entries ≡ history.old.entries ++ record { clock = clock; event = event_of history.old.node task.now } ∷ [] }
+{
+    match *task {
+        Task::Take { from, index, .. } => history.take(from, index, clock),
+        Task::Work => history.work(clock),
+        Task::Make | Task::Kill | Task::AskStop | Task::AskBack => {
+            let event = task.event_at(history.node());
+            history.push_reserved(Stamped { clock, event });
+        },
+    }
 }
 
 /// A node with its links, the arrival that it keeps, its clock and its history.
@@ -73,7 +91,7 @@ pub struct Node<N: RunNames, A: Acts, M: Links, T: Tap> {
     // Empty between events.
     outbox: Outbox,
     clock: u64,
-    pub(crate) history: Vec<Stamped>,
+    pub(crate) history: Log,
     // What the orders of the script have made it do.
     pub(crate) fired: Fired,
     // Which in-links this turn is still to look at.
@@ -96,12 +114,13 @@ impl<N: RunNames, A: Acts, M: Links, T: Tap> Model for Node<N, A, M, T> {
       ins = n.ins.items;
       outs = n.outs.links;
       kept = n.kept;
-      history = n.history.items;
+      history = n.history.entries;
       tap = n.tap;
     } };
 
     ghost invariant = { λ n. (n.outbox.packets ≡ []) × TapFits T.given A.rows n.tap n.state
-        × IsSoundNode A.id A.of_plan A.stands N.plan N.inputs N.script n.state n.ins.items n.outs.links n.kept n.clock n.fired n.history.items };
+        × IsSoundNode A.id A.of_plan A.stands N.plan N.inputs N.script n.state n.ins.items n.outs.links n.kept n.clock n.fired n.history.entries
+        × (n.history.node ≡ A.id n.state) };
 }
 
 impl<N: RunNames, A: Acts, M: Links, T: Tap> Node<N, A, M, T> {
@@ -123,6 +142,7 @@ impl<N: RunNames, A: Acts, M: Links, T: Tap> Node<N, A, M, T> {
         requires tap { TapFits T.given A.rows tap state }
         ensures { result ≡ record { state = state; ins = ins.items; outs = links_of outs.items; kept = None; history = []; tap = tap } }
     {
+        let history = Log::new(alloc, state.id());
         Node {
             state,
             ins,
@@ -130,7 +150,7 @@ impl<N: RunNames, A: Acts, M: Links, T: Tap> Node<N, A, M, T> {
             kept: None,
             outbox: Outbox::new(alloc),
             clock: 0,
-            history: Vec::new(alloc),
+            history,
             fired: Fired::nothing(),
             round: Round::none(),
             rise: 1,
@@ -141,7 +161,8 @@ impl<N: RunNames, A: Acts, M: Links, T: Tap> Node<N, A, M, T> {
 
     /// What is left of it: its own part and its history, which is a true course, and its tap.
     pub fn into_part(self) -> (Part<A>, Option<T>)
-        ensures part { (result.0.state ≡ self.state) × (result.0.history.items ≡ self.history) }
+        ensures part { (result.0.state ≡ self.state) × (result.0.history.entries ≡ self.history) }
+        ensures node { result.0.history.node ≡ A.id self.state }
         ensures tap { (result.1 ≡ self.tap) × TapFits T.given A.rows result.1 result.0.state }
         ensures course { IsTrueView A.id A.stands N.plan N.inputs N.script self }
         ensures rising { AreRising self.history }
@@ -177,17 +198,13 @@ impl<N: RunNames, A: Acts, M: Links, T: Tap> Node<N, A, M, T> {
             return Ok(false);
         }
         reserve_event(&mut self.history, &mut self.outs, &mut self.outbox)?;
-        let event = task.event_at(self.state.id());
         match self.state.act(task, self.rise, &mut self.outbox)? {
             Worked::Idle => return Ok(false),
             Worked::Did => {}
         }
         self.clock = clock + 1;
         self.fired = self.fired.after(task);
-        self.history.push_reserved(Stamped {
-            clock: self.clock,
-            event,
-        });
+        note(&mut self.history, task, self.clock);
         self.outs.send_all(&self.outbox, self.clock);
         self.outbox.clear();
         self.outs.flush();

@@ -3,6 +3,7 @@ ghost use Rattle.std.specs.Prelude.{◌≡◌, true};
 
 use crate::again::TIMES;
 use core_drain::{Drained, drain};
+use event_log::EventBlocks;
 use flux_core::{ApplyError, Core};
 use plan_reader::Plan;
 use state_text::write_state;
@@ -45,7 +46,7 @@ impl Story {
 
     /// Drains the core, and lists the events behind those that are there. After want of memory the core stands after the
     /// events that were listed.
-    pub(crate) fn drain(&mut self, events: &mut Vec<Event>) -> Result<Drained, OutOfMemory> {
+    pub(crate) fn drain(&mut self, events: &mut EventBlocks) -> Result<Drained, OutOfMemory> {
         drain(&mut self.core, events)
     }
 

@@ -7,12 +7,13 @@ use crate::inputs::Inputs;
 use crate::story::Story;
 use core_drain::Drained;
 use evaluation::evaluate;
+use event_log::EventBlocks;
 use flux_core::ApplyError;
 use run_journal::{Lined, write_events};
 use std::alloc::Global;
 use std::io::Write;
 use trade_text::write_output;
-use tuple_edge::{Event, Row};
+use tuple_edge::{Event, OutOfMemory, Row};
 
 /// Writes a text as it is.
 pub(crate) fn put(rt: &HostRuntime, text: &[u8]) -> Result<(), Fault> {
@@ -51,13 +52,29 @@ struct Ending {
     events: usize,
 }
 
+// One make, as a list of events.
+fn one_make(alloc: Global) -> Result<EventBlocks, OutOfMemory> {
+    let mut events = EventBlocks::new(alloc);
+    events.reserve(1)?;
+    events.push_reserved(Event::Make);
+    Ok(events)
+}
+
+// All events of a list, one by one.
+fn each_of(alloc: Global, events: &EventBlocks) -> Result<Vec<Event>, OutOfMemory> {
+    let mut all = Vec::new(alloc);
+    events.append_to(&mut all)?;
+    Ok(all)
+}
+
 // Drains a core once.
-fn drained(story: &mut Story, events: &mut Vec<Event>) -> Result<Ending, Fault> {
-    let listed = events.len();
+fn drained(alloc: Global, story: &mut Story, events: &mut EventBlocks) -> Result<Ending, Fault> {
+    let listed = again(|| each_of(alloc, events))?.len();
     let drained = again(|| story.drain(events))?;
+    let all = again(|| each_of(alloc, events))?.len();
     Ok(Ending {
         drained,
-        events: events.len().saturating_sub(listed),
+        events: all.saturating_sub(listed),
     })
 }
 
@@ -73,13 +90,13 @@ fn tell_end(
     alloc: Global,
     story: &mut Story,
     inputs: &Inputs,
-    events: &mut Vec<Event>,
+    events: &mut EventBlocks,
 ) -> Result<(), Fault> {
     let before = again(|| story.state(alloc, &inputs.trades))?;
     let Ending {
         drained,
         events: count,
-    } = drained(story, events)?;
+    } = drained(alloc, story, events)?;
     let state = if has_state(alloc, story, inputs, &before)? {
         "stays"
     } else {
@@ -96,10 +113,10 @@ fn drained_twice(
     story: &mut Story,
     inputs: &Inputs,
 ) -> Result<Vec<Event>, Fault> {
-    let mut events = again(|| Vec::from_slice(alloc, &[Event::Make]))?;
+    let mut events = again(|| one_make(alloc))?;
     tell_end(rt, alloc, story, inputs, &mut events)?;
     tell_end(rt, alloc, story, inputs, &mut events)?;
-    Ok(events)
+    Ok(again(|| each_of(alloc, &events))?)
 }
 
 // The rows that the plan gives for the trades.

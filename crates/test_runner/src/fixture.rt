@@ -105,6 +105,13 @@ pub(crate) fn is_legal(
     Ok(steps.follows(&outcome.events) && agrees(&steps.core, &outcome.ran))
 }
 
+// The core to which these events lead from the opening on, as far as they are steps.
+pub(crate) fn led_by(alloc: Global, story: &Story, events: &[Event]) -> Result<Core, OutOfMemory> {
+    let mut steps = opened(alloc, story)?;
+    let _all = steps.follows(events);
+    Ok(steps.core)
+}
+
 // Whether these events are steps from the opening on, and lead to all rows of the output.
 pub(crate) fn leads_to_all(
     alloc: Global,

@@ -3,11 +3,11 @@ ghost use Rattle.partition_runner.specs.Ran.{IsLegalRun};
 ghost use Rattle.std.specs.Prelude.{IfOk};
 ghost use Rattle.trade_text.specs.TradesView.{inputs_in};
 
-use crate::fixture::{Outcome, emits_a_front, is_legal, leads_to_all, run};
+use crate::fixture::{Outcome, emits_a_front, is_legal, leads_to_all, led_by, run};
 use core_drain::{Drained, drain};
-use flux_core::Core;
+use event_log::EventBlocks;
 use flux_link::Choice;
-use partition_runner::{FreeGate, LossyRings, Ran};
+use partition_runner::{FreeGate, LossyRings};
 use run_journal::merge;
 use std::alloc::Global;
 use std::process::Abort;
@@ -60,7 +60,8 @@ fn run_treated<R: Threads + Sync + Abort>(
     Ok(outcome)
 }
 
-// The drain of what the threads left: it is whole, with all rows of the output, and so are the events of both.
+// The drain from where a run's events lead, which is where the threads left the nodes: it is whole, with all rows of the
+// output, and so are the events of both.
 fn drains<R: Abort>(
     rt: &R,
     alloc: Global,
@@ -69,19 +70,12 @@ fn drains<R: Abort>(
 ) -> Result<(), OutOfMemory>
     requires { IsLegalRun story.now.plan (inputs_in story.now.trades) story.now.script outcome.ran }
 {
-    let _stages = story.plan.stages();
-    let Outcome { ran, events } = outcome;
-    let Ran {
-        ingress,
-        replicas,
-        controls,
-        egress,
-        histories,
-    } = ran;
-    let mut merged = merge(alloc, &histories)?;
-    assert!(rt; merged == events);
-    let mut core = Core::of(alloc, &story.plan, ingress, replicas, controls, egress)?;
-    let drained = drain(&mut core, &mut merged)?;
+    let mut merged = merge(alloc, &outcome.ran.histories)?;
+    assert!(rt; merged == outcome.events);
+    let mut core = led_by(alloc, story, &merged)?;
+    let mut drain_events = EventBlocks::new(alloc);
+    let drained = drain(&mut core, &mut drain_events)?;
+    drain_events.append_to(&mut merged)?;
     assert_eq!(rt; drained, Drained::Whole);
     assert!(rt; core.emitted() == story.output.as_slice());
     let whole = leads_to_all(alloc, story, &merged)?;

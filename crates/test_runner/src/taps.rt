@@ -2,7 +2,7 @@
 ghost use Rattle.std.specs.Prelude.{◌≡◌};
 ghost use Rattle.trade_text.specs.TradesView.{inputs_in};
 
-use partition_runner::{FreeGate, Ran, RunNames, Tap, ready_tapped, run_tapped};
+use partition_runner::{FreeGate, Left, RunNames, Tap, ready_tapped, run_tapped};
 use std::alloc::Global;
 use std::marker::Brand;
 use std::test::Fail;
@@ -33,7 +33,7 @@ fn run_named<N: RunNames, R: Threads + Sync>(
     alloc: Global,
     story: &Story,
     threads: u32,
-) -> Result<(Ran, Keeps), OutOfMemory>
+) -> Result<(Left, Keeps), OutOfMemory>
     requires plan { story.now.plan ≡ N.plan }
     requires trades { inputs_in story.now.trades ≡ N.inputs }
     requires script { story.now.script ≡ N.script }
@@ -56,7 +56,7 @@ fn run_kept<R: Threads + Sync>(
     alloc: Global,
     story: &Story,
     threads: u32,
-) -> Result<(Ran, Keeps), OutOfMemory> {
+) -> Result<(Left, Keeps), OutOfMemory> {
     run_named::<Brand, R>(rt, alloc, story, threads)
 }
 

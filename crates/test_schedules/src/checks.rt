@@ -8,6 +8,7 @@ use crate::nodes::{
 };
 use crate::story::Story;
 use core_drain::{Drained, drain};
+use event_log::EventBlocks;
 use flux_core::Core;
 use std::alloc::Global;
 use test_kit::{Fault, SmallRun, Verdict};
@@ -55,6 +56,13 @@ fn pair_holds(core: &Core) -> bool {
     acked <= mark_of(consumer) && kept
 }
 
+// Whether a drain did nothing.
+fn is_empty(alloc: Global, events: &EventBlocks) -> Result<bool, OutOfMemory> {
+    let mut all = Vec::new(alloc);
+    events.append_to(&mut all)?;
+    Ok(all.is_empty())
+}
+
 // A drain where egress has more to merge and nobody is left.
 fn verdict_of_lost(
     alloc: Global,
@@ -62,10 +70,10 @@ fn verdict_of_lost(
     mut story: Story,
 ) -> Result<Verdict, OutOfMemory> {
     let before = story.state(alloc, run)?;
-    let mut events = Vec::new(alloc);
+    let mut events = EventBlocks::new(alloc);
     let (stage, part) = (1, 0);
     let named = drain(&mut story.core, &mut events)? == Drained::Lost { stage, part };
-    if named && events.is_empty() && story.state(alloc, run)? == before {
+    if named && is_empty(alloc, &events)? && story.state(alloc, run)? == before {
         return Ok(Verdict::Lost);
     }
     Ok(Verdict::Differs(Fault::Drain))
@@ -78,10 +86,10 @@ fn verdict_of_whole(
     mut story: Story,
 ) -> Result<Verdict, OutOfMemory> {
     let was_done = story.core.egress().done();
-    let mut events = Vec::new(alloc);
+    let mut events = EventBlocks::new(alloc);
     let whole = drain(&mut story.core, &mut events)? == Drained::Whole;
     let all = story.core.emitted() == run.rows.as_slice();
-    if whole && all && story.core.egress().done() && events.is_empty() == was_done {
+    if whole && all && story.core.egress().done() && is_empty(alloc, &events)? == was_done {
         return Ok(Verdict::Whole);
     }
     Ok(Verdict::Differs(Fault::Drain))

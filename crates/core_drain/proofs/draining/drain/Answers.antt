@@ -6,7 +6,7 @@ use Rattle.core_drain.proofs.Whole.{cut_short, lost_so, whole_after, whole_alrea
 use Rattle.core_drain.proofs.draining.drain.Goals as goal
 
 pub returns-then-done-clause-drained : goal.returns-then-done-clause-drained
-returns-then-done-clause-drained c = whole_already c.args.core.now c.known.ensures c.args.events.now.items c.egress.result.now c.egress.ensures c.done.result c.done.ensures.whole c.if-done.true c.done.ensures.output
+returns-then-done-clause-drained c = whole_already c.args.core.now c.known.ensures c.args.events.now.events c.egress.result.now c.egress.ensures c.done.result c.done.ensures.whole c.if-done.true c.done.ensures.output
 
 pub returns-then-done-clause-emitted : goal.returns-then-done-clause-emitted
 returns-then-done-clause-emitted c = emitted_front c.args.core.now c.known.ensures
@@ -18,7 +18,7 @@ pub returns-then-done-clause-owed : goal.returns-then-done-clause-owed
 returns-then-done-clause-owed c = holds_what_is_owed c.args.core.now c.known.ensures
 
 pub returns-in-Some-clause-drained : goal.returns-in-Some-clause-drained
-returns-in-Some-clause-drained c = lost_so c.args.core.now c.known.ensures c.args.events.now.items c.egress.result.now c.egress.ensures c.done.result c.done.ensures.whole c.if-done.false (partition c.in-Some.stage c.in-Some.part) c.in-Some.ensures
+returns-in-Some-clause-drained c = lost_so c.args.core.now c.known.ensures c.args.events.now.events c.egress.result.now c.egress.ensures c.done.result c.done.ensures.whole c.if-done.false (partition c.in-Some.stage c.in-Some.part) c.in-Some.ensures
 
 pub returns-in-Some-clause-emitted : goal.returns-in-Some-clause-emitted
 returns-in-Some-clause-emitted c = emitted_front c.args.core.now c.known.ensures
@@ -31,7 +31,7 @@ returns-in-Some-clause-owed c = holds_what_is_owed c.args.core.now c.known.ensur
 
 pub returns-in_err-drain_all-clause-cut_short : goal.returns-in_err-drain_all-clause-cut_short
 returns-in_err-drain_all-clause-cut_short c = on_err c.from_residual.result
-    (cut_short c.args.core.now c.known.ensures c.args.events.now.items c.egress.result.now c.egress.ensures c.done.result c.done.ensures.whole c.if-done.false c.in_default.ensures c.drain_all.new.core c.drain_all.new.events.items c.in_err-drain_all.ensures.within)
+    (cut_short c.args.core.now c.known.ensures c.args.events.now.events c.egress.result.now c.egress.ensures c.done.result c.done.ensures.whole c.if-done.false c.in_default.ensures c.drain_all.new.core c.drain_all.new.events.events c.in_err-drain_all.ensures.within)
 
 pub returns-in_err-drain_all-clause-emitted : goal.returns-in_err-drain_all-clause-emitted
 returns-in_err-drain_all-clause-emitted c = emitted_front c.drain_all.new.core c.drain_all.ensures.keeps.core
@@ -43,7 +43,7 @@ pub returns-in_err-drain_all-clause-owed : goal.returns-in_err-drain_all-clause-
 returns-in_err-drain_all-clause-owed c = holds_what_is_owed c.drain_all.new.core c.drain_all.ensures.keeps.core
 
 pub returns-clause-drained : goal.returns-clause-drained
-returns-clause-drained c = whole_after c.args.core.now c.known.ensures c.args.events.now.items c.egress.result.now c.egress.ensures c.done.result c.done.ensures.whole c.if-done.false c.in_default.ensures c.drain_all.new.core c.drain_all.new.events.items c.in_ok-drain_all.ensures.done
+returns-clause-drained c = whole_after c.args.core.now c.known.ensures c.args.events.now.events c.egress.result.now c.egress.ensures c.done.result c.done.ensures.whole c.if-done.false c.in_default.ensures c.drain_all.new.core c.drain_all.new.events.events c.in_ok-drain_all.ensures.done
 
 pub returns-clause-emitted : goal.returns-clause-emitted
 returns-clause-emitted c = emitted_front c.drain_all.new.core c.drain_all.ensures.keeps.core

@@ -4,7 +4,7 @@ use Rattle.core_drain.proofs.Trying.{keeps_by, next_applied, none_refused, none_
 use Rattle.core_drain.proofs.next.apply_next.Goals as goal
 
 pub returns-then-not-drains-clause-tried : goal.returns-then-not-drains-clause-tried
-returns-then-not-drains-clause-tried c = none_undrained c.args.core.now c.args.events.now.items c.args.event c.drains.result c.drains.ensures c.if-not-drains.true
+returns-then-not-drains-clause-tried c = none_undrained c.args.core.now c.args.events.now.events c.args.event c.drains.result c.drains.ensures c.if-not-drains.true
 
 pub returns-then-not-drains-clause-keeps : goal.returns-then-not-drains-clause-keeps
 returns-then-not-drains-clause-keeps c = keeps_none c.args.core.now c.known.ensures
@@ -16,19 +16,19 @@ pub apply-requires-clause-may : goal.apply-requires-clause-may
 apply-requires-clause-may c = inr (inl c.requires.free)
 
 pub returns-in-Ok-clause-tried : goal.returns-in-Ok-clause-tried
-returns-in-Ok-clause-tried c = next_applied c.args.core.now c.apply.new.self c.args.events.now.items c.push_reserved.new.self.items c.args.event c.drains.result c.requires.free c.drains.ensures c.if-not-drains.false c.in-Ok.ensures.applied (c.push_reserved.ensures.items ∙ ap (λ es. es ++ c.args.event ∷ []) c.reserve.ensures.items)
+returns-in-Ok-clause-tried c = next_applied c.args.core.now c.apply.new.self c.args.events.now.events c.push_reserved.new.self.events c.args.event c.drains.result c.requires.free c.drains.ensures c.if-not-drains.false c.in-Ok.ensures.applied (c.push_reserved.ensures.events ∙ ap (λ es. es ++ c.args.event ∷ []) c.reserve.ensures.events)
 
 pub returns-in-Ok-clause-keeps : goal.returns-in-Ok-clause-keeps
 returns-in-Ok-clause-keeps c = keeps_by c.args.core.now c.apply.new.self c.apply.ensures.plan c.apply.ensures.inputs c.apply.ensures.whole c.apply.ensures.core
 
 pub returns-in_err-refusal-in-Err-clause-unchanged : goal.returns-in_err-refusal-in-Err-clause-unchanged
-returns-in_err-refusal-in-Err-clause-unchanged c = on_err c.from_residual-in_err-refusal-in-Err.result (c.in-Err.ensures.unchanged, c.reserve.ensures.items)
+returns-in_err-refusal-in-Err-clause-unchanged c = on_err c.from_residual-in_err-refusal-in-Err.result (c.in-Err.ensures.unchanged, c.reserve.ensures.events)
 
 pub returns-in_err-refusal-in-Err-clause-keeps : goal.returns-in_err-refusal-in-Err-clause-keeps
 returns-in_err-refusal-in-Err-clause-keeps c = keeps_by c.args.core.now c.apply.new.self c.apply.ensures.plan c.apply.ensures.inputs c.apply.ensures.whole c.apply.ensures.core
 
 pub returns-in_ok-refusal-in-Err-clause-tried : goal.returns-in_ok-refusal-in-Err-clause-tried
-returns-in_ok-refusal-in-Err-clause-tried c = none_refused c.args.core.now c.apply.new.self c.args.events.now.items c.reserve.new.self.items c.args.event c.in-Err.error c.in-Err.ensures.unchanged c.reserve.ensures.items
+returns-in_ok-refusal-in-Err-clause-tried c = none_refused c.args.core.now c.apply.new.self c.args.events.now.events c.reserve.new.self.events c.args.event c.in-Err.error c.in-Err.ensures.unchanged c.reserve.ensures.events
     c.in_ok-refusal-in-Err.ensures c.in-Err.ensures.refused
 
 pub returns-in_ok-refusal-in-Err-clause-keeps : goal.returns-in_ok-refusal-in-Err-clause-keeps

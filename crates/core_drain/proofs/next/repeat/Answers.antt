@@ -4,7 +4,7 @@ use Rattle.core_drain.proofs.next.repeat.Goals as goal
 pub loop-turn-init : goal.loop-turn-init
 loop-turn-init c = record {
   keeps = keeps_none c.args.core.now c.known.ensures;
-  left = λ b done n m a block. left_none b done c.args.event n c.args.core.now c.args.events.now.items a;
+  left = λ b done n m a block. left_none b done c.args.event n c.args.core.now c.args.events.now.events a;
 }
 
 pub apply_next-requires-clause-named : goal.apply_next-requires-clause-named
@@ -14,7 +14,7 @@ pub returns-in_err-apply_next-clause-within : goal.returns-in_err-apply_next-cla
 returns-in_err-apply_next-clause-within c = on_err c.from_residual.result (λ b done n m a block.
     (let l = c.loop-turn.invariant.left b done n m a block in
     let same = c.in_err-apply_next.ensures.unchanged in
-    within_same b c.loop-turn.core c.apply_next.new.core c.loop-turn.events.items c.apply_next.new.events.items same.0 same.1 (left_within b m done c.args.event n block c.loop-turn.core c.loop-turn.events.items l)))
+    within_same b c.loop-turn.core c.apply_next.new.core c.loop-turn.events.events c.apply_next.new.events.events same.0 same.1 (left_within b m done c.args.event n block c.loop-turn.core c.loop-turn.events.events l)))
 
 pub returns-in_err-apply_next-clause-keeps : goal.returns-in_err-apply_next-clause-keeps
 returns-in_err-apply_next-clause-keeps c = keeps_on c.args.core.now c.loop-turn.core c.apply_next.new.core c.loop-turn.invariant.keeps c.apply_next.ensures.keeps
@@ -22,8 +22,8 @@ returns-in_err-apply_next-clause-keeps c = keeps_on c.args.core.now c.loop-turn.
 pub returns-then-not-branch-clause-done : goal.returns-then-not-branch-clause-done
 returns-then-not-branch-clause-done c = λ b done n m a block.
     (let l = c.loop-turn.invariant.left b done n m a block in
-    let none = none_of c.loop-turn.core c.apply_next.new.core c.loop-turn.events.items c.apply_next.new.events.items c.args.event c.in_ok-apply_next.field-0 c.in_ok-apply_next.ensures.tried c.if-not-branch.true in
-    left_ends b m done c.args.event n block c.loop-turn.core c.loop-turn.events.items l c.apply_next.new.core c.apply_next.new.events.items none)
+    let none = none_of c.loop-turn.core c.apply_next.new.core c.loop-turn.events.events c.apply_next.new.events.events c.args.event c.in_ok-apply_next.field-0 c.in_ok-apply_next.ensures.tried c.if-not-branch.true in
+    left_ends b m done c.args.event n block c.loop-turn.core c.loop-turn.events.events l c.apply_next.new.core c.apply_next.new.events.events none)
 
 pub returns-then-not-branch-clause-keeps : goal.returns-then-not-branch-clause-keeps
 returns-then-not-branch-clause-keeps c = keeps_on c.args.core.now c.loop-turn.core c.apply_next.new.core c.loop-turn.invariant.keeps c.apply_next.ensures.keeps
@@ -33,13 +33,13 @@ loop-turn-preserved c = record {
   keeps = keeps_on c.args.core.now c.loop-turn.core c.apply_next.new.core c.loop-turn.invariant.keeps c.apply_next.ensures.keeps;
   left = λ b done n m a block.
       (let l = c.loop-turn.invariant.left b done n m a block in
-      let next = next_of c.loop-turn.core c.apply_next.new.core c.loop-turn.events.items c.apply_next.new.events.items c.args.event c.in_ok-apply_next.field-0 c.in_ok-apply_next.ensures.tried c.if-not-branch.false in
+      let next = next_of c.loop-turn.core c.apply_next.new.core c.loop-turn.events.events c.apply_next.new.events.events c.args.event c.in_ok-apply_next.field-0 c.in_ok-apply_next.ensures.tried c.if-not-branch.false in
       let there = there_at b m c.args.core.now a.plan c.args.event c.requires.named in
-      left_next b m done c.args.event n block c.loop-turn.core c.loop-turn.events.items l c.apply_next.new.core c.apply_next.new.events.items there c.apply_next.ensures.keeps next);
+      left_next b m done c.args.event n block c.loop-turn.core c.loop-turn.events.events l c.apply_next.new.core c.apply_next.new.events.events there c.apply_next.ensures.keeps next);
 }
 
 pub returns-clause-within : goal.returns-clause-within
-returns-clause-within c = λ b done n m a block. left_within b m done c.args.event n block c.loop-turn.core c.loop-turn.events.items (c.loop-turn.invariant.left b done n m a block)
+returns-clause-within c = λ b done n m a block. left_within b m done c.args.event n block c.loop-turn.core c.loop-turn.events.events (c.loop-turn.invariant.left b done n m a block)
 
 pub returns-clause-keeps : goal.returns-clause-keeps
 returns-clause-keeps c = c.loop-turn.invariant.keeps

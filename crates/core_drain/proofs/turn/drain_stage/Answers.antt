@@ -31,7 +31,7 @@ returns-clause-done c = λ b m a.
     (let x = c.loop-part.invariant.after b m a in
     let all : c.loop-part.part ≡ c.parts-parts.result = omega (arith, c.loop-part-test.false, c.loop-part.auto.part-end) in
     let count = all ∙ (c.parts-parts.ensures ∙ parts_at b c.args.core.now.plan a.plan c.args.stage) in
-    listed_on b c.loop-part.core c.loop-part.events.items (done_before b c.args.stage c.loop-part.part) (done_before b (c.args.stage + 1) 0) (stage_listed b c.args.stage c.loop-part.part c.requires.first count) x)
+    listed_on b c.loop-part.core c.loop-part.events.events (done_before b c.args.stage c.loop-part.part) (done_before b (c.args.stage + 1) 0) (stage_listed b c.args.stage c.loop-part.part c.requires.first count) x)
 
 pub returns-clause-keeps : goal.returns-clause-keeps
 returns-clause-keeps c = c.loop-part.invariant.keeps

@@ -29,7 +29,7 @@ loop-before-preserved c = record {
 pub returns-clause-done : goal.returns-clause-done
 returns-clause-done c = λ b m a.
     (let all : c.loop-before.before ≡ c.args.stages = omega (arith, c.loop-before-test.false, c.loop-before.auto.before-end) in
-    listed_on b c.loop-before.core c.loop-before.events.items (done_before b (c.loop-before.before + 1) 0) (done_before b (c.args.stages + 1) 0) (ap (λ n. done_before b (n + 1) 0) all) (c.loop-before.invariant.after b m a))
+    listed_on b c.loop-before.core c.loop-before.events.events (done_before b (c.loop-before.before + 1) 0) (done_before b (c.args.stages + 1) 0) (ap (λ n. done_before b (n + 1) 0) all) (c.loop-before.invariant.after b m a))
 
 pub returns-clause-keeps : goal.returns-clause-keeps
 returns-clause-keeps c = c.loop-before.invariant.keeps

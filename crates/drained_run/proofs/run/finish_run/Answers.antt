@@ -1,4 +1,6 @@
 -- What the threads left stands for a state from which the drain may begin, and the drain's end is the run's.
+use Rattle.std.proofs.Common.{ap}
+use Rattle.event_log.specs.Blocks.{BlocksView}
 use Rattle.trade_text.specs.TradesView.{inputs_in}
 use Rattle.drained_run.proofs.Ending.{given, run_ends}
 use Rattle.drained_run.proofs.Fronts.{goes_on, run_front}
@@ -6,26 +8,26 @@ use Rattle.drained_run.proofs.Joined.{mergeable}
 use Rattle.drained_run.proofs.run.finish_run.Goals as goal
 
 pub of-requires : goal.of-requires
-of-requires c = record { given = given c.args.plan.now (inputs_in c.args.trades.now) c.args.script.now c.args.ran c.stages-stages.ensures.limits c.requires }
+of-requires c = record { given = given c.args.plan.now (inputs_in c.args.trades.now) c.args.script.now c.args.left c.stages-stages.ensures.limits c.requires }
 
 pub returns-clause-ended : goal.returns-clause-ended
-returns-clause-ended c = run_ends c.args.plan.now (inputs_in c.args.trades.now) c.args.script.now c.args.ran c.stages-stages.ensures.limits c.requires
-    c.in_ok-core.core c.drain.new.core c.new-events.result.items c.drain.new.events.items c.in_ok-drained.drained
-    c.in_ok-core.ensures c.new-events.ensures.items c.drain.ensures.plan c.drain.ensures.inputs c.in_ok-drained.ensures.drained
+returns-clause-ended c = run_ends c.args.plan.now (inputs_in c.args.trades.now) c.args.script.now c.args.left c.stages-stages.ensures.limits c.requires
+    c.in_ok-core.core c.drain.new.core c.new-events.result.events c.drain.new.events.events c.in_ok-drained.drained
+    c.in_ok-core.ensures (ap (λ (b : BlocksView). b.events) c.new-events.ensures) c.drain.ensures.plan c.drain.ensures.inputs c.in_ok-drained.ensures.drained
 
 pub returns-clause-goes_on : goal.returns-clause-goes_on
-returns-clause-goes_on c = goes_on c.args.plan.now (inputs_in c.args.trades.now) c.args.script.now c.args.ran c.stages-stages.ensures.limits c.requires
-    c.in_ok-core.core c.drain.new.core c.new-events.result.items c.drain.new.events.items c.in_ok-drained.drained
-    c.in_ok-core.ensures c.new-events.ensures.items c.drain.ensures.plan c.drain.ensures.inputs c.in_ok-drained.ensures.drained
+returns-clause-goes_on c = goes_on c.args.plan.now (inputs_in c.args.trades.now) c.args.script.now c.args.left c.stages-stages.ensures.limits c.requires
+    c.in_ok-core.core c.drain.new.core c.new-events.result.events c.drain.new.events.events c.in_ok-drained.drained
+    c.in_ok-core.ensures (ap (λ (b : BlocksView). b.events) c.new-events.ensures) c.drain.ensures.plan c.drain.ensures.inputs c.in_ok-drained.ensures.drained
 
 pub returns-clause-front : goal.returns-clause-front
-returns-clause-front c = run_front c.args.plan.now (inputs_in c.args.trades.now) c.args.script.now c.args.ran c.requires
+returns-clause-front c = run_front c.args.plan.now (inputs_in c.args.trades.now) c.args.script.now c.args.left c.requires
 
 pub returns-in_err-core-clause-front : goal.returns-in_err-core-clause-front
-returns-in_err-core-clause-front c = run_front c.args.plan.now (inputs_in c.args.trades.now) c.args.script.now c.args.ran c.requires
+returns-in_err-core-clause-front c = run_front c.args.plan.now (inputs_in c.args.trades.now) c.args.script.now c.args.left c.requires
 
 pub returns-in_err-drained-clause-front : goal.returns-in_err-drained-clause-front
-returns-in_err-drained-clause-front c = run_front c.args.plan.now (inputs_in c.args.trades.now) c.args.script.now c.args.ran c.requires
+returns-in_err-drained-clause-front c = run_front c.args.plan.now (inputs_in c.args.trades.now) c.args.script.now c.args.left c.requires
 
 pub invariant_of-result : goal.invariant_of-result
-invariant_of-result c = mergeable c.args.plan.now (inputs_in c.args.trades.now) c.args.script.now c.args.ran c.requires
+invariant_of-result c = mergeable c.args.plan.now (inputs_in c.args.trades.now) c.args.script.now c.args.left c.requires

@@ -8,6 +8,7 @@ use Rattle.linked_run.specs.Linked.{ids_of}
 use Rattle.run_node.specs.NodeView.{name_of}
 use Rattle.linked_run.specs.Runs.{IsRun, any_tapped, parts_of}
 use Rattle.run_node.specs.SoundNode.{IsTrueView}
+use Rattle.run_node.specs.declared.part.Part.{Part}
 use Rattle.linked_run.proofs.Gathered.{empty_list, parts_more, run_of, some_more, tap_more}
 use Rattle.linked_run.proofs.Law.{apart_of, runs}
 use Rattle.linked_run.proofs.running.into_parts.Goals as goal
@@ -27,6 +28,8 @@ loop-node-preserved g c =
         parts = parts_more g.A.Acts.id c.loop-node.parts.items c.push_reserved.new.self.items c.into_part-part.result.0 c.loop-node.yielded c.in-Some.node c.push_reserved.ensures.items h.parts c.into_part-part.ensures.part.0 c.into_part-part.ensures.part.1;
         some = some_more g.A.Acts.id c.loop-node.yielded c.in-Some.node c.loop-node.tap c.into_part-part.result.1 c.or-tap.result c.or-tap.ensures c.into_part-part.ensures.tap.0 h.some;
         rising = each_more (λ v. AreRising v.history) c.loop-node.yielded c.in-Some.node h.rising c.into_part-part.ensures.rising;
+        named = subst (Each (λ (p : Part _). p.history.node ≡ g.A.Acts.id p.state)) (sym c.push_reserved.ensures.items)
+            (each_more (λ (p : Part _). p.history.node ≡ g.A.Acts.id p.state) c.loop-node.parts.items c.into_part-part.result.0 h.named (c.into_part-part.ensures.node ∙ ap g.A.Acts.id (sym c.into_part-part.ensures.part.0)));
         truth = each_more (IsTrueView g.A.Acts.id g.A.Acts.stands g.N.RunNames.plan g.N.RunNames.inputs g.N.RunNames.script) c.loop-node.yielded c.in-Some.node h.truth c.into_part-part.ensures.course;
       },
     )

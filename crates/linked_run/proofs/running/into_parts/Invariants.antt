@@ -6,6 +6,7 @@ use Rattle.pair_machine.specs.Joint.{AreRising}
 use Rattle.run_node.specs.NodeView.{name_of}
 use Rattle.linked_run.specs.Runs.{TapOfSome, any_tapped, parts_in, parts_of}
 use Rattle.run_node.specs.SoundNode.{IsTrueView}
+use Rattle.run_node.specs.declared.part.Part.{Part}
 use Rattle.linked_run.proofs.running.into_parts.Given as goal
 
 abbrev pub invariant-loop-node : goal.invariant-loop-node
@@ -20,5 +21,6 @@ invariant-loop-node g l =
       rising : Each (λ v. AreRising v.history) l.yielded;
       tapped : TapOfSome g.T.Tap.given g.A.Acts.rows l.tap (parts_in l.parts.items);
       parts : parts_in l.parts.items ≡ parts_of g.A.Acts.id l.yielded;
+      named : Each (λ (p : Part _). p.history.node ≡ g.A.Acts.id p.state) l.parts.items;
       truth : Each (IsTrueView g.A.Acts.id g.A.Acts.stands g.N.RunNames.plan g.N.RunNames.inputs g.N.RunNames.script) l.yielded;
     }

@@ -1,9 +1,24 @@
-use Rattle.std.proofs.Common.{◌≡◌, ◌∙◌, ◌++◌, ◌∷◌, [], ap, sym, subst, arith, append_assoc, append-nil}
+use Rattle.std.proofs.Common.{◌≡◌, ◌∙◌, List, ◌++◌, ◌∷◌, [], ap, sym, subst, arith, append_assoc, append-nil}
 use Rattle.std.specs.Vec.Iter.{into_iter_items}
+use Rattle.pair_machine.specs.Lists.{Each}
+use Rattle.run_node.specs.declared.part.Part.{Part}
+use Rattle.plan_nodes.specs.States.{id_of}
+use Rattle.plan_nodes.specs.declared.state.NodeState.{NodeState}
 use Rattle.linked_run.specs.Runs.{parts_in}
 use Rattle.partition_runner.specs.Sorted.{AreSorted}
 use Rattle.linked_run.proofs.Gathered.{empty_list, parts_in-more}
 use Rattle.partition_runner.proofs.sorting.sort_all.Goals as goal
+
+each_middle : {X : Type 0} (P : X → Type 0) (before : List X) (x : X) (after : List X) → Each P (before ++ x ∷ after) → P x
+each_middle P [] x after h = h.0
+each_middle P (y ∷ before) x after h = each_middle P before x after h.1
+
+pub add_part-requires : goal.add_part-requires
+add_part-requires c =
+    let h = c.loop-part.invariant.2 in
+    let named : Part NodeState → Type 0 = λ p. p.history.node ≡ id_of p.state in
+    each_middle named c.loop-part.yielded c.in-Some.part (into_iter_items c.next.new.self)
+    (subst (Each named) (sym h.left ∙ ap (λ l. c.loop-part.yielded ++ l) c.in-Some.ensures.steps.0) c.requires.named)
 
 pub loop-part-preserved : goal.loop-part-preserved
 loop-part-preserved c =

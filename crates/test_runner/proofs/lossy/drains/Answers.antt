@@ -1,7 +1,7 @@
--- The nodes that the threads left are those of a core.
-use Rattle.trade_text.specs.TradesView.{inputs_in}
-use Rattle.drained_run.proofs.Ending.{given}
+-- The histories of a legal run may be merged.
+use Rattle.std.proofs.Common.{subst, sym}
+use Rattle.run_journal.specs.Logs.{AreMergeable}
 use Rattle.test_runner.proofs.lossy.drains.Goals as goal
 
-pub of-requires : goal.of-requires
-of-requires g c = record { given = given c.args.story.now.plan (inputs_in c.args.story.now.trades) c.args.story.now.script c.args.outcome.ran c.stages-stages.ensures.limits c.requires }
+pub merge-requires : goal.merge-requires
+merge-requires g c = subst AreMergeable (sym c.deref.ensures.value) (record { distinct = c.requires.distinct; rising = c.requires.rising })

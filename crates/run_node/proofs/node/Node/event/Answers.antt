@@ -29,14 +29,18 @@ invariant_of-self-2 g c =
     let after : clock_of c.args.task.now < c_new = omega (arith, c.max-clock.ensures, c.clock.ensures) in
     let small : c_new < 2 ^ 62 = omega (arith, c.if-clock-ge-LAST_CLOCK.false) in
     let fresh : repeats n.fired c.args.task.now ≡ false = sym c.repeats.ensures ∙ c.if-repeats.false in
-    let sound = sound_after g.A.Acts.id g.A.Acts.of_plan g.A.Acts.stands g.N.RunNames.plan g.N.RunNames.inputs g.N.RunNames.script n.state n.ins.items n.outs.links n.kept n.clock n.fired n.history.items c.self.invariant.2
+    let sound = sound_after g.A.Acts.id g.A.Acts.of_plan g.A.Acts.stands g.N.RunNames.plan g.N.RunNames.inputs g.N.RunNames.script n.state n.ins.items n.outs.links n.kept n.clock n.fired n.history.entries c.self.invariant.2
     c.args.task.now c.act.new.self packets c_new came later after small fresh c.act.ensures.id (c.act.ensures.of_plan g.N.RunNames.plan c.self.invariant.2.named)
     (c.act.ensures.here did) (c.act.ensures.step did) (c.act.ensures.linked did g.N.RunNames.plan c.self.invariant.2.named) allowed in
     let fired : fired_after n.fired c.args.task.now ≡ c.after-self-inside.result = sym c.after-self-inside.ensures in
-    let event = c.event_at-event.ensures ∙ ap (λ k. event_of k c.args.task.now) c.id.ensures in
-    let history = c.push_reserved.ensures.items ∙ (ap (λ l. l ++ record { clock = c_new; event = c.event_at-event.result } ∷ []) c.reserve_event.ensures.history ∙ ap (λ e. n.history.items ++ record { clock = c_new; event = e } ∷ []) event) in
-    let at_links = subst (λ l. IsSoundNode g.A.Acts.id g.A.Acts.of_plan g.A.Acts.stands g.N.RunNames.plan g.N.RunNames.inputs g.N.RunNames.script c.act.new.self n.ins.items l n.kept c_new c.after-self-inside.result (n.history.items ++ record { clock = c_new; event = event_of (g.A.Acts.id n.state) c.args.task.now } ∷ [])) (sym flushed) (subst (λ f. IsSoundNode g.A.Acts.id g.A.Acts.of_plan g.A.Acts.stands g.N.RunNames.plan g.N.RunNames.inputs g.N.RunNames.script c.act.new.self n.ins.items (with_all_sent c_new packets n.outs.links) n.kept c_new f (n.history.items ++ record { clock = c_new; event = event_of (g.A.Acts.id n.state) c.args.task.now } ∷ [])) fired sound) in
-    (c.clear.ensures.packets, tap_later g.T.Tap.given g.A.Acts.rows n.tap n.state c.act.new.self c.act.ensures.rows c.self.invariant.1, subst (λ (l : List Stamped). IsSoundNode g.A.Acts.id g.A.Acts.of_plan g.A.Acts.stands g.N.RunNames.plan g.N.RunNames.inputs g.N.RunNames.script c.act.new.self n.ins.items c.flush.new.self.links n.kept c_new c.after-self-inside.result l) (sym history) at_links)
+    let me : c.reserve_event.new.history.node ≡ g.A.Acts.id n.state = c.reserve_event.ensures.node ∙ c.self.invariant.3 in
+    let history = c.note.ensures.entries ∙ (ap (λ l. l ++ record { clock = c_new; event = event_of c.reserve_event.new.history.node c.args.task.now } ∷ []) c.reserve_event.ensures.history ∙ ap (λ k. n.history.entries ++ record { clock = c_new; event = event_of k c.args.task.now } ∷ []) me) in
+    let at_links = subst (λ l. IsSoundNode g.A.Acts.id g.A.Acts.of_plan g.A.Acts.stands g.N.RunNames.plan g.N.RunNames.inputs g.N.RunNames.script c.act.new.self n.ins.items l n.kept c_new c.after-self-inside.result (n.history.entries ++ record { clock = c_new; event = event_of (g.A.Acts.id n.state) c.args.task.now } ∷ [])) (sym flushed) (subst (λ f. IsSoundNode g.A.Acts.id g.A.Acts.of_plan g.A.Acts.stands g.N.RunNames.plan g.N.RunNames.inputs g.N.RunNames.script c.act.new.self n.ins.items (with_all_sent c_new packets n.outs.links) n.kept c_new f (n.history.entries ++ record { clock = c_new; event = event_of (g.A.Acts.id n.state) c.args.task.now } ∷ [])) fired sound) in (
+      c.clear.ensures.packets,
+      tap_later g.T.Tap.given g.A.Acts.rows n.tap n.state c.act.new.self c.act.ensures.rows c.self.invariant.1,
+      subst (λ (l : List Stamped). IsSoundNode g.A.Acts.id g.A.Acts.of_plan g.A.Acts.stands g.N.RunNames.plan g.N.RunNames.inputs g.N.RunNames.script c.act.new.self n.ins.items c.flush.new.self.links n.kept c_new c.after-self-inside.result l) (sym history) at_links,
+      c.note.ensures.node ∙ c.reserve_event.ensures.node ∙ c.self.invariant.3 ∙ sym c.act.ensures.id,
+    )
 
 pub returns-clause-name : goal.returns-clause-name
 returns-clause-name g c =
@@ -57,9 +61,9 @@ invariant_of-self-in_err-act g c =
     let n = c.self.inside in
     let sound = c.self.invariant.2 in
     let same = c.reserve_event.ensures.links in
-    let still = sound_still g.A.Acts.id g.A.Acts.of_plan g.A.Acts.stands g.N.RunNames.plan g.N.RunNames.inputs g.N.RunNames.script n.state n.ins.items n.outs.links n.kept n.clock n.fired n.history.items sound
-    c.act.new.self c.reserve_event.new.outs.links c.reserve_event.new.history.items same c.reserve_event.ensures.history c.act.ensures.id (c.act.ensures.of_plan g.N.RunNames.plan sound.named) (λ x h. c.in_err-act.ensures.unchanged g.N.RunNames.plan g.N.RunNames.inputs x h) in
-    (c.in_err-act.ensures.unsent, tap_later g.T.Tap.given g.A.Acts.rows n.tap n.state c.act.new.self c.act.ensures.rows c.self.invariant.1, still)
+    let still = sound_still g.A.Acts.id g.A.Acts.of_plan g.A.Acts.stands g.N.RunNames.plan g.N.RunNames.inputs g.N.RunNames.script n.state n.ins.items n.outs.links n.kept n.clock n.fired n.history.entries sound
+    c.act.new.self c.reserve_event.new.outs.links c.reserve_event.new.history.entries same c.reserve_event.ensures.history c.act.ensures.id (c.act.ensures.of_plan g.N.RunNames.plan sound.named) (λ x h. c.in_err-act.ensures.unchanged g.N.RunNames.plan g.N.RunNames.inputs x h) in
+    (c.in_err-act.ensures.unsent, tap_later g.T.Tap.given g.A.Acts.rows n.tap n.state c.act.new.self c.act.ensures.rows c.self.invariant.1, still, c.reserve_event.ensures.node ∙ c.self.invariant.3 ∙ sym c.act.ensures.id)
 
 pub invariant_of-self-in-Idle : goal.invariant_of-self-in-Idle
 invariant_of-self-in-Idle g c =
@@ -67,16 +71,16 @@ invariant_of-self-in-Idle g c =
     let sound = c.self.invariant.2 in
     let same = c.reserve_event.ensures.links in
     let idle = c.act.ensures.idle (c.in_ok-act.was ∙ ap Ok c.in-Idle.is) in
-    let still = sound_still g.A.Acts.id g.A.Acts.of_plan g.A.Acts.stands g.N.RunNames.plan g.N.RunNames.inputs g.N.RunNames.script n.state n.ins.items n.outs.links n.kept n.clock n.fired n.history.items sound
-    c.act.new.self c.reserve_event.new.outs.links c.reserve_event.new.history.items same c.reserve_event.ensures.history c.act.ensures.id (c.act.ensures.of_plan g.N.RunNames.plan sound.named) (λ x h. subst (λ st. g.A.Acts.stands g.N.RunNames.plan g.N.RunNames.inputs st x) (sym idle.0) h) in
-    (idle.1, tap_later g.T.Tap.given g.A.Acts.rows n.tap n.state c.act.new.self c.act.ensures.rows c.self.invariant.1, still)
+    let still = sound_still g.A.Acts.id g.A.Acts.of_plan g.A.Acts.stands g.N.RunNames.plan g.N.RunNames.inputs g.N.RunNames.script n.state n.ins.items n.outs.links n.kept n.clock n.fired n.history.entries sound
+    c.act.new.self c.reserve_event.new.outs.links c.reserve_event.new.history.entries same c.reserve_event.ensures.history c.act.ensures.id (c.act.ensures.of_plan g.N.RunNames.plan sound.named) (λ x h. subst (λ st. g.A.Acts.stands g.N.RunNames.plan g.N.RunNames.inputs st x) (sym idle.0) h) in
+    (idle.1, tap_later g.T.Tap.given g.A.Acts.rows n.tap n.state c.act.new.self c.act.ensures.rows c.self.invariant.1, still, c.reserve_event.ensures.node ∙ c.self.invariant.3 ∙ sym c.act.ensures.id)
 
 pub returns-clause-happens : goal.returns-clause-happens
 returns-clause-happens g c = λ _.
     let n = c.self.inside in
-    let event = c.event_at-event.ensures ∙ ap (λ k. event_of k c.args.task.now) c.id.ensures in
-    let here : HasHappened (event_of (g.A.Acts.id n.state) c.args.task.now) n.history.items c.push_reserved.new.self.items = record {
+    let me : c.reserve_event.new.history.node ≡ g.A.Acts.id n.state = c.reserve_event.ensures.node ∙ c.self.invariant.3 in
+    let here : HasHappened (event_of (g.A.Acts.id n.state) c.args.task.now) n.history.entries c.note.new.history.entries = record {
       clock = c.max-clock.result + 1;
-      added = c.push_reserved.ensures.items ∙ (ap (λ l. l ++ record { clock = c.max-clock.result + 1; event = c.event_at-event.result } ∷ []) c.reserve_event.ensures.history ∙ ap (λ e. n.history.items ++ record { clock = c.max-clock.result + 1; event = e } ∷ []) event);
+      added = c.note.ensures.entries ∙ (ap (λ l. l ++ record { clock = c.max-clock.result + 1; event = event_of c.reserve_event.new.history.node c.args.task.now } ∷ []) c.reserve_event.ensures.history ∙ ap (λ k. n.history.entries ++ record { clock = c.max-clock.result + 1; event = event_of k c.args.task.now } ∷ []) me);
     } in
-    subst (λ (v : NodeView _ _). HasHappened (event_of (g.A.Acts.id v.state) c.args.task.now) v.history c.push_reserved.new.self.items) c.self.view_is here
+    subst (λ (v : NodeView _ _). HasHappened (event_of (g.A.Acts.id v.state) c.args.task.now) v.history c.note.new.history.entries) c.self.view_is here

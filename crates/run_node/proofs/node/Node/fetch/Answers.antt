@@ -17,8 +17,8 @@ invariant_of-self g c =
     let ins : List InLink = take n.ins.len (got.new.ins ++ drop (length got.new.ins) n.ins.items) in
     let same : ins ≡ got.new.ins = written n.ins.len got.new.ins n.ins.items (got.auto.ins ∙ long) in
     let fits = subst (λ (l : List InLink). (arrived : Arrivals) → Fit arrived got.new.ins → Fit arrived l) c.deref_mut.ensures.value got.ensures.fits in
-    let sound = sound_received g.A.Acts.id g.A.Acts.of_plan g.A.Acts.stands g.N.RunNames.plan g.N.RunNames.inputs g.N.RunNames.script n.state n.ins.items n.outs.links n.kept n.clock n.fired n.history.items c.self.invariant.2 got.new.ins got.result fits got.ensures.came in
-    (c.self.invariant.0, c.self.invariant.1, subst (λ (l : List InLink). IsSoundNode g.A.Acts.id g.A.Acts.of_plan g.A.Acts.stands g.N.RunNames.plan g.N.RunNames.inputs g.N.RunNames.script n.state l n.outs.links got.result n.clock n.fired n.history.items) (sym same) sound)
+    let sound = sound_received g.A.Acts.id g.A.Acts.of_plan g.A.Acts.stands g.N.RunNames.plan g.N.RunNames.inputs g.N.RunNames.script n.state n.ins.items n.outs.links n.kept n.clock n.fired n.history.entries c.self.invariant.2 got.new.ins got.result fits got.ensures.came in
+    (c.self.invariant.0, c.self.invariant.1, subst (λ (l : List InLink). IsSoundNode g.A.Acts.id g.A.Acts.of_plan g.A.Acts.stands g.N.RunNames.plan g.N.RunNames.inputs g.N.RunNames.script n.state l n.outs.links got.result n.clock n.fired n.history.entries) (sym same) sound, c.self.invariant.3)
 
 pub returns-in-Some-clause-came : goal.returns-in-Some-clause-came
 returns-in-Some-clause-came g c = λ arrived fit.

@@ -1,0 +1,5 @@
+pub mod Continuing
+pub mod Places
+pub mod Pushing
+pub mod Readings
+pub mod Repeated

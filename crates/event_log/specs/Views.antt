@@ -1,0 +1,30 @@
+-- What contracts see of a log, and of the senders that it knows.
+use Rattle.std.specs.Prelude.{◌≡◌, ℕ, ◌++◌, List, map}
+use Rattle.tuple_edge.specs.declared.event.History.{History}
+use Rattle.tuple_edge.specs.declared.event.Stamped.{Stamped}
+use Rattle.tuple_edge.specs.declared.node.NodeId.{NodeId}
+
+-- a log: whose it is, the events in order, and how many more fit without memory
+pub record LogView : Type 0 where
+  pub node : NodeId
+  pub entries : List Stamped
+  pub spare : ℕ
+
+-- logs as lists with their nodes, and histories likewise
+abbrev pub named_logs : List LogView → List (NodeId × List Stamped)
+named_logs logs = map (λ l. (l.node, l.entries)) logs
+
+abbrev pub named_histories : List History → List (NodeId × List Stamped)
+named_histories histories = map (λ h. (h.node, h.entries.items)) histories
+
+-- the senders from which a node took: their names, the index of the last take from each, and how many more fit without memory
+pub record SendersView : Type 0 where
+  pub nodes : List NodeId
+  pub taken : List ℕ
+  pub spare : ℕ
+
+-- the senders are as they were, or there are more, from which nothing was taken yet
+pub record AreMet (before after : SendersView) : Type 0 where
+  pub more : List NodeId
+  pub nodes : after.nodes ≡ before.nodes ++ more
+  pub taken : after.taken ≡ before.taken ++ map (λ sender. 0) more

@@ -1,0 +1,21 @@
+//! The events of a node, in four bytes each.
+//!
+//! A [`Log`] stands for a list of stamped events, and a [`Reader`] gives them back one after another.
+//! An entry says what a node mostly does: a piece of work, a row, or the next take from a sender, a
+//! little later than the entry before. Any other event is kept whole. [`EventBlocks`] stands for a list
+//! of events without clocks, in which the same one mostly comes again. It stands on tuple_edge.
+#![tactic(auto)]
+
+mod block_reader;
+mod blocks;
+mod coding;
+mod counting;
+mod entry;
+mod log;
+mod reader;
+mod senders;
+
+pub use block_reader::BlockReader;
+pub use blocks::EventBlocks;
+pub use log::{Log, histories};
+pub use reader::Reader;

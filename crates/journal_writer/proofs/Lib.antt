@@ -1,0 +1,5 @@
+mod Clocks
+mod Merging
+mod Places
+mod Steps
+mod Texts
