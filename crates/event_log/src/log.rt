@@ -1,9 +1,9 @@
 // A log of events.
-ghost use Rattle.std.specs.Prelude.{◌≡◌, ◌≤◌, ◌+◌, ◌++◌, ◌∷◌, [], length, IfOk, OnOk, OnErr, IsTrue, ◌↔◌};
+ghost use Rattle.std.specs.Prelude.{◌≡◌, ◌≤◌, ◌<◌, ◌+◌, ◌^◌, ◌++◌, ◌∷◌, [], length, IfOk, OnOk, OnErr, IsTrue, ◌↔◌};
 ghost use Rattle.std.specs.Prelude.{vec_len, vec_capacity};
 ghost use Rattle.tuple_edge.specs.declared.event.Event.TheVariants as event;
 ghost use Rattle.event_log.specs.Reading.{whole_of};
-ghost use Rattle.event_log.specs.Views.{named_histories, named_logs};
+ghost use Rattle.event_log.specs.Views.{named_histories, named_logs, works_after};
 
 use crate::coding::{entry_of, rise_of, take_of, work_entry};
 use crate::entry::Entry;
@@ -99,6 +99,13 @@ impl Log {
         Ok(())
     }
 
+    /// How many further events surely fit without memory.
+    pub fn spare(&self) -> usize
+        ensures { result ≡ self.now.spare }
+    {
+        self.room
+    }
+
     /// Appends an event. It takes one place of the room, and can't fail.
     pub fn push_reserved(&mut self, stamped: Stamped)
         requires { 1 ≤ self.old.spare }
@@ -126,6 +133,20 @@ impl Log {
         self.entries.push_reserved(entry);
         self.clock = clock;
         self.room -= 1;
+    }
+
+    /// Appends that the node worked so many times, with the clocks that follow on this one. It takes as many places of the
+    /// room, and can't fail.
+    pub fn work_times(&mut self, clock: u64, times: usize)
+        requires room { times ≤ self.old.spare }
+        requires clocks { clock + times < 2 ^ 64 }
+        ensures node { self.new.node ≡ self.old.node }
+        ensures entries { self.new.entries ≡ self.old.entries ++ works_after self.old.node clock times }
+        ensures spare { self.old.spare ≤ self.new.spare + times }
+    {
+        for done in 0..times {
+            self.work(clock + done as u64 + 1);
+        }
     }
 
     /// Appends that the node took the packet with this index from a sender. It takes one place of the room, and can't fail.

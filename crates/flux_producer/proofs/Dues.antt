@@ -1,9 +1,12 @@
 -- What is due is the least of all that waits.
-use Rattle.std.proofs.Common.{◌≡◌, ℕ, zero, suc, ◌<◌, ◌≤◌, ◌⊎◌, inl, inr, Bool, true, false, refl, sym, ◌∙◌, ap, subst, arith}
-use Rattle.std.specs.Prelude.{Option, None, Some, IfSome, IfNone, IsTrue, nat_le, if◌then◌else◌, length}
-use borrow.Author.Tests.{leb-true, leb-false, le-leb}
+use Rattle.std.proofs.Common.{◌≡◌, ℕ, zero, suc, ◌+◌, ◌<◌, ◌≤◌, ◌⊎◌, inl, inr, Bool, true, false, refl, sym, ◌∙◌, ap, subst, arith}
+use Rattle.std.specs.Prelude.{Option, None, Some, IfSome, IfNone, IsTrue, nat_le, nat_lt, if◌then◌else◌, length}
+use Rattle.std.proofs.lemmas.Bool.Decides.{nat_tests}
+use borrow.Author.Tests.{leb-true, leb-false, le-leb, lt-ltb}
 use Rattle.flux_producer.specs.Due.{IsLeast, NoneWaits, Waits, due_at, due_of, due_to, sooner, soonest_below}
-use Rattle.flux_producer.specs.ProducerView.{ProducerView, buffer_at, cursor_at}
+use Rattle.tuple_edge.specs.Limits.{number_limit}
+use Rattle.flux_producer.specs.OutEdge.{IsLeastCursor}
+use Rattle.flux_producer.specs.ProducerView.{ProducerView, buffer_at, cursor_at, edge_at}
 use Rattle.flux_producer.specs.declared.due.Due.{Due}
 
 -- d is the soonest of the first n, at place i: none has a lesser number, and each before it a greater one
@@ -155,3 +158,93 @@ due_where p d false is = let never : ⊥ = cc in absurd never
 
 pub due_of-least : (p : ProducerView) (d : Due) → due_of p ≡ Some d → IsLeast p d
 due_of-least p d is = due_where p d p.leads is
+
+-- ---- the due of each edge from its least cursor
+
+-- what was found, where a number at the limit says that nothing was
+abbrev pub found : Due → Option Due
+found d = if nat_lt d.number number_limit then Some d else None
+
+-- the due of an edge: its least cursor, where that was produced
+abbrev of_least : ProducerView → ℕ → ℕ → ℕ → Option Due
+of_least p t copy number = if nat_le number (buffer_at p t).produced then Some (record { to = t; copy = copy; number = number }) else None
+
+-- of two places that are both the first, none is before the other
+same_place : (i j x y : ℕ) → (i < j → y < x) → (j < i → x < y) → x ≤ y → y ≤ x → i ≡ j
+same_place i j x y one other = grind (arith, one, other)
+
+due_to-least_by : (p : ProducerView) (t copy number : ℕ) → IsLeastCursor (edge_at p t) p.copies copy number → (o : Option Due) → SoonestOf (due_at p t) p.copies o
+    → (b : Bool) → nat_le number (buffer_at p t).produced ≡ b → o ≡ (if b then Some (record { to = t; copy = copy; number = number }) else None)
+due_to-least_by p t copy number least None all true test =
+    let none : due_at p t copy ≡ None = all copy least.inside in
+    let waiting : cursor_at p t copy ≤ (buffer_at p t).produced = omega (arith, least.is, leb-true _ _ test) in
+    let some : due_at p t copy ≡ Some (of_copy p t copy) = due_at-waiting p t copy waiting in
+    let never : ⊥ = cc in absurd never
+due_to-least_by p t copy number least None all false test = refl
+due_to-least_by p t copy number least (Some d) (i, soonest_there) true test =
+    let at = due_at_by p t i d (nat_le (cursor_at p t i) (buffer_at p t).produced) refl soonest_there.is in
+    let waiting : cursor_at p t copy ≤ (buffer_at p t).produced = omega (arith, least.is, leb-true _ _ test) in
+    let here : due_at p t copy ≡ Some (of_copy p t copy) = due_at-waiting p t copy waiting in
+    let number_there : d.number ≡ cursor_at p t i = ap (λ (z : Due). z.number) (sym at.0) in
+    let earlier : i < copy → number < cursor_at p t i = λ l. least.first i l in
+    let later : copy < i → d.number < cursor_at p t copy = λ l. soonest_there.before copy (of_copy p t copy) l here in
+    let no_less : number ≤ cursor_at p t i = least.least i soonest_there.inside in
+    let no_more : d.number ≤ cursor_at p t copy = soonest_there.least copy (of_copy p t copy) least.inside here in
+    let same : i ≡ copy = same_place i copy number d.number (λ l. let h = earlier l in omega arith) (λ l. let h = later l in omega (arith, least.is)) (omega arith) (omega (arith, least.is)) in
+    ap (λ (z : Due). Some z) (sym at.0 ∙ ap (of_copy p t) same ∙ ap (λ n. record { to = t; copy = copy; number = n }) (sym least.is))
+due_to-least_by p t copy number least (Some d) (i, soonest_there) false test =
+    let at = due_at_by p t i d (nat_le (cursor_at p t i) (buffer_at p t).produced) refl soonest_there.is in
+    let no_less : number ≤ cursor_at p t i = least.least i soonest_there.inside in
+    absurd (omega (arith, leb-false _ _ test, at.1))
+
+-- what is due to a target is the due of its edge
+due_to-least : (p : ProducerView) (t copy number : ℕ) → IsLeastCursor (edge_at p t) p.copies copy number → due_to p t ≡ of_least p t copy number
+due_to-least p t copy number least = due_to-least_by p t copy number least (due_to p t) (soonest (due_at p t) p.copies) (nat_le number (buffer_at p t).produced) refl
+
+is_above : (a b : ℕ) → b < a → nat_le a b ≡ false
+is_above a b h = grind (arith, nat_tests)
+
+-- the due of a lesser number than what was found before
+sooner_than : (former next : Due) (a : Bool) → nat_lt former.number number_limit ≡ a → next.number < former.number → sooner (if a then Some former else None) (Some next) ≡ Some next
+sooner_than former next true some less = ap (λ b. if b then Some former else Some next) (is_above former.number next.number less)
+sooner_than former next false none less = refl
+
+-- nothing further is due
+still_soonest : (former : Option Due) → sooner former None ≡ former
+still_soonest None = refl
+still_soonest (Some former) = refl
+
+-- what was found with the due of one more edge
+with_edge : (p : ProducerView) (t copy number : ℕ) (former : Due) → IsLeastCursor (edge_at p t) p.copies copy number → found former ≡ soonest_below (due_to p) t
+    → sooner (found former) (of_least p t copy number) ≡ soonest_below (due_to p) (t + 1)
+with_edge p t copy number former least so_far =
+    ap (λ o. sooner o (of_least p t copy number)) so_far ∙ ap (sooner (soonest_below (due_to p) t)) (sym (due_to-least p t copy number least))
+    ∙ ap (soonest_below (due_to p)) (let e : suc t ≡ t + 1 = omega arith in e)
+
+-- an edge whose least cursor was produced, and is less than what was found before
+pub finds_sooner : (p : ProducerView) (t copy number : ℕ) (former : Due) → IsLeastCursor (edge_at p t) p.copies copy number
+    → (buffer_at p t).produced < number_limit → found former ≡ soonest_below (due_to p) t → number ≤ (buffer_at p t).produced → number < former.number
+    → found (record { to = t; copy = copy; number = number }) ≡ soonest_below (due_to p) (t + 1)
+finds_sooner p t copy number former least fits so_far produced less =
+    let next : Due = record { to = t; copy = copy; number = number } in
+    ap (λ b. if b then Some next else None) (lt-ltb number number_limit (omega arith)) ∙ sym (sooner_than former next (nat_lt former.number number_limit) refl less)
+    ∙ ap (λ b. sooner (found former) (if b then Some next else None)) (sym (le-leb _ _ produced)) ∙ with_edge p t copy number former least so_far
+
+-- the due of an edge, if there is one, has no lesser number than what was found before
+kept_by : (p : ProducerView) (t copy number : ℕ) (former : Due) (b : Bool) → nat_le number (buffer_at p t).produced ≡ b
+    → (buffer_at p t).produced < number_limit → (number ≤ (buffer_at p t).produced → former.number ≤ number)
+    → found former ≡ sooner (found former) (if b then Some (record { to = t; copy = copy; number = number }) else None)
+kept_by p t copy number former true test fits no_less =
+    let next : Due = record { to = t; copy = copy; number = number } in
+    let produced : number ≤ (buffer_at p t).produced = leb-true _ _ test in
+    let less : former.number ≤ number = no_less produced in
+    let some : found former ≡ Some former = ap (λ b. if b then Some former else None) (lt-ltb former.number number_limit (omega arith)) in
+    some ∙ sym (ap (λ o. sooner o (Some next)) some ∙ ap (λ b. if b then Some former else Some next) (le-leb _ _ less))
+kept_by p t copy number former false test fits no_less = sym (still_soonest (found former))
+
+-- an edge whose least cursor was not produced, or is no less than what was found before
+pub finds_no_sooner : (p : ProducerView) (t copy number : ℕ) (former : Due) → IsLeastCursor (edge_at p t) p.copies copy number
+    → (buffer_at p t).produced < number_limit → found former ≡ soonest_below (due_to p) t → (number ≤ (buffer_at p t).produced → former.number ≤ number)
+    → found former ≡ soonest_below (due_to p) (t + 1)
+finds_no_sooner p t copy number former least fits so_far no_less =
+    kept_by p t copy number former (nat_le number (buffer_at p t).produced) refl fits no_less ∙ with_edge p t copy number former least so_far

@@ -1,10 +1,11 @@
 -- Edges that were given more room.
-use Rattle.std.proofs.Common.{◌≡◌, ℕ, zero, suc, ◌+◌, ◌<◌, ◌≤◌, ◌⊎◌, inl, inr, refl, sym, ◌∙◌, ap, subst, arith, length-append}
-use Rattle.std.specs.Prelude.{List, [], ◌∷◌, ◌++◌, drop, length, map, take, slice_index_or}
+use Rattle.std.proofs.Common.{◌≡◌, ℕ, zero, suc, ◌+◌, ◌-◌, ◌<◌, ◌≤◌, ◌⊎◌, inl, inr, Bool, true, false, refl, sym, ◌∙◌, ap, subst, arith, length-append}
+use Rattle.std.specs.Prelude.{List, [], ◌∷◌, ◌++◌, drop, if◌then◌else◌, length, map, nat_le, take, slice_index_or}
+use Rattle.std.proofs.lemmas.List.{length-map}
 use Rattle.tuple_edge.specs.declared.item.Item.{Item}
 use Rattle.ack_buffer.specs.Buffer as buffer
-use Rattle.flux_producer.specs.OutEdge.{OutEdgeView, unused}
-use Rattle.flux_producer.specs.ProducerView.{HaveMoreRoom, without_room}
+use Rattle.flux_producer.specs.OutEdge.{OutEdgeView, unused, with_item}
+use Rattle.flux_producer.specs.ProducerView.{EachMayHave, HasRoom, HaveMoreRoom, MayGrow, MayHave, without_room}
 
 -- the first so many edges were given room for so many more items, and stand in `roomy`
 pub record HaveMore (edges roomy : List OutEdgeView) (count items : ℕ) : Type 0 where
@@ -73,3 +74,51 @@ pub roomy_stands : (edges roomy : List OutEdgeView) (items : ℕ) (all : ℕ →
     → (t : ℕ) → t < length roomy → buffer.StandsFor (slice_index_or roomy t unused).buffer (all t)
 roomy_stands edges roomy items all more stands t below =
     without_stands (slice_index_or edges t unused) (slice_index_or roomy t unused) (all t) (edge_without roomy edges more.contents t) (stands t (omega (arith, more.len)))
+
+-- ---- the room that a producer knows of
+
+-- where each edge has room for some items and may produce them, it may have them
+pub each_may : (edges : List OutEdgeView) (items : ℕ) → HasRoom edges items → MayGrow edges items → EachMayHave edges items
+each_may edges items room grows t below = record { room = room t below; fits = λ some. grows t below }
+
+-- the edges, each of which changes
+pub each_after : (f : OutEdgeView → OutEdgeView) (edges : List OutEdgeView) (items less : ℕ) → EachMayHave edges items
+    → ((e : OutEdgeView) → MayHave e items → MayHave (f e) less) → EachMayHave (map f edges) less
+each_after f [] items less each after t below = absurd (omega arith)
+each_after f (x ∷ edges) items less each after zero below = after x (each zero (omega arith))
+each_after f (x ∷ edges) items less each after (suc t) below = each_after f edges items less (λ u l. each (suc u) (omega arith)) after t (omega arith)
+
+one_fewer_by : (e : OutEdgeView) (item : Item) (items : ℕ) (acknowledged : Bool) → MayHave e items
+    → MayHave (record e {
+      buffer =
+          if acknowledged
+          then record e.buffer { produced = e.buffer.produced + 1 }
+          else record e.buffer { produced = e.buffer.produced + 1; items = e.buffer.items ++ item ∷ []; spare = e.buffer.spare - 1 };
+    }) (items - 1)
+one_fewer_by e item items true may = record { room = let h = may.room in omega arith; fits = λ some. let h = may.fits (omega arith) in omega arith }
+one_fewer_by e item items false may = record { room = let h = may.room in omega arith; fits = λ some. let h = may.fits (omega arith) in omega arith }
+
+-- after an item was produced an edge may have one fewer
+pub one_fewer : (e : OutEdgeView) (item : Item) (items : ℕ) → MayHave e items → MayHave (with_item e item) (items - 1)
+one_fewer e item items may = one_fewer_by e item items (nat_le (e.buffer.produced + 1) e.buffer.low) may
+
+-- edges that differ in room alone have produced the same
+same_made : (one other : List OutEdgeView) → map without_room other ≡ map without_room one → (t : ℕ) → (slice_index_or other t unused).buffer.produced ≡ (slice_index_or one t unused).buffer.produced
+same_made one other same t = ap (λ (e : OutEdgeView). e.buffer.produced) (edge_without other one same t)
+
+-- edges that were given more room
+pub each_kept : (edges roomy : List OutEdgeView) (more items : ℕ) → HaveMoreRoom edges roomy more → EachMayHave edges items → EachMayHave roomy items
+each_kept edges roomy more items given each t below =
+    let made = same_made edges roomy given.contents t in
+    let may = each t (omega (arith, given.len)) in
+    record {
+      room = let enough = may.room in let kept = given.kept t (omega (arith, given.len)) in omega arith;
+      fits = λ some. let grows = may.fits some in omega arith;
+    }
+
+-- edges that differ in room alone may grow alike
+pub grows_alike : (one other : List OutEdgeView) (items : ℕ) → map without_room other ≡ map without_room one → MayGrow one items → MayGrow other items
+grows_alike one other items same grows t below =
+    let many : length other ≡ length one = sym (length-map other without_room) ∙ ap length same ∙ length-map one without_room in
+    let made = same_made one other same t in
+    let may = grows t (omega arith) in omega arith

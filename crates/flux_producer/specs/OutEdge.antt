@@ -1,5 +1,5 @@
 -- An out-edge: what is not acknowledged, and for each replica of its consumer the next number to send.
-use Rattle.std.specs.Prelude.{ℕ, ◌+◌, ◌<◌, ◌≤◌, List, map, max, min, replicate, slice_index, slice_set}
+use Rattle.std.specs.Prelude.{◌≡◌, ℕ, ◌+◌, ◌<◌, ◌≤◌, List, map, max, min, replicate, slice_index, slice_set}
 use Rattle.tuple_edge.specs.Limits.{number_limit}
 use Rattle.tuple_edge.specs.declared.item.Item.{Item}
 use Rattle.ack_buffer.specs.Buffer.{BufferView, produced_on, starting_at, trimmed}
@@ -17,6 +17,13 @@ pub record IsOutEdge (buffer : BufferView) (cursors : List ℕ) : Type 0 where
 -- the cursor of a replica
 abbrev pub cursor_of : OutEdgeView → ℕ → ℕ
 cursor_of e c = slice_index e.cursors c
+
+-- number is the least cursor of so many replicas, and copy the first replica that has it
+pub record IsLeastCursor (e : OutEdgeView) (copies copy number : ℕ) : Type 0 where
+  pub inside : copy < copies
+  pub is : number ≡ cursor_of e copy
+  pub least : (c : ℕ) → c < copies → number ≤ cursor_of e c
+  pub first : (c : ℕ) → c < copy → number < cursor_of e c
 
 -- the cursors that send again all that is not acknowledged
 abbrev pub from_low : BufferView → List ℕ

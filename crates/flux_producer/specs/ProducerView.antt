@@ -17,11 +17,21 @@ pub record ProducerView : Type 0 where
   pub leads : Bool
   pub edges : List OutEdgeView
 
--- what is true of each producer
-pub record IsProducer (copies : ℕ) (edges : List OutEdgeView) : Type 0 where
+-- an edge may have so many further items: it has room for them, and their numbers are below the limit
+pub record MayHave (e : OutEdgeView) (items : ℕ) : Type 0 where
+  pub room : items ≤ e.buffer.spare
+  pub fits : 1 ≤ items → e.buffer.produced + items < number_limit
+
+-- each edge may have so many further items
+abbrev pub EachMayHave : List OutEdgeView → ℕ → Type 0
+EachMayHave edges items = (t : ℕ) → t < length edges → MayHave (slice_index_or edges t unused) items
+
+-- what is true of each producer, and of the room that it knows of
+pub record IsProducer (copies room : ℕ) (edges : List OutEdgeView) : Type 0 where
   pub some : 1 ≤ copies
   pub few : copies ≤ max_copies
   pub targets : length edges < edge_limit
+  pub known : EachMayHave edges room
 
 -- the out-edge to a target; where there is none, one on which nothing was produced
 abbrev pub edge_at : ProducerView → ℕ → OutEdgeView
@@ -91,9 +101,9 @@ HasRoom edges items = (t : ℕ) → t < length edges → items ≤ (slice_index_
 abbrev pub KeepsRoom : List OutEdgeView → List OutEdgeView → Type 0
 KeepsRoom old new = (t : ℕ) → t < length old → (slice_index_or old t unused).buffer.spare ≤ (slice_index_or new t unused).buffer.spare
 
--- each edge may produce one more item
-abbrev pub MayGrow : List OutEdgeView → Type 0
-MayGrow edges = (t : ℕ) → t < length edges → (slice_index_or edges t unused).buffer.produced + 1 < number_limit
+-- each edge may produce so many more items: their numbers are below the limit
+abbrev pub MayGrow : List OutEdgeView → ℕ → Type 0
+MayGrow edges items = (t : ℕ) → t < length edges → (slice_index_or edges t unused).buffer.produced + items < number_limit
 
 -- These edges are those, with room for so many further items on each, and on none less than it had.
 pub record HaveMoreRoom (old new : List OutEdgeView) (items : ℕ) : Type 0 where

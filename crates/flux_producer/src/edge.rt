@@ -1,7 +1,7 @@
 // One out-edge of a producer.
 ghost use Rattle.ack_buffer.specs.Buffer.{item_at};
 ghost use Rattle.flux_producer.specs.Limits.{max_copies};
-ghost use Rattle.flux_producer.specs.OutEdge.{acknowledged, cursor_of, over, rewound, sent, wanted, with_item, with_room};
+ghost use Rattle.flux_producer.specs.OutEdge.{IsLeastCursor, acknowledged, cursor_of, over, rewound, sent, wanted, with_item, with_room};
 ghost use Rattle.flux_producer.specs.ProducerView.{without_room};
 ghost use Rattle.std.specs.Prelude.{◌≡◌, ◌≤◌, ◌<◌, ◌+◌, IfOk, IfSome, IfNone, OnErr, OnOk};
 ghost use Rattle.tuple_edge.specs.Limits.{number_limit};
@@ -131,5 +131,22 @@ impl OutEdge {
         ensures fits { result ≤ number_limit }
     {
         self.cursors[copy as usize]
+    }
+
+    // The first of so many replicas whose cursor is the least, with that cursor.
+    pub(crate) fn least_cursor(&self, copies: u32) -> (u32, u64)
+        requires some { 1 ≤ copies }
+        requires few { copies ≤ max_copies }
+        ensures { IsLeastCursor self.now copies result.0 result.1 }
+    {
+        let [first, second, third] = self.cursors;
+        let (mut copy, mut number) = (0, first);
+        if copies > 1 && second < number {
+            (copy, number) = (1, second);
+        }
+        if copies > 2 && third < number {
+            (copy, number) = (2, third);
+        }
+        (copy, number)
     }
 }

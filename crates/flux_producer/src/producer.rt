@@ -1,11 +1,11 @@
 // The producer: its out-edges, and what is due on them.
 ghost use Rattle.ack_buffer.specs.Buffer.{item_at};
-ghost use Rattle.flux_producer.specs.Due.{IsLeast, NoneWaits, due_at, due_of, due_to};
-ghost use Rattle.flux_producer.specs.Limits.{max_copies};
+ghost use Rattle.flux_producer.specs.Due.{IsLeast, NoneWaits, due_of, due_to, soonest_below};
+ghost use Rattle.flux_producer.specs.Limits.{least_room, max_copies};
 ghost use Rattle.flux_producer.specs.OutEdge.{over, rewound, unused, with_item};
 ghost use Rattle.flux_producer.specs.ProducerView.{HasRoom, HaveMoreRoom, KeepsRoom, MayGrow, acked, buffer_at, contents_of, cursor_at, edge_at, emitted, emitted_to_all, id_of, leading, opening, over_buffers, sent_on, wanted_from};
 ghost use Rattle.flux_producer.specs.StandsFor.{BuffersStandFor, StandsFor, with_next};
-ghost use Rattle.std.specs.Prelude.{◌≡◌, ◌≢◌, ◌≤◌, ◌<◌, ◌+◌, ◌-◌, ◌++◌, ◌∷◌, ◌↔◌, [], ℕ, List, length, None, Some, IfOk, OnErr, OnOk, IsTrue, IfNone, IfSome, map, replicate, slice_get};
+ghost use Rattle.std.specs.Prelude.{◌≡◌, ◌≢◌, ◌≤◌, ◌<◌, ◌+◌, ◌-◌, ◌++◌, ◌∷◌, ◌↔◌, [], ℕ, List, length, None, Some, IfOk, OnErr, OnOk, IsTrue, IfNone, IfSome, map, max, replicate, slice_get};
 ghost use Rattle.tuple_edge.specs.Limits.{number_limit};
 ghost use Rattle.tuple_edge.specs.declared.item.Item.{Item};
 
@@ -14,7 +14,10 @@ use crate::edge::OutEdge;
 use ack_buffer::AckBuffer;
 use std::alloc::Global;
 use std::marker::Model;
-use tuple_edge::{EdgeId, Item, OutOfMemory};
+use tuple_edge::{EdgeId, Item, NUMBER_LIMIT, OutOfMemory};
+
+// Where room is made on all edges, it is made for so many items at least.
+const LEAST_ROOM: u64 = 64;
 
 /// What a node sends on its out-edges. Targets and replicas count from 0, numbers of items from 1.
 /// Numbers are below 2^62.
@@ -26,6 +29,8 @@ pub struct Producer {
     term: u64,
     leads: bool,
     edges: Vec<OutEdge>,
+    // Each edge has room for so many further items at least, and their numbers are below 2^62.
+    room: u64,
 }
 
 impl Model for Producer {
@@ -42,7 +47,7 @@ impl Model for Producer {
       edges = p.edges.items;
     } };
 
-    ghost invariant = { λ p. IsProducer p.copies p.edges.items };
+    ghost invariant = { λ p. IsProducer p.copies p.room p.edges.items };
 }
 
 // Edges on which nothing was produced.
@@ -79,7 +84,7 @@ fn rewind_all(edges: &mut Vec<OutEdge>)
 // Produces an item on each edge.
 fn produce_all(edges: &mut Vec<OutEdge>, item: Item)
     requires room { HasRoom edges.old.items 1 }
-    requires fits { MayGrow edges.old.items }
+    requires fits { MayGrow edges.old.items 1 }
     ensures { edges.new.items ≡ map (λ e. with_item e item) edges.old.items }
 {
     for edge in edges.iter_mut() {
@@ -93,6 +98,18 @@ fn have_room(edges: &[OutEdge], items: usize) -> bool
 {
     for to in 0..edges.len() {
         if edges[to].buffer().spare() < items {
+            return false;
+        }
+    }
+    true
+}
+
+// Whether each edge may produce so many more items.
+fn may_grow(edges: &[OutEdge], items: u64) -> bool
+    ensures { IsTrue result ↔ MayGrow edges.now items }
+{
+    for to in 0..edges.len() {
+        if items >= NUMBER_LIMIT - edges[to].buffer().produced() {
             return false;
         }
     }
@@ -134,6 +151,7 @@ impl Producer {
             term: if leads { 1 } else { 0 },
             leads,
             edges,
+            room: 0,
         })
     }
 
@@ -164,6 +182,7 @@ impl Producer {
             term: 0,
             leads: false,
             edges,
+            room: 0,
         })
     }
 
@@ -183,6 +202,34 @@ impl Producer {
             // All room is made before any edge changes.
             self.edges = with_more_room(&self.edges, items as usize)?;
         }
+        Ok(())
+    }
+
+    /// Makes room for so many further items on every edge, whose numbers are then below 2^62. Where they
+    /// wouldn't be, it is refused as for want of memory: no memory holds that many items.
+    ///
+    /// Room is made for 64 items at least, so that most calls find it there and look at no edge.
+    pub fn make_room(&mut self, items: u64) -> Result<(), OutOfMemory>
+        ensures contents { contents_of self.new ≡ contents_of self.old }
+        ensures room { OnOk result (HasRoom self.new.edges items) }
+        ensures fits { OnOk result (MayGrow self.new.edges items) }
+        ensures kept { KeepsRoom self.old.edges self.new.edges }
+        ensures unchanged { OnErr result (self.new ≡ self.old) }
+
+        // Where the room that it would make is there already, it is never refused.
+        ensures refused { OnErr result (HasRoom self.old.edges (max items least_room) → MayGrow self.old.edges (max items least_room) → ⊥) }
+        ensures stands { (all : ℕ → List Item) → StandsFor self.old all → StandsFor self.new all }
+    {
+        // Room for no item says nothing of the numbers.
+        if 0 < items && items <= self.room {
+            return Ok(());
+        }
+        let more = items.max(LEAST_ROOM);
+        if !may_grow(&self.edges, more) {
+            return Err(OutOfMemory);
+        }
+        self.reserve(more)?;
+        self.room = more;
         Ok(())
     }
 
@@ -211,16 +258,18 @@ impl Producer {
         ensures emitted { self.new ≡ emitted self.old to item }
         ensures stands { (all : ℕ → List Item) → StandsFor self.old all → StandsFor self.new (with_next all to item) }
     {
+        self.room = self.room.saturating_sub(1);
         self.edges[to as usize].produce(item)
     }
 
     /// Produces an item as the next one of every edge. It can't fail.
     pub fn emit_to_all(&mut self, item: Item)
         requires room { HasRoom self.old.edges 1 }
-        requires fits { MayGrow self.old.edges }
+        requires fits { MayGrow self.old.edges 1 }
         ensures emitted { self.new ≡ emitted_to_all self.old item }
         ensures stands { (all : ℕ → List Item) → StandsFor self.old all → StandsFor self.new (λ t. all t ++ item ∷ []) }
     {
+        self.room = self.room.saturating_sub(1);
         produce_all(&mut self.edges, item);
     }
 
@@ -261,31 +310,33 @@ impl Producer {
         }
     }
 
-    // What is due to a replica of a target.
-    fn due_at(&self, to: u32, copy: u32) -> Option<Due>
-        requires edge { to < length self.now.edges }
-        requires copy { copy < self.now.copies }
-        ensures { result ≡ due_at self.now to copy }
+    // What is due, whether it leads or not. An edge's due is its least cursor, where that was produced.
+    fn first_due(&self) -> Option<Due>
+        ensures { result ≡ soonest_below (due_to self.now) (length self.now.edges) }
     {
-        let edge = &self.edges[to as usize];
-        let number = edge.cursor(copy);
-        if number <= edge.buffer().produced() {
-            Some(Due { to, copy, number })
+        // Every number comes before this.
+        let mut first = Due {
+            to: 0,
+            copy: 0,
+            number: NUMBER_LIMIT,
+        };
+        for to in 0..self.edges.len() {
+            let edge = &self.edges[to];
+            let (copy, number) = edge.least_cursor(self.copies);
+            let produced = edge.buffer().produced();
+            if number < first.number && number <= produced {
+                first = Due {
+                    to: to as u32,
+                    copy,
+                    number,
+                };
+            }
+        }
+        if first.number < NUMBER_LIMIT {
+            Some(first)
         } else {
             None
         }
-    }
-
-    // What is due to a target.
-    fn due_to(&self, to: u32) -> Option<Due>
-        requires { to < length self.now.edges }
-        ensures { result ≡ due_to self.now to }
-    {
-        let mut due = None;
-        for copy in 0..self.copies {
-            due = Due::sooner(due, self.due_at(to, copy));
-        }
-        due
     }
 
     /// What is to be sent next: the least by number, target and replica. None exactly where it
@@ -299,11 +350,7 @@ impl Producer {
         if !self.leads {
             return None;
         }
-        let mut due = None;
-        for to in 0..self.edges() {
-            due = Due::sooner(due, self.due_to(to));
-        }
-        due
+        self.first_due()
     }
 
     /// Gives what is due with its item, and goes on to the next number. None as [`Producer::due`].

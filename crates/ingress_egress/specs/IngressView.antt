@@ -1,17 +1,22 @@
 -- What contracts see of ingress, and what each event makes of it.
-use Rattle.std.specs.Prelude.{◌≡◌, ◌<◌, ◌≤◌, ◌+◌, ℕ, zero, suc, true, List, [], ◌∷◌, ◌++◌, Option, None, Some, is_some, length, map, slice_get, slice_index_or, slice_set}
+use Rattle.std.specs.Prelude.{◌≡◌, ◌<◌, ◌≤◌, ◌+◌, ◌*◌, ℕ, zero, suc, true, List, [], ◌∷◌, ◌++◌, All, Option, None, Some, is_some, length, map, slice_get, slice_index_or, slice_set}
 use Rattle.tuple_edge.specs.Input.{Input}
+use Rattle.tuple_edge.specs.Limits.{edge_limit}
 use Rattle.tuple_edge.specs.declared.event.Worked.TheVariants as worked
 use Rattle.tuple_edge.specs.declared.item.Item.{Item}
 use Rattle.tuple_edge.specs.declared.node.NodeId.{NodeId}
 use Rattle.tuple_edge.specs.declared.node.NodeId.TheVariants as node
 use Rattle.tuple_edge.specs.declared.packet.Body.{Body}
 use Rattle.tuple_edge.specs.declared.packet.Body.TheVariants as body
+use Rattle.tuple_edge.specs.declared.row.Row.{Row}
 use Rattle.ack_buffer.specs.Buffer.{item_at}
 use Rattle.flux_producer.specs.Due.{due_of}
 use Rattle.flux_producer.specs.ProducerView.{HasRoom, ProducerView, acked, buffer_at, contents_of, opening, sent_on, wanted_from}
 use Rattle.flux_producer.specs.declared.due.Due.{Due}
 use Rattle.plan_reader.specs.declared.stage.Stage.{Stage}
+use Rattle.stream_ops.specs.Times.{IsTime}
+use Rattle.trade_text.specs.Limits.{max_inputs}
+use Rattle.trade_text.specs.TradesView.{paired}
 use Rattle.pair_machine.specs.Consumers.{first_below}
 use Rattle.pair_machine.specs.CountLaws.{made_for}
 use Rattle.pair_machine.specs.Edges.{edge_to}
@@ -19,7 +24,6 @@ use Rattle.pair_machine.specs.Replicas.{which_of}
 use Rattle.node_edges.specs.OutEdges.{HasMade, copy_of, which_at}
 pub use Rattle.node_edges.specs.OutEdges.{MayMakeMore}
 use Rattle.ingress_egress.specs.EgressView.{WorkDone}
-use Rattle.ingress_egress.specs.declared.making.Given.{Given}
 
 -- the inputs, the first stage, after how many inputs there is a mark, how many inputs, or the end, were made into items, and a producer
 -- for each source
@@ -61,6 +65,19 @@ HasMadeAtMost most y = (t : ℕ) → t < length y.edges → (buffer_at y t).prod
 -- each edge of each producer has had at most so many items
 abbrev pub HaveMadeAtMost : ℕ → List ProducerView → Type 0
 HaveMadeAtMost most producers = (q : ℕ) → q < length producers → HasMadeAtMost most (producer_in producers q)
+
+-- what is true of each ingress: of its rows and the source of each, its first stage, after how many inputs there is a mark, how many makes
+-- there were, and the producer of each source. There are few inputs, and a make gives at most two items to an edge, so no number of an item
+-- ever passes its limit. The time of each is within its limits, as it is in the trades.
+pub record IsIngress (rows : List Row) (sources : List ℕ) (first : Stage) (every makes : ℕ) (producers : List ProducerView) : Type 0 where
+  pub parts : 1 ≤ first.parts
+  pub mark : 1 ≤ every
+  pub few_inputs : length rows ≤ max_inputs
+  pub made : makes ≤ length rows + 1
+  pub few_sources : length producers < edge_limit
+  pub wide : AreWide first.parts producers
+  pub produced : HaveMadeAtMost (2 * makes) producers
+  pub times : All (λ (input : Input). IsTime input.row.time) (paired rows sources)
 
 -- ---- packets
 
@@ -118,14 +135,6 @@ pub record HasMadeNext (old new : IngressView) : Type 0 where
 -- ingress, the room of its producers left aside
 abbrev pub contents_in : IngressView → IngressView
 contents_in i = record i { producers = map contents_of i.producers }
-
--- an input as code hands it on
-abbrev pub input_of : Given → Input
-input_of given = record { source = given.source; row = given.row }
-
-abbrev pub any_input_of : Option Given → Option Input
-any_input_of None = None
-any_input_of (Some given) = Some (input_of given)
 
 -- each edge may have so many more items
 abbrev pub MayMake : ℕ → List ProducerView → Type 0

@@ -9,10 +9,10 @@ ghost use Rattle.plan_reader.specs.PlanView.{IsPlan, PlanView};
 ghost use Rattle.stream_ops.specs.Times.{IsTime};
 ghost use Rattle.std.specs.Prelude.{◌≡◌, ◌<◌, ◌≤◌, ◌+◌, ◌++◌, ◌∷◌, [], All, List, None, Some, IfNone, IfOk, IfSome, OnErr, OnOk, length, slice_get};
 ghost use Rattle.tuple_edge.specs.Input.{Input};
-ghost use Rattle.tuple_edge.specs.declared.event.Worked.TheVariants.{Idle};
+ghost use Rattle.tuple_edge.specs.declared.event.Worked.TheVariants.{Did, Idle};
 ghost use Rattle.tuple_edge.specs.declared.node.NodeId.TheVariants as node;
 
-use crate::making::{given_at, make_with_room};
+use crate::making::{input_at, make_with_room};
 use flux_producer::{Due, Producer};
 use node_edges::{copy_of, which_at};
 use plan_reader::{Plan, Stage};
@@ -34,23 +34,14 @@ pub struct Ingress {
 }
 
 impl Model for Ingress {
-    ghost use Rattle.ingress_egress.specs.IngressView.{AreWide, HaveMadeAtMost, IngressView};
-    ghost use Rattle.trade_text.specs.Limits.{max_inputs};
+    ghost use Rattle.ingress_egress.specs.IngressView.{IngressView, IsIngress};
     ghost use Rattle.trade_text.specs.TradesView.{paired};
-    ghost use Rattle.tuple_edge.specs.Input.{Input};
-    ghost use Rattle.tuple_edge.specs.Limits.{edge_limit};
-    ghost use Rattle.stream_ops.specs.Times.{IsTime};
-    ghost use Rattle.std.specs.Prelude.{◌≤◌, ◌<◌, ◌+◌, ◌*◌, All, length};
 
     ghost Value = { IngressView };
 
     ghost view = { λ i. record { inputs = paired i.rows.items i.sources.items; first = i.first; mark = i.mark; makes = i.makes; producers = i.producers.items } };
 
-    // There are few inputs, and a make gives at most two items to an edge, so no number of an item ever
-    // passes its limit. The time of each is within its limits, as it is in the trades.
-    ghost invariant = { λ i. (1 ≤ i.first.parts) × (1 ≤ i.mark) × (length i.rows.items ≤ max_inputs) × (i.makes ≤ length i.rows.items + 1)
-        × (length i.producers.items < edge_limit) × AreWide i.first.parts i.producers.items × HaveMadeAtMost (2 * i.makes) i.producers.items
-        × All (λ (input : Input). IsTime input.row.time) (paired i.rows.items i.sources.items) };
+    ghost invariant = { λ i. IsIngress i.rows.items i.sources.items i.first i.mark i.makes i.producers.items };
 }
 
 // The first stage of a plan.
@@ -149,7 +140,7 @@ impl Ingress {
         if self.makes > self.rows.len() as u64 {
             return Ok(Worked::Idle);
         }
-        let input = given_at(&self.rows, &self.sources, self.makes as usize);
+        let input = input_at(&self.rows, &self.sources, self.makes as usize);
         let stamp = self.makes + 1;
         make_with_room(&mut self.producers, &self.first, self.mark, stamp, input)?;
         self.makes = stamp;
@@ -162,6 +153,7 @@ impl Ingress {
         ensures worked { IfOk result (λ w. w ≡ (working self.old).worked) }
         ensures after { OnOk result (self.new ≡ (working self.old).after) }
         ensures packets { OnOk result (out.new.packets ≡ out.old.packets ++ (working self.old).sent) }
+        ensures one { IfOk result (λ w. w ≡ Did → length out.new.packets ≡ length out.old.packets + 1) }
         // Where nothing is due, or memory is wanting, nothing changes.
         ensures idle { IfOk result (λ w. w ≡ Idle → (self.new ≡ self.old) × (out.new ≡ out.old)) }
         ensures unchanged { OnErr result ((self.new ≡ self.old) × (out.new ≡ out.old)) }
@@ -182,6 +174,7 @@ impl Ingress {
         ensures worked { IfOk result (λ w. w ≡ (working self.old).worked) }
         ensures after { OnOk result (self.new ≡ (working self.old).after) }
         ensures packets { OnOk result (out.new.packets ≡ out.old.packets ++ (working self.old).sent) }
+        ensures one { IfOk result (λ w. w ≡ Did → length out.new.packets ≡ length out.old.packets + 1) }
         ensures idle { IfOk result (λ w. w ≡ Idle → (self.new ≡ self.old) × (out.new ≡ out.old)) }
         ensures unchanged { OnErr result ((self.new ≡ self.old) × (out.new ≡ out.old)) }
         ensures wide { AreWide self.old.first.parts self.old.producers }

@@ -14,4 +14,4 @@ mod making;
 
 pub use egress::Egress;
 pub use ingress::Ingress;
-pub use making::{Given, make_at};
+pub use making::make_at;

@@ -1,6 +1,6 @@
 // One make at ingress: what is produced on the edges of each source.
 ghost use Rattle.flux_producer.specs.ProducerView.{HasRoom, MayGrow, contents_of};
-ghost use Rattle.ingress_egress.specs.IngressView.{AreWide, EachHasRoom, MayMake, MayMakeMore, any_input_of, input_of, producer_in};
+ghost use Rattle.ingress_egress.specs.IngressView.{AreWide, EachHasRoom, MayMake, MayMakeMore, producer_in};
 ghost use Rattle.trade_text.specs.TradesView.{paired};
 ghost use Rattle.node_edges.specs.OutEdges.{HasMade};
 ghost use Rattle.pair_machine.specs.CountLaws.{made_for};
@@ -12,28 +12,21 @@ ghost use Rattle.tuple_edge.specs.declared.item.Item.TheVariants as item;
 
 use flux_producer::Producer;
 use plan_reader::Stage;
-use tuple_edge::{Item, OutOfMemory, Row, route};
-
-/// An input: a row with its source.
-#[derive(Clone, Copy)]
-pub struct Given {
-    pub source: u32,
-    pub row: Row,
-}
+use tuple_edge::{Input, Item, OutOfMemory, Row, route};
 
 // The row of an input goes on the one edge of its own source that routing names.
-fn make_row(producer: &mut Producer, source: u32, first: &Stage, stamp: u64, given: Given)
+fn make_row(producer: &mut Producer, source: u32, first: &Stage, stamp: u64, input: Input)
     requires room { HasRoom producer.old.edges 2 }
     requires fits { MayMakeMore 2 producer.old }
     requires parts { 1 ≤ first.now.parts }
     requires targets { length producer.old.edges ≡ first.now.parts }
-    ensures made { HasMade (λ t. edge_to (Some first.now) t (row_of_source source stamp (input_of given))) producer.old producer.new }
+    ensures made { HasMade (λ t. edge_to (Some first.now) t (row_of_source source stamp input)) producer.old producer.new }
     ensures room { HasRoom producer.new.edges 1 }
-    ensures fits { MayGrow producer.new.edges }
+    ensures fits { MayGrow producer.new.edges 1 }
 {
-    if given.source == source {
-        let to = route(&given.row, first.by, first.parts);
-        let row = given.row;
+    if input.source == source {
+        let to = route(&input.row, first.by, first.parts);
+        let row = input.row;
         let _number = producer.emit(to, Item::Row { stamp, row });
     }
 }
@@ -41,7 +34,7 @@ fn make_row(producer: &mut Producer, source: u32, first: &Stage, stamp: u64, giv
 // A mark, where one follows the input of this stamp, goes on all edges.
 fn make_mark(producer: &mut Producer, mark: u64, stamp: u64)
     requires room { HasRoom producer.old.edges 1 }
-    requires fits { MayGrow producer.old.edges }
+    requires fits { MayGrow producer.old.edges 1 }
     requires mark { 1 ≤ mark }
     ensures made { HasMade (λ t. mark_after mark stamp) producer.old producer.new }
 {
@@ -57,14 +50,14 @@ pub fn make_at(
     first: &Stage,
     mark: u64,
     stamp: u64,
-    input: Option<Given>,
+    input: Option<Input>,
 )
     requires room { HasRoom producer.old.edges 2 }
     requires fits { MayMakeMore 2 producer.old }
     requires parts { 1 ≤ first.now.parts }
     requires targets { length producer.old.edges ≡ first.now.parts }
     requires mark { 1 ≤ mark }
-    ensures { HasMade (λ t. edge_to (Some first.now) t (made_for source mark stamp (any_input_of input))) producer.old producer.new }
+    ensures { HasMade (λ t. edge_to (Some first.now) t (made_for source mark stamp input)) producer.old producer.new }
 {
     match input {
         None => producer.emit_to_all(Item::End { stamp }),
@@ -81,7 +74,7 @@ fn make_each(
     first: &Stage,
     mark: u64,
     stamp: u64,
-    input: Option<Given>,
+    input: Option<Input>,
 )
     requires few { length producers.old.items < edge_limit }
     requires wide { AreWide first.now.parts producers.old.items }
@@ -91,7 +84,7 @@ fn make_each(
     requires mark { 1 ≤ mark }
     ensures len { length producers.new.items ≡ length producers.old.items }
     ensures made { (q : ℕ) → q < length producers.old.items
-        → HasMade (λ t. edge_to (Some first.now) t (made_for q mark stamp (any_input_of input)))
+        → HasMade (λ t. edge_to (Some first.now) t (made_for q mark stamp input))
         (producer_in producers.old.items q) (producer_in producers.new.items q) }
 {
     for source in 0..producers.len() {
@@ -137,23 +130,23 @@ fn make_row_alone(
     producers: &mut Vec<Producer>,
     first: &Stage,
     stamp: u64,
-    given: Given,
+    input: Input,
 ) -> Result<(), OutOfMemory>
     requires wide { AreWide first.now.parts producers.old.items }
     requires fits { MayMake 2 producers.old.items }
     requires parts { 1 ≤ first.now.parts }
     ensures len { length producers.new.items ≡ length producers.old.items }
     ensures made { OnOk result ((q : ℕ) → q < length producers.old.items
-        → HasMade (λ t. edge_to (Some first.now) t (row_of_source q stamp (input_of given)))
+        → HasMade (λ t. edge_to (Some first.now) t (row_of_source q stamp input))
         (producer_in producers.old.items q) (producer_in producers.new.items q)) }
     ensures unchanged { OnErr result (producers.new.items ≡ producers.old.items) }
 {
-    let source = given.source as usize;
+    let source = input.source as usize;
     if source >= producers.len() {
         // Nobody sends the rows of a source that isn't there.
         return Ok(());
     }
-    emit_row(&mut producers[source], first, stamp, given.row)
+    emit_row(&mut producers[source], first, stamp, input.row)
 }
 
 // Makes room on every edge for what one make gives of each source, and produces it.
@@ -162,7 +155,7 @@ fn make_on_all(
     first: &Stage,
     mark: u64,
     stamp: u64,
-    input: Option<Given>,
+    input: Option<Input>,
 ) -> Result<(), OutOfMemory>
     requires few { length producers.old.items < edge_limit }
     requires wide { AreWide first.now.parts producers.old.items }
@@ -171,7 +164,7 @@ fn make_on_all(
     requires mark { 1 ≤ mark }
     ensures len { length producers.new.items ≡ length producers.old.items }
     ensures made { OnOk result ((q : ℕ) → q < length producers.old.items
-        → HasMade (λ t. edge_to (Some first.now) t (made_for q mark stamp (any_input_of input)))
+        → HasMade (λ t. edge_to (Some first.now) t (made_for q mark stamp input))
         (producer_in producers.old.items q) (producer_in producers.new.items q)) }
     ensures contents { OnErr result (map contents_of producers.new.items ≡ map contents_of producers.old.items) }
 {
@@ -187,7 +180,7 @@ pub(crate) fn make_with_room(
     first: &Stage,
     mark: u64,
     stamp: u64,
-    input: Option<Given>,
+    input: Option<Input>,
 ) -> Result<(), OutOfMemory>
     requires few { length producers.old.items < edge_limit }
     requires wide { AreWide first.now.parts producers.old.items }
@@ -196,7 +189,7 @@ pub(crate) fn make_with_room(
     requires mark { 1 ≤ mark }
     ensures len { length producers.new.items ≡ length producers.old.items }
     ensures made { OnOk result ((q : ℕ) → q < length producers.old.items
-        → HasMade (λ t. edge_to (Some first.now) t (made_for q mark stamp (any_input_of input)))
+        → HasMade (λ t. edge_to (Some first.now) t (made_for q mark stamp input))
         (producer_in producers.old.items q) (producer_in producers.new.items q)) }
     ensures contents { OnErr result (map contents_of producers.new.items ≡ map contents_of producers.old.items) }
 {
@@ -210,12 +203,12 @@ pub(crate) fn make_with_room(
 }
 
 // The input at a place, from 0, if there is one.
-pub(crate) fn given_at(rows: &[Row], sources: &[u32], nth: usize) -> Option<Given>
-    ensures { any_input_of result ≡ slice_get (paired rows.now sources.now) nth }
+pub(crate) fn input_at(rows: &[Row], sources: &[u32], nth: usize) -> Option<Input>
+    ensures { result ≡ slice_get (paired rows.now sources.now) nth }
 {
     match rows.get(nth) {
         None => None,
-        Some(row) => Some(Given {
+        Some(row) => Some(Input {
             source: source_at(sources, nth),
             row: *row,
         }),

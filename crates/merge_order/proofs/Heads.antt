@@ -1,5 +1,5 @@
 -- The least head, as the loop over the edges finds it: it is there, and it comes before the head of each other edge.
-use Rattle.std.proofs.Common.{◌≡◌, ◌≢◌, ◌<◌, ◌≤◌, ℕ, zero, suc, Bool, true, false, List, [], ◌∷◌, Option, None, Some, ◌+◌, ◌*◌, ◌⊎◌, inl, inr, refl, sym, ap, ◌∙◌, subst, arith, length}
+use Rattle.std.proofs.Common.{◌≡◌, ◌≢◌, ◌<◌, ◌≤◌, ℕ, zero, suc, Bool, true, false, List, [], ◌∷◌, Option, None, Some, ◌+◌, ◌*◌, ◌⊎◌, inl, inr, refl, sym, ap, ◌∙◌, subst, arith, drop, length}
 use Rattle.std.specs.Prelude.{◌==◌, nat_lt, if◌then◌else◌, fold, IfSome, IsTrue, is_some, slice_get, slice_index_or}
 use Rattle.std.proofs.lemmas.Bool.{cases_lt, eqb-true, eqb-false, ltb-true, ltb-false}
 use Rattle.tuple_edge.specs.declared.item.Item.{Item}
@@ -24,6 +24,14 @@ least_from_is q best ((i ∷ w) ∷ ws) = least_from_is (q + 1) (lesser best (he
 
 pub least_is : (ws : List (List Item)) → least ws ≡ least_from 0 None ws
 least_is ws = least_from_is 0 None ws
+
+-- the head of the first edge, and then those of the others
+pub least_begins : (ws : List (List Item)) (w : List Item) (i : Item) → Some w ≡ slice_get ws 0 → Some i ≡ slice_get w 0 → least ws ≡ least_from 1 (Some (head_at 0 i)) (drop 1 ws)
+least_begins [] w i first head = let z : ⊥ = cc first in absurd z
+least_begins ([] ∷ ws) w i first head = let z : ⊥ = cc (first, head) in absurd z
+least_begins ((j ∷ v) ∷ ws) w i first head =
+    let same : j ≡ i = cc (first, head) in
+    least_is ((j ∷ v) ∷ ws) ∙ ap (λ k. least_from 1 (Some (head_at 0 k)) ws) same
 
 -- where nothing was found yet, or something of an earlier source ---------------------------------
 

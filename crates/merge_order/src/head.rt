@@ -1,7 +1,7 @@
 // The heads of the edges, and the least of them.
 ghost use Rattle.std.specs.Prelude.{◌≡◌, ◌<◌, Some, length};
 ghost use Rattle.tuple_edge.specs.Limits.{edge_limit};
-ghost use Rattle.merge_order.specs.MergeView.{all_wait, least, lesser};
+ghost use Rattle.merge_order.specs.MergeView.{all_wait, least};
 
 use crate::queue::Queue;
 use tuple_edge::Item;
@@ -25,34 +25,23 @@ pub(crate) fn all_waiting(queues: &[Queue]) -> bool
     true
 }
 
-/// The least of the heads, where each queue has one.
+/// The least of the heads by stamp, kind and source, where each queue has one.
 pub(crate) fn least_head(queues: &[Queue]) -> Option<Head>
     requires { length queues.now < edge_limit }
     ensures { result ≡ least queues.now }
 {
-    let mut best = None;
-    for (source, queue) in queues.iter().enumerate() {
-        let head = Head {
-            source: source as u32,
-            item: queue.get(0)?,
-        };
-        best = lesser(best, head);
-    }
-    best
-}
-
-// The lesser of two heads, by stamp, kind and source.
-fn lesser(best: Option<Head>, head: Head) -> Option<Head>
-    ensures { result ≡ lesser best head }
-{
-    match best {
-        None => Some(head),
-        Some(other) => {
-            if head.item.before(&other.item, head.source, other.source) {
-                Some(head)
-            } else {
-                Some(other)
-            }
+    // The heads are compared where they stand; only the least one is copied.
+    let mut least = queues.first()?.first()?;
+    let mut source = 0;
+    for place in 1..queues.len() {
+        let head = queues[place].first()?;
+        if head.before(least, place as u32, source) {
+            least = head;
+            source = place as u32;
         }
     }
+    Some(Head {
+        source,
+        item: *least,
+    })
 }

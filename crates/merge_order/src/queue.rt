@@ -1,5 +1,5 @@
 // The items that wait on one edge, as a queue that contracts see as a list.
-ghost use Rattle.std.specs.Prelude.{◌≡◌, ◌∷◌, ◌++◌, [], OnErr, OnOk, drop, length, map, slice_get};
+ghost use Rattle.std.specs.Prelude.{◌≡◌, ◌∷◌, ◌++◌, [], OnErr, OnOk, drop, length, map, option_copied, slice_get};
 ghost use Rattle.merge_order.specs.MergeView.{is_alike, without};
 
 use std::alloc::Global;
@@ -44,6 +44,13 @@ impl Queue {
         self.items.get(nth).copied()
     }
 
+    /// The first item, where it stands.
+    pub(crate) fn first(&self) -> Option<&Item>
+        ensures { option_copied result ≡ slice_get self.now 0 }
+    {
+        self.items.front()
+    }
+
     pub(crate) fn push(&mut self, item: Item) -> Result<(), OutOfMemory>
         ensures pushed { OnOk result (self.new ≡ self.old ++ item ∷ []) }
         ensures unchanged { OnErr result (self.new ≡ self.old) }
@@ -63,13 +70,8 @@ impl Queue {
     fn pop_sign(&mut self, sign: &Item)
         ensures { self.new ≡ without sign.now self.old }
     {
-        match self.get(0) {
-            None => {}
-            Some(first) => {
-                if is_alike(sign, &first) {
-                    self.pop();
-                }
-            }
+        if self.first().is_some_and(|first| is_alike(sign, first)) {
+            self.pop();
         }
     }
 }

@@ -1,11 +1,10 @@
 -- When a producer in code stands for a producer of the machine: each of its buffers holds the items of its edge that are numbered above
 -- low up to what was made, and its cursors, its term and whether it leads are the machine's.
-use Rattle.std.specs.Prelude.{◌≡◌, ◌<◌, ◌≤◌, ◌+◌, ℕ, List, [], ◌∷◌, ◌++◌, Option, None, Some, length, take}
-use Rattle.tuple_edge.specs.Limits.{number_limit}
+use Rattle.std.specs.Prelude.{◌≡◌, ◌<◌, ◌≤◌, ℕ, List, [], ◌∷◌, ◌++◌, Option, None, Some, length, take}
 use Rattle.tuple_edge.specs.declared.item.Item.{Item}
 use Rattle.tuple_edge.specs.declared.node.EdgeId.{EdgeId}
 use Rattle.flux_producer.specs.OutEdge.{OutEdgeView, with_item}
-use Rattle.flux_producer.specs.ProducerView.{ProducerView, buffer_at, edge_at, without_room}
+use Rattle.flux_producer.specs.ProducerView.{MayGrow, ProducerView, edge_at, without_room}
 use Rattle.flux_producer.specs.declared.due.Due.{Due as Sending}
 use Rattle.pair_machine.specs.Contents.{between}
 use Rattle.pair_machine.specs.Flow.{Flow}
@@ -59,7 +58,7 @@ pub record HasMade (news : ℕ → List Item) (y z : ProducerView) : Type 0 wher
 
 -- each edge of a producer may have so many more items
 abbrev pub MayMakeMore : ℕ → ProducerView → Type 0
-MayMakeMore more y = (t : ℕ) → t < length y.edges → (buffer_at y t).produced + more < number_limit
+MayMakeMore more y = MayGrow y.edges more
 
 -- the next items of an edge, of which so many were made, are these
 pub record AreNext (items : List Item) (made later : ℕ) (news : List Item) : Type 0 where

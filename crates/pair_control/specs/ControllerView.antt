@@ -1,5 +1,5 @@
 -- What contracts see of a controller, and the machine's numbers that it has.
-use Rattle.std.specs.Prelude.{◌≡◌, ◌≢◌, ◌⊎◌, ℕ, Bool, List, Option, MatchOption, max, slice_index}
+use Rattle.std.specs.Prelude.{◌≡◌, ◌≢◌, ◌≤◌, ◌⊎◌, ℕ, Bool, List, Option, MatchOption, length, max, slice_index}
 use Rattle.tuple_edge.specs.declared.node.Which.{Which}
 use Rattle.tuple_edge.specs.declared.node.Which.TheVariants.{A, B}
 use Rattle.tuple_edge.specs.declared.status.Status.{Status}
@@ -39,6 +39,15 @@ watched_of c w = by_which c.a c.b w
 -- who leads is up, and where nobody leads neither replica is
 abbrev pub IsLed : Option Which → Status → Status → Type 0
 IsLed leader a b = MatchOption leader ((a ≢ status.Up) × (b ≢ status.Up)) (λ w. by_which a b w ≡ status.Up)
+
+-- What is true of each controller: it is of a stage, it has few in-edges and knows what either replica reported of each of them, and who
+-- leads is up.
+pub record IsPairControl (stage : ℕ) (a b : WatchedView) (acked : List ℕ) (leader : Option Which) : Type 0 where
+  pub stage_counts : 1 ≤ stage
+  pub few_edges : length acked ≤ 8
+  pub a_reports : length a.reports ≡ length acked
+  pub b_reports : length b.reports ≡ length acked
+  pub led : IsLed leader a.status b.status
 
 -- not both replicas are up
 abbrev pub IsOneAway : ControllerView → Type 0

@@ -33,8 +33,7 @@ pub struct PairControl {
 }
 
 impl Model for PairControl {
-    ghost use Rattle.pair_control.specs.ControllerView.{ControllerView, IsLed};
-    ghost use Rattle.std.specs.Prelude.{◌≡◌, ◌≤◌, length};
+    ghost use Rattle.pair_control.specs.ControllerView.{ControllerView, IsPairControl};
 
     ghost Value = { ControllerView };
 
@@ -48,9 +47,7 @@ impl Model for PairControl {
       leader = c.leader;
     } };
 
-    ghost invariant = { λ c. (1 ≤ c.stage) × (length c.acked.items ≤ 8)
-        × (length c.a.reports ≡ length c.acked.items) × (length c.b.reports ≡ length c.acked.items)
-        × IsLed c.leader c.a.status c.b.status };
+    ghost invariant = { λ c. IsPairControl c.stage c.a c.b c.acked.items c.leader };
 }
 
 impl PairControl {

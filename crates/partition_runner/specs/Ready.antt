@@ -1,5 +1,8 @@
 -- The nodes of a run before their first turn.
-use Rattle.std.specs.Prelude.{◌≡◌, true, List}
+use Rattle.std.specs.Prelude.{◌≡◌, ◌<◌, ◌≤◌, ℕ, true, List, [], length, map}
+use Rattle.claim_board.specs.Board.{AllHoldNone, AreAll, opening_of}
+use Rattle.claim_board.specs.declared.board.Board.{Board}
+use Rattle.claim_board.specs.declared.seat.BoardSeat.{BoardSeat}
 use Rattle.plan_reader.specs.PlanView.{PlanView}
 use Rattle.pair_machine.specs.Lists.{Each}
 use Rattle.linked_run.specs.Drafts.{LeadsToAll}
@@ -7,6 +10,8 @@ use Rattle.linked_run.specs.Linked.{AreLinked, ids_of}
 use Rattle.plan_nodes.specs.NodeOrder.{nodes_of}
 use Rattle.run_node.specs.NodeView.{NodeName}
 use Rattle.linked_run.specs.Runs.{any_tapped}
+use Rattle.partition_runner.specs.Sorted.{AreSorted}
+use Rattle.partition_runner.specs.declared.sorting.Sorted.{Sorted}
 
 -- these are the plan's nodes in their order, each in-link is another one's link to it, and one has a tap
 pub record AreNodesOf (plan : PlanView) (names : List NodeName) : Type 0 where
@@ -18,3 +23,15 @@ pub record AreNodesOf (plan : PlanView) (names : List NodeName) : Type 0 where
 pub record HaveTheirLinks (plan : PlanView) (names : List NodeName) : Type 0 where
   pub nodes : AreNodesOf plan names
   pub leads : Each (λ m. LeadsToAll plan m (nodes_of plan)) names
+
+-- all nodes of a plan, by their names, are on a board with its seats, and there is room for what is left of so many nodes: a list
+-- of this length and capacity, and one for each kind
+pub record IsReady {T : Type 0} (name : T → NodeName) (plan : PlanView) (board : Board T) (given : List (BoardSeat T)) (places held capacity : ℕ) (kinds : Sorted) : Type 0 where
+  pub some : 0 < places
+  pub opened : length (opening_of board) ≡ places
+  pub seats : AreAll board given
+  pub free : AllHoldNone given
+  pub nodes : AreNodesOf plan (map name (opening_of board))
+  pub empty : held ≡ 0
+  pub room : places ≤ capacity
+  pub sorted : AreSorted [] kinds

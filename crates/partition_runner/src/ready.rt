@@ -53,19 +53,17 @@ pub(crate) struct Ready<N: RunNames, M: Links, T: Tap> {
 }
 
 impl<N: RunNames, M: Links, T: Tap> Model for Ready<N, M, T> {
-    ghost use Rattle.claim_board.specs.Board.{AllHoldNone, AreAll, opening_of};
-    ghost use Rattle.partition_runner.specs.Ready.{AreNodesOf};
-    ghost use Rattle.partition_runner.specs.Sorted.{AreSorted};
+    ghost use Rattle.claim_board.specs.Board.{opening_of};
+    ghost use Rattle.partition_runner.specs.Ready.{IsReady};
     ghost use Rattle.run_node.specs.NodeView.{NodeName, name_of};
     ghost use Rattle.plan_nodes.specs.States.{id_of};
-    ghost use Rattle.std.specs.Prelude.{◌≡◌, ◌<◌, ◌≤◌, [], List, length, map, vec_capacity, vec_len};
+    ghost use Rattle.std.specs.Prelude.{List, map, vec_capacity, vec_len};
 
     ghost Value = { List NodeName };
 
     ghost view = { λ r. map (name_of id_of) (opening_of r.board) };
 
-    ghost invariant = { λ r. ((0 < r.places) × (length (opening_of r.board) ≡ r.places)) × (AreAll r.board r.seats.items × AllHoldNone r.seats.items)
-        × AreNodesOf N.plan (map (name_of id_of) (opening_of r.board)) × ((vec_len r.room.parts ≡ 0) × (r.places ≤ vec_capacity r.room.parts)) × AreSorted [] r.room.sorted };
+    ghost invariant = { λ r. IsReady (name_of id_of) N.plan r.board r.seats.items r.places (vec_len r.room.parts) (vec_capacity r.room.parts) r.room.sorted };
 }
 
 /// Makes the nodes, their links and the board for so many workers.

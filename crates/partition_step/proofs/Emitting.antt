@@ -1,14 +1,13 @@
 -- What producing rows one after another leaves.
-use Rattle.std.proofs.Common.{◌≡◌, ◌<◌, ◌≤◌, ◌+◌, ℕ, zero, suc, List, [], ◌∷◌, ◌++◌, Option, None, Some, Result, Ok, Err, OnOk, length, map, take, refl, sym, ap, ◌∙◌, subst, arith}
+use Rattle.std.proofs.Common.{◌≡◌, ◌<◌, ◌≤◌, ◌+◌, ℕ, zero, suc, List, [], ◌∷◌, ◌++◌, Option, None, Some, Result, Ok, Err, OnOk, length, take, refl, sym, ap, ◌∙◌, subst, arith}
 use Rattle.std.specs.Prelude.{slice_index_or}
-use Rattle.std.proofs.lemmas.List.{length-map, map-append, take_all}
+use Rattle.std.proofs.lemmas.List.{map-append, take_all}
 use Rattle.tuple_edge.specs.declared.item.Item.{Item}
 use Rattle.tuple_edge.specs.declared.item.Item.TheVariants as item
 use Rattle.tuple_edge.specs.declared.row.Row.{Row}
 use Rattle.tuple_edge.specs.Item.{stamp_of}
 use Rattle.tuple_edge.specs.Limits.{number_limit}
-use Rattle.flux_producer.specs.OutEdge.{OutEdgeView, unused}
-use Rattle.flux_producer.specs.ProducerView.{HasRoom, ProducerView, buffer_at, contents_of, without_room}
+use Rattle.flux_producer.specs.ProducerView.{HasRoom, ProducerView, buffer_at}
 use Rattle.plan_reader.specs.declared.stage.Stage.{Stage}
 use Rattle.pair_machine.specs.Edges.{edge_to, passed, stamped}
 use Rattle.pair_machine.proofs.Made.{edge_to-append}
@@ -91,26 +90,6 @@ answer_emitted next stamp rows i y z w same first news =
     ∙ sym (edge_to-append next t (stamped stamp rows) (passed i))
     ∙ ap (λ s. edge_to next t (stamped s rows ++ passed i)) same)
     (made_both (λ t. edge_to next t (stamped stamp rows)) (λ t. passed i) y z w first news)
-
--- ---- room that was made
-
-same_made : (one other : List OutEdgeView) → map without_room one ≡ map without_room other → (t : ℕ) → (slice_index_or one t unused).buffer.produced ≡ (slice_index_or other t unused).buffer.produced
-same_made [] [] e t = refl
-same_made [] (y ∷ other) e t = let z : ⊥ = cc e in absurd z
-same_made (x ∷ one) [] e t = let z : ⊥ = cc e in absurd z
-same_made (x ∷ one) (y ∷ other) e zero = let z : without_room x ≡ without_room y = cc e in ap (λ (w : OutEdgeView). w.buffer.produced) z
-same_made (x ∷ one) (y ∷ other) e (suc t) = same_made one other (let z : map without_room one ≡ map without_room other = cc e in z) t
-
-pub may_still : (items : ℕ) (y z : ProducerView) → contents_of z ≡ contents_of y → MayMakeMore items y → MayMakeMore items z
-may_still items y z same may t l =
-    let edges : map without_room z.edges ≡ map without_room y.edges = ap (λ (p : ProducerView). p.edges) same in
-    let many : length z.edges ≡ length y.edges = sym (length-map z.edges without_room) ∙ ap length edges ∙ length-map y.edges without_room in
-    let made = same_made z.edges y.edges edges t in
-    let h = may t (omega arith) in omega arith
-
-pub when_ok : {X Y : Type 0} (r : Result X Y) (P : Type 0) → P → OnOk r P
-when_ok (Ok x) P h = h
-when_ok (Err e) P h = tt
 
 -- what follows from what holds where a call succeeds
 pub on_ok : {X Y : Type 0} (r : Result X Y) (P Q : Type 0) → (P → Q) → OnOk r P → OnOk r Q

@@ -3,25 +3,13 @@ ghost use Rattle.flux_producer.specs.ProducerView.{HasRoom, contents_of};
 ghost use Rattle.node_edges.specs.OutEdges.{HasMade, MayMakeMore};
 ghost use Rattle.pair_machine.specs.Edges.{edge_to, passed, stamped};
 ghost use Rattle.partition_step.specs.Answering.{HasParts, TakesOne, target_at, targets_of};
-ghost use Rattle.std.specs.Prelude.{◌≡◌, ◌<◌, ◌+◌, ◌++◌, ◌∷◌, ◌↔◌, [], IsTrue, OnOk, length};
+ghost use Rattle.std.specs.Prelude.{◌≡◌, ◌<◌, ◌+◌, ◌++◌, ◌∷◌, [], OnOk, length};
 ghost use Rattle.tuple_edge.specs.Item.{stamp_of};
 ghost use Rattle.tuple_edge.specs.declared.item.Item.TheVariants as item;
 
 use flux_producer::Producer;
 use plan_reader::Stage;
-use tuple_edge::{Item, NUMBER_LIMIT, OutOfMemory, Row, route};
-
-// Whether each edge may have so many more items.
-fn may_make(producer: &Producer, items: u64) -> bool
-    ensures { IsTrue result ↔ MayMakeMore items producer.now }
-{
-    for to in 0..producer.edges() {
-        if items >= NUMBER_LIMIT - producer.buffer(to).produced() {
-            return false;
-        }
-    }
-    true
-}
+use tuple_edge::{Item, OutOfMemory, Row, route};
 
 /// Makes room on every edge for so many more items. Numbers of items past their limit are answered as want
 /// of memory: no memory holds that many.
@@ -30,10 +18,7 @@ pub fn make_room(producer: &mut Producer, items: u64) -> Result<(), OutOfMemory>
     ensures room { OnOk result (HasRoom producer.new.edges items) }
     ensures fits { OnOk result (MayMakeMore items producer.new) }
 {
-    if !may_make(producer, items) {
-        return Err(OutOfMemory);
-    }
-    producer.reserve(items)
+    producer.make_room(items)
 }
 
 // The target of a row: the partition of the next stage that routing names, or egress.

@@ -1,10 +1,9 @@
 -- What comes of a task, from what the calls of the four kinds of nodes say.
 use Rattle.std.proofs.Common.{◌≡◌, ◌∙◌, ◌≤◌, ◌+◌, ℕ, List, [], ◌++◌, None, Result, Ok, Err, length, drop, refl, sym, ap, subst, arith, append-nil}
-use Rattle.std.specs.Prelude.{IfOk, OnErr, OnOk}
+use Rattle.std.specs.Prelude.{IfOk, OnErr}
 use Rattle.std.proofs.lemmas.List.{take-append-drop}
 use mathlib.Core.List.{IsPrefix}
 use Rattle.tuple_edge.specs.Input.{Input}
-use Rattle.tuple_edge.specs.Outbox.{OutboxView}
 use Rattle.tuple_edge.specs.declared.event.Event.TheVariants as event
 use Rattle.tuple_edge.specs.declared.event.Worked.{Worked}
 use Rattle.tuple_edge.specs.declared.event.Worked.TheVariants.{Did, Idle}
@@ -24,25 +23,24 @@ use Rattle.pair_machine.specs.Machine.{at_node, partner_node}
 use Rattle.pair_machine.specs.Numbers.{Node}
 use Rattle.pair_machine.specs.Receivers.{GoOverLinks, appended}
 use Rattle.ingress_egress.specs.EgressStands as egress
-use Rattle.ingress_egress.specs.EgressView.{EgressView, IsFrontOf, working}
+use Rattle.ingress_egress.specs.EgressView.{EgressView, IsFrontOf}
 use Rattle.ingress_egress.specs.IngressStands as ingress
-use Rattle.ingress_egress.specs.IngressView.{IngressView, contents_in as ingress_contents, working as sending}
+use Rattle.ingress_egress.specs.IngressView.{IngressView, contents_in as ingress_contents}
 use Rattle.pair_control.specs.ControllerView.{ControllerView}
 use Rattle.pair_control.specs.Packets.{packets_of, taking}
 use Rattle.pair_control.specs.StandsFor as control
 use Rattle.replica_node.specs.Course.{AreTimely}
 use Rattle.replica_node.specs.Course as course
 use Rattle.replica_node.specs.ReplicaView.{ReplicaView, node_of}
-use Rattle.replica_node.specs.Rules.{contents_in}
 use Rattle.replica_node.specs.StandsFor as replica
-use Rattle.plan_nodes.specs.States.{HasActed, IsOfPlan, StandsFor, id_of, rows_of}
+use Rattle.plan_nodes.specs.States.{HasActed, HasTaken, IsOfPlan, StandsFor, id_of, rows_of}
 use Rattle.tuple_edge.specs.Limits.{most_packets}
 use Rattle.run_node.specs.Tasks.{DoesStep, event_of, packet_of}
 use Rattle.run_node.specs.declared.acts.Task.{Task}
 use Rattle.run_node.specs.declared.acts.Task.TheVariants as task
 use Rattle.plan_nodes.specs.declared.state.NodeState.{NodeState}
 use Rattle.plan_nodes.specs.declared.state.NodeState.TheVariants as state
-use Rattle.plan_nodes.proofs.Room.{ingress_stays, replica_stays}
+use Rattle.plan_nodes.proofs.Room.{ingress_stays}
 
 module _ (old new : NodeState) (t : Task) (packets : List (NodeId × Body)) where
   -- it is a step
@@ -92,6 +90,15 @@ module _ (old new : NodeState) (t : Task) (packets : List (NodeId × Body)) wher
     rows = rows;
   }
 
+-- the task of taking a packet does what the packet does
+pub acted_by_take : (old new : NodeState) (from : NodeId) (index : ℕ) (packet : Packet) (t : Task) (result : Result Worked OutOfMemory) (packets : List (NodeId × Body)) → t ≡ task.Take from index packet → HasTaken old new from packet result packets →
+    HasActed old new t result packets
+acted_by_take old new from index packet t result packets is take = subst (λ x. HasActed old new x result packets) (sym is) (take index)
+
+-- nothing was sent before, nor by it
+pub taken_quietly : (old new : NodeState) (from : NodeId) (packet : Packet) (result : Result Worked OutOfMemory) (packets : List (NodeId × Body)) → packets ≡ [] → HasTaken old new from packet result [] → HasTaken old new from packet result packets
+taken_quietly old new from packet result packets none take = subst (HasTaken old new from packet result) (sym none) take
+
 -- ---- helpers
 
 pub appended_is : (before after sent : List (NodeId × Body)) → before ≡ [] → after ≡ sent → appended before after ≡ sent
@@ -115,15 +122,17 @@ back_here node.Egress = refl
 
 -- ---- a controller
 
-pub control_takes : (old new : ControllerView) (from : NodeId) (index : ℕ) (packet : Packet) (t : Task) (before after : List (NodeId × Body)) → t ≡ task.Take from index packet → before ≡ [] →
-    after ≡ packets_of (taking old from packet.body).1 → ((plan : PlanView) (rows : List Input) → control.IsTaken plan rows old new from packet.body) → length after ≤ most_packets →
+pub control_takes : (old new : ControllerView) (from : NodeId) (packet : Packet) (before after : List (NodeId × Body)) → before ≡ [] → after ≡ before ++ packets_of (taking old from packet.body).1 →
+    ((plan : PlanView) (rows : List Input) → control.IsTaken plan rows old new from packet.body) → length after ≤ length before + 19 →
     ((plan : PlanView) → control.IsOfPlan plan old → GoOverLinks plan (control.node_of old) (appended before after)) → control.node_of new ≡ control.node_of old →
-    ((plan : PlanView) → control.IsOfPlan plan old → control.IsOfPlan plan new) → HasActed (state.Control old) (state.Control new) t (Ok Did) after
-control_takes old new from index packet t before after is none sent course few linked id of_plan =
+    ((plan : PlanView) → control.IsOfPlan plan old → control.IsOfPlan plan new) → HasTaken (state.Control old) (state.Control new) from packet (Ok Did) after
+control_takes old new from packet before after none more course few linked id of_plan = λ index.
     let k : Task = task.Take from index packet in
-    let step : DoesStep id_of StandsFor k (state.Control old) (state.Control new) after = subst (DoesStep id_of StandsFor k (state.Control old) (state.Control new)) (sym sent) (λ plan inputs hp ht clock. course plan inputs packet.at index clock) in
-    subst (λ x. HasActed (state.Control old) (state.Control new) x (Ok Did) after) (sym is)
-    (acted (state.Control old) (state.Control new) k after refl step few (λ plan h. subst (GoOverLinks plan (control.node_of old)) (appended_is before after after none refl) (linked plan h)) id of_plan (all_rows []))
+    let sent = packets_of (taking old from packet.body).1 in
+    let all : after ≡ sent = more ∙ ap (λ l. l ++ sent) none in
+    let short : length before ≡ 0 = ap length none in
+    let step : DoesStep id_of StandsFor k (state.Control old) (state.Control new) after = subst (DoesStep id_of StandsFor k (state.Control old) (state.Control new)) (sym all) (λ plan inputs hp ht clock. course plan inputs packet.at index clock) in
+    acted (state.Control old) (state.Control new) k after refl step (omega (arith, few, short)) (λ plan h. subst (GoOverLinks plan (control.node_of old)) (appended_is before after after none refl) (linked plan h)) id of_plan (all_rows [])
 
 -- ---- a replica
 
@@ -131,20 +140,21 @@ abbrev Steps : ReplicaView → ReplicaView → Task → List (NodeId × Body) �
 Steps old new k sent = (plan : PlanView) (inputs : List Input) → IsPlan plan → AreTimely inputs → (clock : ℕ) →
     IsStep (flow_of plan inputs) (BodyStands plan inputs) (Asks (flow_of plan inputs)) (node_of old.role) (replica.StandsFor plan inputs old) (replica.StandsFor plan inputs new) (event_of (node_of old.role) k) (packet_of k) (λ to. packets_to clock to sent)
 
-replica_steps : (old new : ReplicaView) (t k : Task) (after sent : List (NodeId × Body)) → t ≡ k → after ≡ sent → at_node (event_of (node_of old.role) k) ≡ node_of old.role → Steps old new k sent → length after ≤ most_packets →
+pub replica_steps : (old new : ReplicaView) (t k : Task) (after sent : List (NodeId × Body)) → t ≡ k → after ≡ sent → at_node (event_of (node_of old.role) k) ≡ node_of old.role → Steps old new k sent → length after ≤ most_packets →
     ((plan : PlanView) → replica.IsOfPlan plan old.role → GoOverLinks plan (node_of old.role) sent) → new.role ≡ old.role → HasActed (state.Replica old) (state.Replica new) t (Ok Did) after
 replica_steps old new t k after sent is same here step few linked role =
     subst (λ x. HasActed (state.Replica old) (state.Replica new) x (Ok Did) after) (sym is)
     (acted (state.Replica old) (state.Replica new) k after here (subst (DoesStep id_of StandsFor k (state.Replica old) (state.Replica new)) (sym same) step) few
     (λ plan h. subst (GoOverLinks plan (node_of old.role)) (sym same) (linked plan h)) (ap node_of role) (λ plan h. subst (replica.IsOfPlan plan) (sym role) h) (all_rows []))
 
-pub replica_takes : (old new : ReplicaView) (from : NodeId) (index : ℕ) (packet : Packet) (t : Task) (before after : List (NodeId × Body)) → t ≡ task.Take from index packet → before ≡ [] →
+pub replica_takes : (old new : ReplicaView) (from : NodeId) (packet : Packet) (before after : List (NodeId × Body)) → before ≡ [] →
     ((plan : PlanView) (inputs : List Input) → IsPlan plan → AreTimely inputs → course.IsTaken plan inputs old new from packet.body (appended before after)) → length after ≤ length before + 2 →
-    ((plan : PlanView) → replica.IsOfPlan plan old.role → GoOverLinks plan (node_of old.role) (appended before after)) → new.role ≡ old.role → HasActed (state.Replica old) (state.Replica new) t (Ok Did) after
-replica_takes old new from index packet t before after is none taken few linked role =
+    ((plan : PlanView) → replica.IsOfPlan plan old.role → GoOverLinks plan (node_of old.role) (appended before after)) → new.role ≡ old.role → HasTaken (state.Replica old) (state.Replica new) from packet (Ok Did) after
+replica_takes old new from packet before after none taken few linked role = λ index.
+    let k : Task = task.Take from index packet in
     let all : after ≡ appended before after = sym (appended_is before after after none refl) in
     let short : length before ≡ 0 = ap length none in
-    replica_steps old new t (task.Take from index packet) after (appended before after) is all refl (λ plan inputs hp ht clock. taken plan inputs hp ht clock packet.at index) (omega arith) linked role
+    replica_steps old new k k after (appended before after) refl all refl (λ plan inputs hp ht clock. taken plan inputs hp ht clock packet.at index) (omega arith) linked role
 
 pub replica_does : (old new : ReplicaView) (t k : Task) (before after sent : List (NodeId × Body)) → t ≡ k → before ≡ [] → after ≡ before ++ sent → at_node (event_of (node_of old.role) k) ≡ node_of old.role → packet_of k ≡ None →
     ((plan : PlanView) (inputs : List Input) → course.IsDone plan inputs old new sent (event_of (node_of old.role) k)) → length sent ≤ most_packets →
@@ -159,79 +169,19 @@ replica_does old new t k before after sent is none e here nothing done few linke
 pub back_at : (r : ReplicaView) → at_node (event_of (node_of r.role) task.AskBack) ≡ node_of r.role
 back_at r = back_here (node_of r.role)
 
-pub replica_works : (old new : ReplicaView) (t : Task) (result : Result Worked OutOfMemory) (before after : OutboxView) → t ≡ task.Work → before.packets ≡ [] →
-    IfOk result (λ w. w ≡ Idle → (new ≡ old) × (after ≡ before)) → OnErr result ((contents_in new ≡ contents_in old) × (after.packets ≡ before.packets)) → length after.packets ≤ length before.packets + 1 →
-    ((plan : PlanView) → replica.IsOfPlan plan old.role → GoOverLinks plan (node_of old.role) (appended before.packets after.packets)) → new.role ≡ old.role →
-    IfOk result (λ w. w ≡ Did → (plan : PlanView) (inputs : List Input) → IsPlan plan → course.IsWorked plan inputs old new (appended before.packets after.packets) w) → HasActed (state.Replica old) (state.Replica new) t result after.packets
-replica_works old new t (Ok Did) before after is none idle err few linked role worked =
-    let all : after.packets ≡ appended before.packets after.packets = sym (appended_is before.packets after.packets after.packets none refl) in
-    let short : length before.packets ≡ 0 = ap length none in
-    replica_steps old new t task.Work after.packets (appended before.packets after.packets) is all refl (λ plan inputs hp ht clock. worked refl plan inputs hp clock) (omega arith) linked role
-replica_works old new t (Ok Idle) before after is none idle err few linked role worked =
-    let z = idle refl in
-    idled (state.Replica old) (state.Replica new) t after.packets (ap state.Replica z.0) (ap (λ (o : OutboxView). o.packets) z.1 ∙ none)
-replica_works old new t (Err e) before after is none idle err few linked role worked =
-    failed (state.Replica old) (state.Replica new) t after.packets e (err.1 ∙ none) (λ plan inputs x h. replica_stays plan inputs old new x err.0 h) (ap node_of role) (λ plan h. subst (replica.IsOfPlan plan) (sym role) h) (all_rows [])
-
 -- ---- egress
 
-pub egress_takes : (old new : EgressView) (from : NodeId) (index : ℕ) (packet : Packet) (t : Task) (out : List (NodeId × Body)) → t ≡ task.Take from index packet → out ≡ [] →
-    ((plan : PlanView) (inputs : List Input) → IsPlan plan → egress.IsTaken plan inputs old new from packet.body) → ((plan : PlanView) → egress.IsOfPlan plan old → egress.IsOfPlan plan new) → new.emitted ≡ old.emitted →
-    HasActed (state.Egress old) (state.Egress new) t (Ok Did) out
-egress_takes old new from index packet t out is none taken of_plan emitted =
-    let k : Task = task.Take from index packet in
-    let step : DoesStep id_of StandsFor k (state.Egress old) (state.Egress new) out = subst (DoesStep id_of StandsFor k (state.Egress old) (state.Egress new)) (sym none) (λ plan inputs hp ht clock. taken plan inputs hp packet.at index) in
-    let short : length out ≡ 0 = ap length none in
-    subst (λ x. HasActed (state.Egress old) (state.Egress new) x (Ok Did) out) (sym is)
-    (acted (state.Egress old) (state.Egress new) k out refl step (omega arith) (λ plan h. subst (GoOverLinks plan node.Egress) (sym none) tt) refl of_plan (same_rows old.emitted new.emitted emitted))
-
-pub egress_works : (old new : EgressView) (t : Task) (result : Result Worked OutOfMemory) (before after : OutboxView) → t ≡ task.Work → before.packets ≡ [] →
-    OnOk result (after.packets ≡ before.packets ++ (working old).sent) →
-    IfOk result (λ w. w ≡ Idle → (new ≡ old) × (after ≡ before)) → OnErr result ((new ≡ old) × (after ≡ before)) → length after.packets ≤ length before.packets + 2 →
-    ((plan : PlanView) → egress.IsOfPlan plan old → GoOverLinks plan node.Egress (appended before.packets after.packets)) → ((plan : PlanView) → egress.IsOfPlan plan old → egress.IsOfPlan plan new) → IsFrontOf old.emitted new.emitted →
-    IfOk result (λ w. (plan : PlanView) (inputs : List Input) → IsPlan plan → egress.IsWorked plan inputs old new (working old).sent w) → HasActed (state.Egress old) (state.Egress new) t result after.packets
-egress_works old new t (Ok Did) before after is none packets idle err few linked of_plan emitted worked =
-    let sent : after.packets ≡ (working old).sent = packets ∙ ap (λ l. l ++ (working old).sent) none in
-    let short : length before.packets ≡ 0 = ap length none in
-    let all = appended_is before.packets after.packets after.packets none refl in
-    let step : DoesStep id_of StandsFor task.Work (state.Egress old) (state.Egress new) after.packets = subst (DoesStep id_of StandsFor task.Work (state.Egress old) (state.Egress new)) (sym sent) (λ plan inputs hp ht clock. worked plan inputs hp clock) in
-    subst (λ x. HasActed (state.Egress old) (state.Egress new) x (Ok Did) after.packets) (sym is)
-    (acted (state.Egress old) (state.Egress new) task.Work after.packets refl step (omega arith) (λ plan h. subst (GoOverLinks plan node.Egress) all (linked plan h)) refl of_plan (front_rows old.emitted new.emitted emitted))
-egress_works old new t (Ok Idle) before after is none packets idle err few linked of_plan emitted worked =
-    let z = idle refl in
-    idled (state.Egress old) (state.Egress new) t after.packets (ap state.Egress z.0) (ap (λ (o : OutboxView). o.packets) z.1 ∙ none)
-egress_works old new t (Err e) before after is none packets idle err few linked of_plan emitted worked =
-    failed (state.Egress old) (state.Egress new) t after.packets e (ap (λ (o : OutboxView). o.packets) err.1 ∙ none) (λ plan inputs x h. subst (λ v. egress.StandsFor plan inputs v x) (sym err.0) h) refl of_plan (front_rows old.emitted new.emitted emitted)
+pub egress_takes : (old new : EgressView) (from : NodeId) (packet : Packet) → ((plan : PlanView) (inputs : List Input) → IsPlan plan → egress.IsTaken plan inputs old new from packet.body) →
+    ((plan : PlanView) → egress.IsOfPlan plan old → egress.IsOfPlan plan new) → new.emitted ≡ old.emitted → HasTaken (state.Egress old) (state.Egress new) from packet (Ok Did) []
+egress_takes old new from packet taken of_plan emitted = λ index.
+    acted (state.Egress old) (state.Egress new) (task.Take from index packet) [] refl (λ plan inputs hp ht clock. taken plan inputs hp packet.at index) (omega arith) (λ plan h. tt) refl of_plan (same_rows old.emitted new.emitted emitted)
 
 -- ---- ingress
 
-pub ingress_takes : (old new : IngressView) (from : NodeId) (index : ℕ) (packet : Packet) (t : Task) (out : List (NodeId × Body)) → t ≡ task.Take from index packet → out ≡ [] →
-    ((plan : PlanView) (inputs : List Input) → IsPlan plan → ingress.IsTaken plan inputs old new from packet.body) → ((plan : PlanView) → ingress.IsOfPlan plan old → ingress.IsOfPlan plan new) →
-    HasActed (state.Ingress old) (state.Ingress new) t (Ok Did) out
-ingress_takes old new from index packet t out is none taken of_plan =
-    let k : Task = task.Take from index packet in
-    let step : DoesStep id_of StandsFor k (state.Ingress old) (state.Ingress new) out = subst (DoesStep id_of StandsFor k (state.Ingress old) (state.Ingress new)) (sym none) (λ plan inputs hp ht clock. taken plan inputs hp packet.at index) in
-    let short : length out ≡ 0 = ap length none in
-    subst (λ x. HasActed (state.Ingress old) (state.Ingress new) x (Ok Did) out) (sym is)
-    (acted (state.Ingress old) (state.Ingress new) k out refl step (omega arith) (λ plan h. subst (GoOverLinks plan node.Ingress) (sym none) tt) refl of_plan (all_rows []))
-
-pub ingress_works : (old new : IngressView) (t : Task) (result : Result Worked OutOfMemory) (before after : OutboxView) → t ≡ task.Work → before.packets ≡ [] →
-    OnOk result (after.packets ≡ before.packets ++ (sending old).sent) →
-    IfOk result (λ w. w ≡ Idle → (new ≡ old) × (after ≡ before)) → OnErr result ((new ≡ old) × (after ≡ before)) → length after.packets ≤ length before.packets + 1 →
-    ((plan : PlanView) → ingress.IsOfPlan plan old → GoOverLinks plan node.Ingress (appended before.packets after.packets)) → ((plan : PlanView) → ingress.IsOfPlan plan old → ingress.IsOfPlan plan new) →
-    IfOk result (λ w. (plan : PlanView) (inputs : List Input) → IsPlan plan → ingress.IsWorked plan inputs old new (sending old).sent w) → HasActed (state.Ingress old) (state.Ingress new) t result after.packets
-ingress_works old new t (Ok Did) before after is none packets idle err few linked of_plan worked =
-    let sent : after.packets ≡ (sending old).sent = packets ∙ ap (λ l. l ++ (sending old).sent) none in
-    let short : length before.packets ≡ 0 = ap length none in
-    let all = appended_is before.packets after.packets after.packets none refl in
-    let step : DoesStep id_of StandsFor task.Work (state.Ingress old) (state.Ingress new) after.packets = subst (DoesStep id_of StandsFor task.Work (state.Ingress old) (state.Ingress new)) (sym sent) (λ plan inputs hp ht clock. worked plan inputs hp clock) in
-    subst (λ x. HasActed (state.Ingress old) (state.Ingress new) x (Ok Did) after.packets) (sym is)
-    (acted (state.Ingress old) (state.Ingress new) task.Work after.packets refl step (omega arith) (λ plan h. subst (GoOverLinks plan node.Ingress) all (linked plan h)) refl of_plan (all_rows []))
-ingress_works old new t (Ok Idle) before after is none packets idle err few linked of_plan worked =
-    let z = idle refl in
-    idled (state.Ingress old) (state.Ingress new) t after.packets (ap state.Ingress z.0) (ap (λ (o : OutboxView). o.packets) z.1 ∙ none)
-ingress_works old new t (Err e) before after is none packets idle err few linked of_plan worked =
-    failed (state.Ingress old) (state.Ingress new) t after.packets e (ap (λ (o : OutboxView). o.packets) err.1 ∙ none) (λ plan inputs x h. subst (λ v. ingress.StandsFor plan inputs v x) (sym err.0) h) refl of_plan (all_rows [])
+pub ingress_takes : (old new : IngressView) (from : NodeId) (packet : Packet) → ((plan : PlanView) (inputs : List Input) → IsPlan plan → ingress.IsTaken plan inputs old new from packet.body) →
+    ((plan : PlanView) → ingress.IsOfPlan plan old → ingress.IsOfPlan plan new) → HasTaken (state.Ingress old) (state.Ingress new) from packet (Ok Did) []
+ingress_takes old new from packet taken of_plan = λ index.
+    acted (state.Ingress old) (state.Ingress new) (task.Take from index packet) [] refl (λ plan inputs hp ht clock. taken plan inputs hp packet.at index) (omega arith) (λ plan h. tt) refl of_plan (all_rows [])
 
 ingress_makes : (old new : IngressView) (t : Task) (out : List (NodeId × Body)) → t ≡ task.Make → out ≡ [] →
     ((plan : PlanView) (inputs : List Input) → IsPlan plan → ingress.IsDone plan inputs old new [] event.Make) → ((plan : PlanView) → ingress.IsOfPlan plan old → ingress.IsOfPlan plan new) →

@@ -1,20 +1,23 @@
 -- A node's own part, of any of the four kinds: its name, the plans that it is of, the numbers that it stands for, and what it may do.
-use Rattle.std.specs.Prelude.{◌≡◌, ◌≢◌, ◌≤◌, ◌<◌, ◌-◌, ℕ, Bool, false, List, [], Result, Ok, OnErr, length}
+use Rattle.std.specs.Prelude.{◌≡◌, ◌≢◌, ◌≤◌, ◌<◌, ◌-◌, ℕ, Bool, false, List, [], ◌++◌, Option, None, Some, Result, Ok, OnErr, length}
 use mathlib.Core.List.{IsPrefix}
 use Rattle.tuple_edge.specs.Input.{Input}
 use Rattle.tuple_edge.specs.declared.event.Worked.{Worked}
 use Rattle.tuple_edge.specs.declared.event.Worked.TheVariants.{Did, Idle}
+use Rattle.tuple_edge.specs.declared.item.Item.{Item}
 use Rattle.tuple_edge.specs.declared.node.NodeId.{NodeId}
 use Rattle.tuple_edge.specs.declared.node.NodeId.TheVariants as node
 use Rattle.tuple_edge.specs.declared.packet.Body.{Body}
+use Rattle.tuple_edge.specs.declared.packet.Packet.{Packet}
 use Rattle.tuple_edge.specs.declared.row.Row.{Row}
 use Rattle.tuple_edge.specs.declared.memory.OutOfMemory.{OutOfMemory}
+use Rattle.merge_order.specs.MergeView.{item_of, least}
 use Rattle.flux_producer.specs.ProducerView.{ProducerView, buffer_at}
 use Rattle.plan_reader.specs.PlanView.{PlanView}
 use Rattle.pair_machine.specs.Counts.{flow_of}
 use Rattle.pair_machine.specs.Machine.{at_node}
 use Rattle.pair_machine.specs.Numbers.{Node}
-use Rattle.pair_machine.specs.Receivers.{GoOverLinks}
+use Rattle.pair_machine.specs.Receivers.{GoOverLinks, appended}
 use Rattle.ingress_egress.specs.EgressStands as egress
 use Rattle.ingress_egress.specs.EgressView.{EgressView, MayWork}
 use Rattle.ingress_egress.specs.IngressStands as ingress
@@ -25,6 +28,7 @@ use Rattle.pair_control.specs.StandsFor as control
 use Rattle.replica_node.specs.Admitted as replica_admitted
 use Rattle.replica_node.specs.Phases.{mode_in}
 use Rattle.replica_node.specs.ReplicaView.{ReplicaView, node_of}
+use Rattle.replica_node.specs.Rules as rules
 use Rattle.replica_node.specs.StandsFor as replica
 use Rattle.replica_node.specs.declared.phase.Mode.TheVariants as mode
 use Rattle.tuple_edge.specs.Limits.{most_packets}
@@ -128,3 +132,27 @@ pub record HasActed (old new : NodeState) (t : Task) (result : Result Worked Out
   pub id : id_of new ≡ id_of old
   pub of_plan : (plan : PlanView) → IsOfPlan plan old → IsOfPlan plan new
   pub rows : IsPrefix (rows_of old) (rows_of new)
+
+-- what came of a packet that this node sent, under whatever index: it was taken, or left where it may not be given
+abbrev pub HasTaken : NodeState → NodeState → NodeId → Packet → Result Worked OutOfMemory → List (NodeId × Body) → Type 0
+HasTaken old new from packet result packets = (index : ℕ) → HasActed old new (task.Take from index packet) result packets
+
+-- ---- pieces of work
+
+-- how many packets egress sends: a merge sends none, an acknowledgement goes to both replicas
+abbrev pub acks_unless_merged : Option Item → ℕ
+acks_unless_merged None = 2
+acks_unless_merged (Some i) = 0
+
+-- how many packets the next piece of work sends, where there is one
+abbrev pub packets_of_work : NodeState → ℕ
+packets_of_work (state.Ingress i) = 1
+packets_of_work (state.Replica r) = rules.packets_of_work r.phase
+packets_of_work (state.Control c) = 1
+packets_of_work (state.Egress e) = acks_unless_merged (item_of (least e.consumer.merge.waiting))
+
+-- What came of a piece of work: a step of the machine, whose packets were appended and are as many as such a piece sends; or nothing.
+pub record HasWorkedOnce (old new : NodeState) (result : Result Worked OutOfMemory) (before after : List (NodeId × Body)) : Type 0 where
+  pub acted : HasActed old new task.Work result (appended before after)
+  pub packets : after ≡ before ++ appended before after
+  pub as_many : result ≡ Ok Did → length (appended before after) ≡ packets_of_work old

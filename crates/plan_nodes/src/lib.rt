@@ -10,6 +10,8 @@
 mod opening;
 mod order;
 mod state;
+mod taking;
+mod working;
 
 pub use opening::opening_state;
 pub use order::nodes_before_egress;

@@ -10,13 +10,15 @@ ghost use Rattle.plan_nodes.specs.declared.state.NodeState.TheVariants as state;
 ghost use Rattle.std.specs.Prelude.{◌≡◌, ◌≤◌, ◌↔◌, [], IfSome, IsTrue, List};
 ghost use Rattle.tuple_edge.specs.Input.{Input};
 
+use crate::taking::{control_takes, egress_takes, ingress_takes, replica_takes};
+use crate::working::{egress_works, ingress_works, replica_works};
 use flux_producer::Producer;
 use ingress_egress::{Egress, Ingress};
 use pair_control::PairControl;
 use plan_reader::Plan;
 use replica_node::{Mode, Replica};
-use run_node::{Acts, Task};
-use tuple_edge::{NodeId, OutOfMemory, Outbox, Row, Worked};
+use run_node::{Acts, Steps, Task};
+use tuple_edge::{MOST_PACKETS, NodeId, OutOfMemory, Outbox, Packet, Row, Worked};
 
 /// A node's own part: what it is, without its links and its history.
 #[derive(Drop)]
@@ -71,6 +73,34 @@ impl Acts for NodeState {
             NodeState::Control(node) => control_acts(node, task, out),
             NodeState::Egress(node) => egress_acts(node, task, out),
         }
+    }
+
+    fn take(
+        &mut self,
+        from: NodeId,
+        _index: u64,
+        packet: &Packet,
+        out: &mut Outbox,
+    ) -> Result<Worked, OutOfMemory> {
+        self.take_packet(from, packet, out)
+    }
+
+    fn work(&mut self, most: usize, rise: u64, out: &mut Outbox) -> Result<Steps, OutOfMemory> {
+        let each = self.packets_of_work();
+        for count in 0..most {
+            let done = Steps { count, each };
+            let fits = out.len() + each <= MOST_PACKETS;
+            if !fits || self.packets_of_work() != each || !self.may(&Task::Work) {
+                return Ok(done);
+            }
+            match self.work_once(rise, out) {
+                Ok(Worked::Did) => {}
+                Ok(Worked::Idle) => return Ok(done),
+                // What was done before memory lacked stays done.
+                Err(lack) => return if count == 0 { Err(lack) } else { Ok(done) },
+            }
+        }
+        Ok(Steps { count: most, each })
     }
 
     fn merged(&self) -> Option<u64> {
@@ -148,16 +178,12 @@ fn egress_may(node: &Egress, task: &Task) -> bool
 
 // Ingress takes a packet, works or makes.
 fn ingress_acts(node: &mut Ingress, task: &Task, out: &mut Outbox) -> Result<Worked, OutOfMemory>
-    requires may { IngressMay node.old task.now }
     requires empty { out.old.packets ≡ [] }
     ensures { HasActed (state.Ingress node.old) (state.Ingress node.new) task.now result out.new.packets }
 {
     match task {
-        Task::Take { from, packet, .. } => {
-            node.on(*from, &packet.body);
-            Ok(Worked::Did)
-        }
-        Task::Work => node.work(out),
+        Task::Take { from, packet, .. } => ingress_takes(node, *from, packet),
+        Task::Work => ingress_works(node, out),
         Task::Make => node.make(),
         Task::Kill | Task::AskStop | Task::AskBack => Ok(Worked::Idle),
     }
@@ -176,11 +202,8 @@ fn replica_acts(
     ensures { HasActed (state.Replica node.old) (state.Replica node.new) task.now result out.new.packets }
 {
     match task {
-        Task::Take { from, packet, .. } => {
-            node.on(*from, &packet.body, out)?;
-            Ok(Worked::Did)
-        }
-        Task::Work => node.work_or_wait(rise, out),
+        Task::Take { from, packet, .. } => replica_takes(node, *from, packet, out),
+        Task::Work => replica_works(node, rise, out),
         Task::Make => Ok(Worked::Idle),
         Task::Kill => {
             node.kill(out);
@@ -203,16 +226,12 @@ fn control_acts(
     task: &Task,
     out: &mut Outbox,
 ) -> Result<Worked, OutOfMemory>
-    requires may { ControlMay node.old task.now }
     requires empty { out.old.packets ≡ [] }
     requires room { most_packets ≤ out.old.spare }
     ensures { HasActed (state.Control node.old) (state.Control node.new) task.now result out.new.packets }
 {
     match task {
-        Task::Take { from, packet, .. } => {
-            node.on(*from, &packet.body, out);
-            Ok(Worked::Did)
-        }
+        Task::Take { from, packet, .. } => control_takes(node, *from, packet, out),
         Task::Work | Task::Make | Task::Kill | Task::AskStop | Task::AskBack => Ok(Worked::Idle),
     }
 }
@@ -224,11 +243,8 @@ fn egress_acts(node: &mut Egress, task: &Task, out: &mut Outbox) -> Result<Worke
     ensures { HasActed (state.Egress node.old) (state.Egress node.new) task.now result out.new.packets }
 {
     match task {
-        Task::Take { from, packet, .. } => {
-            node.on(*from, &packet.body)?;
-            Ok(Worked::Did)
-        }
-        Task::Work => node.work(out),
+        Task::Take { from, packet, .. } => egress_takes(node, *from, packet),
+        Task::Work => egress_works(node, out),
         Task::Make | Task::Kill | Task::AskStop | Task::AskBack => Ok(Worked::Idle),
     }
 }

@@ -185,6 +185,16 @@ Works role (phase.Running r) after sent did = MergesOrMoves role r (item_of (lea
 Works role (phase.Gathering g) after sent did = (after ≡ phase.Gathering g) × (sent ≡ []) × (did ≡ worked.Idle)
 Works role (phase.Gone inc) after sent did = (after ≡ phase.Gone inc) × (sent ≡ []) × (did ≡ worked.Idle)
 
+-- no packet where this item is merged, else one
+abbrev pub sent_unless_merged : Option Item → ℕ
+sent_unless_merged None = 1
+sent_unless_merged (Some i) = 0
+
+-- how many packets a piece of work sends, where it does anything: a merge sends none, each other piece one
+abbrev pub packets_of_work : Phase → ℕ
+packets_of_work (phase.Running r) = sent_unless_merged (item_of (least r.consumer.merge.waiting))
+packets_of_work p = 1
+
 pub record IsWorkOf (old new : ReplicaView) (sent : List (NodeId × Body)) (did : Worked) : Type 0 where
   pub role : new.role ≡ old.role
   pub works : Works old.role old.phase new.phase sent did

@@ -13,7 +13,7 @@ ghost use Rattle.replica_node.specs.Course.{AreTimely, IsDone, IsTaken, IsWorked
 ghost use Rattle.replica_node.specs.IsReplica.{IsMoving, IsReplica, IsRole};
 ghost use Rattle.replica_node.specs.Phases.{count_in, inc_in, item_pulled, mode_in, newcomer_in, opening, running_in, served_in};
 ghost use Rattle.replica_node.specs.ReplicaView.{node_of, partition_of, partner_of, with_phase};
-ghost use Rattle.replica_node.specs.Rules.{IsSure, IsTakenBy, IsWaiting, IsWorkOf, TakesMemory, back_asked, contents_in, down_sent, dying, stop_asked};
+ghost use Rattle.replica_node.specs.Rules.{IsSure, IsTakenBy, IsWaiting, IsWorkOf, TakesMemory, back_asked, contents_in, down_sent, dying, packets_of_work, stop_asked};
 ghost use Rattle.replica_node.specs.StandsFor.{IsOfPlan, StandsFor};
 ghost use Rattle.replica_node.specs.declared.phase.Mode.TheVariants as mode;
 ghost use Rattle.replica_node.specs.declared.phase.Running.{Running as RunningPart};
@@ -143,6 +143,7 @@ impl Replica {
         ensures waits { IfOk result (λ w. w ≡ Idle → IsWaiting rise self.old.phase) }
         ensures risen { IfOk result (λ w. w ≡ Did → IsWaiting rise self.old.phase → ⊥) }
         ensures packets { out.new.packets ≡ out.old.packets ++ appended out.old.packets out.new.packets }
+        ensures as_many { IfOk result (λ w. w ≡ Did → length out.new.packets ≡ length out.old.packets + packets_of_work self.old.phase) }
         ensures idle { IfOk result (λ w. w ≡ Idle → (self.new ≡ self.old) × (out.new ≡ out.old)) }
         ensures unchanged { OnErr result ((contents_in self.new ≡ contents_in self.old) × (out.new.packets ≡ out.old.packets)) }
         // It sends over links of its plan alone, and stays the same replica.
@@ -283,6 +284,7 @@ impl Replica {
         ensures waits { IfOk result (λ w. w ≡ Idle → IsWaiting rise self.old.phase) }
         ensures risen { IfOk result (λ w. w ≡ Did → IsWaiting rise self.old.phase → ⊥) }
         ensures packets { out.new.packets ≡ out.old.packets ++ appended out.old.packets out.new.packets }
+        ensures as_many { IfOk result (λ w. w ≡ Did → length out.new.packets ≡ length out.old.packets + packets_of_work self.old.phase) }
         ensures idle { IfOk result (λ w. w ≡ Idle → (self.new ≡ self.old) × (out.new ≡ out.old)) }
         ensures unchanged { OnErr result ((contents_in self.new ≡ contents_in self.old) × (out.new.packets ≡ out.old.packets)) }
         ensures role { self.new.role ≡ self.old.role }

@@ -6,7 +6,7 @@ ghost use Rattle.pair_machine.specs.Receivers.{appended};
 ghost use Rattle.replica_node.specs.Admitted.{MayWorkIn};
 ghost use Rattle.partition_step.specs.Answering.{HasParts};
 ghost use Rattle.replica_node.specs.IsReplica.{IsRole, IsRunning};
-ghost use Rattle.replica_node.specs.Rules.{IsSure, IsWaiting, Merges, Moves, MovesOrSends, NoneRose, Reports, SendsOrReports, Works, contents_in_phase, contents_in_running, receiver_of, report_packet, tuples_of};
+ghost use Rattle.replica_node.specs.Rules.{IsSure, IsWaiting, Merges, Moves, MovesOrSends, NoneRose, Reports, SendsOrReports, Works, contents_in_phase, contents_in_running, packets_of_work, receiver_of, report_packet, tuples_of};
 ghost use Rattle.replica_node.specs.Takers.{IsReadyToWork};
 ghost use Rattle.replica_node.specs.declared.phase.Phase.TheVariants as phase;
 ghost use Rattle.state_mover.specs.MoverView.{MoverView};
@@ -41,6 +41,7 @@ impl Phase {
         ensures waits { IfOk result (λ did. did ≡ worked.Idle → IsWaiting rise self.old) }
         ensures risen { IfOk result (λ did. did ≡ worked.Did → IsWaiting rise self.old → ⊥) }
         ensures packets { out.new.packets ≡ out.old.packets ++ appended out.old.packets out.new.packets }
+        ensures as_many { IfOk result (λ did. did ≡ worked.Did → length out.new.packets ≡ length out.old.packets + packets_of_work self.old) }
         ensures idle { IfOk result (λ did. did ≡ worked.Idle → (self.new ≡ self.old) × (out.new ≡ out.old)) }
         ensures unchanged { OnErr result ((contents_in_phase self.new ≡ contents_in_phase self.old) × (out.new.packets ≡ out.old.packets)) }
     {
@@ -66,6 +67,7 @@ impl Running {
         ensures waits { IfOk result (λ did. did ≡ worked.Idle → IsWaiting rise (phase.Running self.old)) }
         ensures risen { IfOk result (λ did. did ≡ worked.Did → IsWaiting rise (phase.Running self.old) → ⊥) }
         ensures packets { out.new.packets ≡ out.old.packets ++ appended out.old.packets out.new.packets }
+        ensures as_many { IfOk result (λ did. did ≡ worked.Did → length out.new.packets ≡ length out.old.packets + packets_of_work (phase.Running self.old)) }
         ensures idle { IfOk result (λ did. did ≡ worked.Idle → (self.new ≡ self.old) × (out.new ≡ out.old)) }
         ensures unchanged { OnErr result ((contents_in_running self.new ≡ contents_in_running self.old) × (out.new.packets ≡ out.old.packets)) }
     {
@@ -111,6 +113,7 @@ impl Running {
         ensures waits { IfOk result (λ did. did ≡ worked.Idle → (self.old.mover ≡ None) × (due_of self.old.producer ≡ None) × NoneRose rise self.old.consumer) }
         ensures risen { IfOk result (λ did. did ≡ worked.Did → self.old.mover ≡ None → due_of self.old.producer ≡ None → NoneRose rise self.old.consumer → ⊥) }
         ensures packets { out.new.packets ≡ out.old.packets ++ appended out.old.packets out.new.packets }
+        ensures one { IfOk result (λ did. did ≡ worked.Did → length out.new.packets ≡ length out.old.packets + 1) }
         ensures idle { IfOk result (λ did. did ≡ worked.Idle → (self.new ≡ self.old) × (out.new ≡ out.old)) }
         ensures unchanged { OnErr result ((self.new ≡ self.old) × (out.new ≡ out.old)) }
     {
@@ -158,6 +161,7 @@ impl Running {
         ensures waits { IfOk result (λ did. did ≡ worked.Idle → (due_of self.old.producer ≡ None) × NoneRose rise self.old.consumer) }
         ensures risen { IfOk result (λ did. did ≡ worked.Did → due_of self.old.producer ≡ None → NoneRose rise self.old.consumer → ⊥) }
         ensures packets { out.new.packets ≡ out.old.packets ++ appended out.old.packets out.new.packets }
+        ensures one { IfOk result (λ did. did ≡ worked.Did → length out.new.packets ≡ length out.old.packets + 1) }
         ensures idle { IfOk result (λ did. did ≡ worked.Idle → (self.new ≡ self.old) × (out.new ≡ out.old)) }
         ensures unchanged { OnErr result ((self.new ≡ self.old) × (out.new ≡ out.old)) }
     {
@@ -177,6 +181,7 @@ impl Running {
         ensures waits { IfOk result (λ did. did ≡ worked.Idle → NoneRose rise self.old.consumer) }
         ensures risen { IfOk result (λ did. did ≡ worked.Did → NoneRose rise self.old.consumer → ⊥) }
         ensures packets { out.new.packets ≡ out.old.packets ++ appended out.old.packets out.new.packets }
+        ensures one { IfOk result (λ did. did ≡ worked.Did → length out.new.packets ≡ length out.old.packets + 1) }
         ensures idle { IfOk result (λ did. did ≡ worked.Idle → (self.new ≡ self.old) × (out.new ≡ out.old)) }
         ensures unchanged { OnErr result ((self.new ≡ self.old) × (out.new ≡ out.old)) }
     {

@@ -1,7 +1,7 @@
 -- One event keeps a node sound.
 use Rattle.std.proofs.Common.{◌≡◌, ◌≤◌, ◌<◌, ◌^◌, ℕ, Bool, true, false, List, [], ◌∷◌, ◌++◌, ◌||◌, Option, None, Some, Result, Ok, Err, refl, sym, ap, ◌∙◌, subst, arith, append_assoc, IsTrue}
 use mathlib.Core.List.{IsPrefix}
-use Rattle.std.specs.Prelude.{IfSome, if◌then◌else◌}
+use Rattle.std.specs.Prelude.{if◌then◌else◌}
 use Rattle.tuple_edge.specs.Input.{Input}
 use Rattle.tuple_edge.specs.declared.event.Event.{Event}
 use Rattle.tuple_edge.specs.declared.event.Event.TheVariants as event
@@ -37,7 +37,7 @@ use Rattle.run_node.specs.declared.acts.Task.TheVariants as task
 use Rattle.run_node.specs.declared.fired.Fired.{Fired}
 use Rattle.run_node.specs.declared.kept.Kept.{Kept}
 use Rattle.run_node.specs.Ends.{InLink, OutLink, emitted_to, leads_to}
-use Rattle.run_node.specs.Fits.{Came, Fit}
+use Rattle.run_node.specs.Fits.{Fit}
 use Rattle.run_node.specs.Sends.{with_all_sent}
 use Rattle.run_node.specs.SoundNode.{IsNoRecall, IsNoStop, IsNoted, IsSoundNode, KeptCame, TapFits}
 use Rattle.run_node.specs.Tasks.{CameFor, DoesStep, clock_of, event_of, fired_after, is_recall, is_stop, packet_of, repeats}
@@ -260,9 +260,9 @@ module _ {A : Type 0} (id : A → NodeId) (of_plan : PlanView → A → Type 0) 
       subst (λ l. IsSoundNode id of_plan stands plan inputs script new ins l kept clock fired history_after) (sym same_outs)
       (subst (λ h. IsSoundNode id of_plan stands plan inputs script new ins outs kept clock fired h) (sym same_history) (still_there new same named stays))
 
-  -- what comes later is kept, and fits
+  -- more came, and fits, and so does what is kept then
   pub sound_received : (ins_after : List InLink) (kept_after : Option Kept) → ((arrived : Arrivals) → Fit arrived ins_after → Fit arrived ins) →
-      IfSome kept_after (λ k. (arrived : Arrivals) → Fit arrived ins_after → Came arrived k.from k.arrival) → IsSoundNode id of_plan stands plan inputs script state ins_after outs kept_after clock fired history
+      ((arrived : Arrivals) → Fit arrived ins_after → KeptCame arrived kept_after) → IsSoundNode id of_plan stands plan inputs script state ins_after outs kept_after clock fired history
   sound_received ins_after kept_after fits came = record {
     planned = s.planned;
     timely = s.timely;
@@ -273,13 +273,9 @@ module _ {A : Type 0} (id : A → NodeId) (of_plan : PlanView → A → Type 0) 
     past = s.past;
     rises = s.rises;
     noted = s.noted;
-    kept_came = λ arrived fit. go kept_after came arrived fit;
+    kept_came = came;
     course = λ arrived fit. s.course arrived (fits arrived fit);
   }
-    where
-      go : (o : Option Kept) → IfSome o (λ k. (arrived : Arrivals) → Fit arrived ins_after → Came arrived k.from k.arrival) → (arrived : Arrivals) → Fit arrived ins_after → KeptCame arrived o
-      go None came arrived fit = tt
-      go (Some k) came arrived fit = came arrived fit
 
 none_emitted : (ls : List OutLink) (n : NodeId) → Each (λ l. l.emitted ≡ []) ls → emitted_to ls n ≡ []
 none_emitted [] n h = refl

@@ -3,3 +3,5 @@ pub mod SentPackets
 pub mod FirstLinks
 pub mod Events
 pub mod Merged
+pub mod Runs
+pub mod Takes

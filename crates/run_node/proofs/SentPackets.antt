@@ -1,5 +1,5 @@
 -- What was emitted, after packets were sent.
-use Rattle.std.proofs.Common.{◌≡◌, ◌<◌, ◌||◌, ℕ, zero, suc, Bool, true, false, List, [], ◌∷◌, ◌++◌, length, get_or, set, take, refl, sym, ap, ◌∙◌, arith, append_assoc, append-nil, true≢false}
+use Rattle.std.proofs.Common.{◌≡◌, ◌≤◌, ◌<◌, ◌||◌, ◌+◌, ◌-◌, ◌*◌, ℕ, zero, suc, Bool, true, false, List, [], ◌∷◌, ◌++◌, length, get_or, set, take, drop, refl, sym, ap, ◌∙◌, arith, append_assoc, append-nil, true≢false}
 use Rattle.std.specs.Prelude.{None, Some, if◌then◌else◌, slice_get}
 use Rattle.run_node.specs.FirstLinks.{IsFirstTo, identity_to, receivers}
 use Rattle.tuple_edge.specs.declared.node.NodeId.{NodeId}
@@ -11,7 +11,8 @@ use Rattle.pair_machine.specs.Numbers.{is_node}
 use Rattle.pair_machine.proofs.Names.{is_node-true, node_self}
 use Rattle.run_node.specs.Ends.{OutEndView, OutLink, emitted_to, leads_to, links_of}
 use Rattle.run_node.specs.NodeView.{out_names}
-use Rattle.run_node.specs.Sends.{with_all_sent, with_sent}
+use Rattle.run_node.specs.Sends.{with_all_sent, with_sent, with_steps_sent}
+use Rattle.run_node.specs.Steps.{pieces}
 use Rattle.run_node.proofs.Places.{get_there}
 
 abbrev one_if : Bool → Packet → List Packet
@@ -103,6 +104,63 @@ emitted-with_all_sent clock n (x ∷ xs) ls h =
     go : (b : Bool) → one_if b (record { at = clock; body = x.1 }) ++ packets_to clock n xs ≡ (if b then record { at = clock; body = x.1 } ∷ packets_to clock n xs else packets_to clock n xs)
     go true = refl
     go false = refl
+
+-- ---- all packets of steps
+
+pub receivers-with_steps_sent : (clock : ℕ) (sends : List (List (NodeId × Body))) (ls : List OutLink) → receivers (with_steps_sent clock sends ls) ≡ receivers ls
+receivers-with_steps_sent clock [] ls = refl
+receivers-with_steps_sent clock (xs ∷ later) ls = receivers-with_steps_sent (clock + 1) later (with_all_sent (clock + 1) xs ls) ∙ receivers-with_all_sent (clock + 1) xs ls
+
+pub names-with_steps_sent : (clock : ℕ) (sends : List (List (NodeId × Body))) (ls : List OutLink) → out_names (with_steps_sent clock sends ls) ≡ out_names ls
+names-with_steps_sent clock [] ls = refl
+names-with_steps_sent clock (xs ∷ later) ls = names-with_steps_sent (clock + 1) later (with_all_sent (clock + 1) xs ls) ∙ names-with_all_sent (clock + 1) xs ls
+
+-- steps without packets
+pub none-with_steps_sent : (clock count each : ℕ) (ls : List OutLink) → with_steps_sent clock (pieces count each []) ls ≡ ls
+none-with_steps_sent clock zero each ls = refl
+none-with_steps_sent clock (suc count) zero ls = none-with_steps_sent (clock + 1) count zero ls
+none-with_steps_sent clock (suc count) (suc each) ls = none-with_steps_sent (clock + 1) count (suc each) ls
+
+-- what is left of the packets of steps was emitted: so many packets of one step, with its clock, and then those of more steps
+abbrev pub with_rest_sent : (clock left more each : ℕ) → List (NodeId × Body) → List OutLink → List OutLink
+with_rest_sent clock left more each xs ls = with_steps_sent clock (pieces more each (drop left xs)) (with_all_sent clock (take left xs) ls)
+
+pub none-with_rest_sent : (clock left more each : ℕ) (ls : List OutLink) → with_rest_sent clock left more each [] ls ≡ ls
+none-with_rest_sent clock zero more each ls = none-with_steps_sent clock more each ls
+none-with_rest_sent clock (suc left) more each ls = none-with_steps_sent clock more each ls
+
+-- one packet, and then what is left
+pub one-with_rest_sent : (clock left more each : ℕ) (x : NodeId × Body) (xs : List (NodeId × Body)) (ls : List OutLink) → 0 < left →
+    with_rest_sent clock (left - 1) more each xs (with_sent x.0 (record { at = clock; body = x.1 }) ls) ≡ with_rest_sent clock left more each (x ∷ xs) ls
+one-with_rest_sent clock zero more each x xs ls some = absurd (omega (arith, some))
+one-with_rest_sent clock (suc left) more each x xs ls some =
+    let one : suc left - 1 ≡ left = omega arith in
+    ap (λ n. with_rest_sent clock n more each xs (with_sent x.0 (record { at = clock; body = x.1 }) ls)) one
+
+-- Of packets that are left, the next one is sent with this clock, one of so many of its step, and what is left to be sent is the same as
+-- it was with the clock and the packets of a step before.
+pub record HasNext (last each rest clock_before left_before clock left : ℕ) : Type 0 where
+  pub clocks : clock ≤ last
+  pub some : 0 < left
+  pub whole : rest ≡ left + (last - clock) * each
+  pub sent : (xs : List (NodeId × Body)) (ls : List OutLink) → with_rest_sent clock left (last - clock) each xs ls ≡ with_rest_sent clock_before left_before (last - clock_before) each xs ls
+
+-- where none of a step is left, a further one begins
+pub step_begins : (last each rest clock : ℕ) → 0 < rest → rest ≡ (last - clock) * each → HasNext last each rest clock 0 (clock + 1) each
+step_begins last each rest clock some whole = go (last - clock) refl each whole
+  where
+    go : (more : ℕ) → last - clock ≡ more → (each : ℕ) → rest ≡ more * each → HasNext last each rest clock 0 (clock + 1) each
+    go zero e each w = absurd (omega (arith, some, w))
+    go (suc more) e zero w = absurd (omega (arith, some, w))
+    go (suc more) e (suc each) w =
+        let fewer : last - (clock + 1) ≡ more = omega (arith, e) in
+        let first : suc more * suc each ≡ suc each + more * suc each = omega arith in
+        record {
+          clocks = omega (arith, e);
+          some = omega arith;
+          whole = w ∙ first ∙ ap (λ m. suc each + m * suc each) (sym fewer);
+          sent = λ xs ls. ap (λ m. with_rest_sent (clock + 1) (suc each) m (suc each) xs ls) fewer ∙ ap (λ m. with_rest_sent clock 0 m (suc each) xs ls) (sym e);
+        }
 
 -- ---- one packet, by the place of its link
 

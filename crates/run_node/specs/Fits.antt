@@ -4,12 +4,10 @@ use Rattle.flux_link.specs.declared.arrival.Arrival.{Arrival}
 use Rattle.pair_machine.specs.Courses.{Arrivals}
 use Rattle.pair_machine.specs.Lists.{Each}
 use Rattle.tuple_edge.specs.declared.event.Event.{Event}
-use Rattle.tuple_edge.specs.declared.event.Event.TheVariants as event
 use Rattle.tuple_edge.specs.declared.event.Stamped.{Stamped}
 use Rattle.tuple_edge.specs.declared.node.NodeId.{NodeId}
-use Rattle.pair_machine.specs.Links.{link}
+use Rattle.event_log.specs.Views.{works_after}
 use Rattle.run_node.specs.Ends.{InLink}
-use Rattle.run_node.specs.NodeView.{NodeView}
 use Rattle.run_node.specs.declared.kept.Kept.{Kept}
 
 -- of a node's packets, this one is what came from a node under its index
@@ -43,8 +41,7 @@ pub record HasHappened (e : Event) (before after : List Stamped) : Type 0 where
   pub clock : ℕ
   pub added : after ≡ before ++ record { clock = clock; event = e } ∷ []
 
--- a node has taken the arrival at hand
-pub record HasTaken {A T : Type 0} (id : A → NodeId) (before after : NodeView A T) : Type 0 where
-  pub taken : Kept
-  pub hand : IsAtHand before.kept before.ins after.ins (Some taken)
-  pub event : HasHappened (event.Take (link taken.from (id before.state)) taken.arrival.index) before.history after.history
+-- a history has so many events more, pieces of work of this node, each of them with a clock of its own, which follow on one another
+pub record HasWorked (node : NodeId) (times : ℕ) (before after : List Stamped) : Type 0 where
+  pub clock : ℕ
+  pub added : after ≡ before ++ works_after node clock times

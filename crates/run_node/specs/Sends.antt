@@ -1,5 +1,5 @@
 -- What sending does to a node's links.
-use Rattle.std.specs.Prelude.{ℕ, List, [], ◌∷◌, ◌++◌, if◌then◌else◌}
+use Rattle.std.specs.Prelude.{ℕ, ◌+◌, List, [], ◌∷◌, ◌++◌, if◌then◌else◌}
 use Rattle.pair_machine.specs.Numbers.{is_node}
 use Rattle.tuple_edge.specs.declared.node.NodeId.{NodeId}
 use Rattle.tuple_edge.specs.declared.packet.Body.{Body}
@@ -15,3 +15,8 @@ with_sent to p (l ∷ ls) = if is_node l.to to then (record l { emitted = l.emit
 abbrev pub with_all_sent : ℕ → List (NodeId × Body) → List OutLink → List OutLink
 with_all_sent clock [] ls = ls
 with_all_sent clock (x ∷ xs) ls = with_all_sent clock xs (with_sent x.0 (record { at = clock; body = x.1 }) ls)
+
+-- the packets of steps were emitted in order, those of each step with its clock, and the clocks follow on this one
+abbrev pub with_steps_sent : ℕ → List (List (NodeId × Body)) → List OutLink → List OutLink
+with_steps_sent clock [] ls = ls
+with_steps_sent clock (xs ∷ later) ls = with_steps_sent (clock + 1) later (with_all_sent (clock + 1) xs ls)

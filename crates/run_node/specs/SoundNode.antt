@@ -1,5 +1,5 @@
 -- What is true of a node: whatever it took, its history is a true course within the script, and it stands for the numbers after it.
-use Rattle.std.specs.Prelude.{◌≡◌, ◌≤◌, ◌<◌, ◌^◌, ℕ, List, Option, Some, None, IsTrue, true, false}
+use Rattle.std.specs.Prelude.{◌≡◌, ◌≤◌, ◌<◌, ◌^◌, ℕ, List, [], Option, Some, None, IsTrue, true, false}
 use mathlib.Core.List.{IsPrefix}
 use Rattle.tuple_edge.specs.Input.{Input}
 use Rattle.tuple_edge.specs.declared.event.Event.{Event}
@@ -7,6 +7,8 @@ use Rattle.tuple_edge.specs.declared.event.Event.TheVariants as event
 use Rattle.tuple_edge.specs.declared.event.Stamped.{Stamped}
 use Rattle.tuple_edge.specs.declared.node.NodeId.{NodeId}
 use Rattle.tuple_edge.specs.declared.row.Row.{Row}
+use Rattle.tuple_edge.specs.Outbox.{OutboxView}
+use Rattle.event_log.specs.Views.{LogView}
 use Rattle.plan_reader.specs.Nodes.{has_link}
 use Rattle.plan_reader.specs.PlanView.{IsPlan, PlanView}
 use Rattle.pair_machine.specs.Asked.{Asks}
@@ -85,3 +87,15 @@ pub record IsSoundNode {A : Type 0} (id : A → NodeId) (of_plan : PlanView → 
 -- what is true of a node's course, whatever packets came under their indexes, as far as all that links gave fits
 abbrev pub IsTrueView : {A T : Type 0} → (A → NodeId) → (PlanView → List Input → A → Node → Type 0) → PlanView → List Input → List Order → NodeView A T → Type 0
 IsTrueView id stands plan inputs script v = (arrived : Arrivals) → Fit arrived v.ins → IsCourse id stands plan inputs script v.state v.outs v.history arrived
+
+-- ---- the whole node
+
+-- what is true of a node between its events
+pub record IsNode {A T : Type 0} (given : T → List Row) (rows : A → List Row) (id : A → NodeId) (of_plan : PlanView → A → Type 0) (stands : PlanView → List Input → A → Node → Type 0) (plan : PlanView) (inputs : List Input) (script : List Order)
+    (state : A) (ins : List InLink) (outs : List OutLink) (kept : Option Kept) (clock : ℕ) (fired : Fired) (history : LogView) (outbox : OutboxView) (tap : Option T) : Type 0 where
+  -- nothing is left to be sent
+  pub unsent : outbox.packets ≡ []
+  pub gave : TapFits given rows tap state
+  pub sound : IsSoundNode id of_plan stands plan inputs script state ins outs kept clock fired history.entries
+  -- the history is its own
+  pub own : history.node ≡ id state

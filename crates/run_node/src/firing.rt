@@ -3,8 +3,9 @@ ghost use Rattle.pair_machine.specs.Machine.{replica_in};
 ghost use Rattle.pair_machine.specs.Numbers.{Node as NodeNumbers};
 ghost use Rattle.pair_machine.specs.Scripts.{HasMerged, IsAllowedAt};
 ghost use Rattle.run_node.specs.NodeView.{name_of};
+ghost use Rattle.run_node.specs.Portions.{NoneComesDue};
 ghost use Rattle.run_node.specs.Tasks.{event_of, packet_of};
-ghost use Rattle.std.specs.Prelude.{◌≡◌, None, IsTrue};
+ghost use Rattle.std.specs.Prelude.{◌≡◌, ◌≤◌, ◌<◌, ◌+◌, None, IsTrue};
 
 use crate::acts::{Acts, Task};
 use crate::links::Links;
@@ -12,7 +13,26 @@ use crate::names::RunNames;
 use crate::node::Node;
 use crate::tap::Tap;
 use failure_script::Script;
-use tuple_edge::OutOfMemory;
+use tuple_edge::{NodeId, OutOfMemory};
+
+// How many pieces of work, at most so many, a replica that has merged this many items may do one after another in one call. Each
+// merges one item at most. Where an order would become due among them it is one piece, so that no such run goes past the count of
+// an order.
+fn most_at_once(script: &Script, node: NodeId, merged: u64, most: u64) -> u64
+    requires { 1 ≤ most }
+    ensures some { 1 ≤ result }
+    ensures most { result ≤ most }
+    ensures orders { 1 < result → NoneComesDue script.now node merged (merged + result) }
+{
+    let Some(beyond) = merged.checked_add(most) else {
+        return 1;
+    };
+    if script.due_for(node, beyond) == script.due_for(node, merged) {
+        most
+    } else {
+        1
+    }
+}
 
 impl<N: RunNames, A: Acts, M: Links, T: Tap> Node<N, A, M, T> {
     /// Obeys the orders that are due, each once.
@@ -50,5 +70,21 @@ impl<N: RunNames, A: Acts, M: Links, T: Tap> Node<N, A, M, T> {
             return Ok(false);
         }
         self.event(&task)
+    }
+
+    /// How many pieces of work, at most so many, it may do in one call of this turn, so that no call goes past the count of an
+    /// order that is still to come.
+    pub(crate) fn portion(&self, script: &Script, most: u64) -> u64
+        requires { 1 ≤ most }
+        ensures some { 1 ≤ result }
+        ensures most { result ≤ most }
+    {
+        if script.orders().is_empty() || self.fired.is_all() {
+            return most;
+        }
+        let Some(merged) = self.state.merged() else {
+            return most;
+        };
+        most_at_once(script, self.state.id(), merged, most)
     }
 }

@@ -11,12 +11,15 @@ ghost use Rattle.plan_reader.specs.Nodes.{has_link};
 ghost use Rattle.plan_reader.specs.PlanView.{IsPlan};
 ghost use Rattle.run_node.specs.Timely.{AreTimely};
 ghost use Rattle.run_node.specs.Ends.{leads_to, links_of};
-ghost use Rattle.run_node.specs.Fits.{Came, Fit, HasHappened, HasTaken, IsAtHand};
+ghost use Rattle.run_node.specs.Fits.{Came, Fit, HasHappened, HasWorked, IsAtHand};
 ghost use Rattle.run_node.specs.NodeView.{name_of};
+ghost use Rattle.run_node.specs.Sends.{with_all_sent};
 ghost use Rattle.run_node.specs.SoundNode.{IsTrueView, TapFits};
+ghost use Rattle.run_node.specs.Takes.{HasTaken, Takes, TakesNothing};
 ghost use Rattle.run_node.specs.Tasks.{CameFor, event_of};
 ghost use Rattle.tuple_edge.specs.Limits.{most_packets};
-ghost use Rattle.std.specs.Prelude.{◌≡◌, ◌≢◌, ◌≤◌, ◌+◌, ◌++◌, ◌∷◌, [], true, IfSome, IsTrue, None, Ok, OnOk, Some};
+ghost use Rattle.std.specs.Prelude.{◌≡◌, ◌≢◌, ◌≤◌, ◌++◌, ◌∷◌, [], ℕ, true, IfOk, IfSome, IsTrue, None, Ok, OnErr, OnOk, Some, length};
+ghost use Rattle.tuple_edge.specs.declared.event.Event.TheVariants as event;
 ghost use Rattle.tuple_edge.specs.declared.node.NodeId.{NodeId};
 
 use crate::acts::{Acts, Task};
@@ -81,6 +84,16 @@ fn note(history: &mut Log, task: &Task, clock: u64)
     }
 }
 
+// Sends what an event has to send, with its clock, and gives it up.
+fn send_event<O: Outlet + Drop>(outs: &mut Outs<O>, outbox: &mut Outbox, clock: u64)
+    requires { length outbox.old.packets ≤ outs.old.room }
+    ensures links { outs.new.links ≡ with_all_sent clock outbox.old.packets outs.old.links }
+    ensures unsent { outbox.new.packets ≡ [] }
+{
+    outs.send_all(outbox, clock);
+    outs.flush();
+}
+
 /// A node with its links, the arrival that it keeps, its clock and its history.
 #[derive(Drop)]
 pub struct Node<N: RunNames, A: Acts, M: Links, T: Tap> {
@@ -104,8 +117,7 @@ pub struct Node<N: RunNames, A: Acts, M: Links, T: Tap> {
 
 impl<N: RunNames, A: Acts, M: Links, T: Tap> Model for Node<N, A, M, T> {
     ghost use Rattle.run_node.specs.NodeView.{NodeView};
-    ghost use Rattle.run_node.specs.SoundNode.{IsSoundNode, TapFits};
-    ghost use Rattle.std.specs.Prelude.{◌≡◌, []};
+    ghost use Rattle.run_node.specs.SoundNode.{IsNode};
 
     ghost Value = { NodeView A T };
 
@@ -118,9 +130,8 @@ impl<N: RunNames, A: Acts, M: Links, T: Tap> Model for Node<N, A, M, T> {
       tap = n.tap;
     } };
 
-    ghost invariant = { λ n. (n.outbox.packets ≡ []) × TapFits T.given A.rows n.tap n.state
-        × IsSoundNode A.id A.of_plan A.stands N.plan N.inputs N.script n.state n.ins.items n.outs.links n.kept n.clock n.fired n.history.entries
-        × (n.history.node ≡ A.id n.state) };
+    ghost invariant = { λ n. IsNode T.given A.rows A.id A.of_plan A.stands N.plan N.inputs N.script
+        n.state n.ins.items n.outs.links n.kept n.clock n.fired n.history n.outbox n.tap };
 }
 
 impl<N: RunNames, A: Acts, M: Links, T: Tap> Node<N, A, M, T> {
@@ -205,58 +216,125 @@ impl<N: RunNames, A: Acts, M: Links, T: Tap> Node<N, A, M, T> {
         self.clock = clock + 1;
         self.fired = self.fired.after(task);
         note(&mut self.history, task, self.clock);
-        self.outs.send_all(&self.outbox, self.clock);
-        self.outbox.clear();
-        self.outs.flush();
+        send_event(&mut self.outs, &mut self.outbox, self.clock);
         Ok(true)
     }
 
-    // The arrival that is kept, or the next one, which is kept then.
+    // The arrival that was kept, and else the next one. None is kept then.
     fn fetch(&mut self) -> Option<Kept>
         ensures name { name_of A.id self.new ≡ name_of A.id self.old }
-        ensures kept { self.new.kept ≡ result }
+        ensures kept { self.new.kept ≡ None }
         ensures hand { IsAtHand self.old.kept self.old.ins self.new.ins result }
         ensures history { self.new.history ≡ self.old.history }
         ensures came { IfSome result (λ k. (arrived : Arrivals) → Fit arrived self.new.ins → Came arrived k.from k.arrival) }
     {
         if let Some(kept) = self.kept {
+            self.kept = None;
             return Some(kept);
         }
-        self.kept = receive(&mut self.ins, &mut self.round);
-        self.kept
+        receive(&mut self.ins, &mut self.round)
     }
 
-    // Takes the arrival that is kept, or the next one, if it may be taken. What isn't taken stays.
-    pub(crate) fn take(&mut self) -> Result<bool, OutOfMemory>
+    // Keeps an arrival that came to it.
+    fn keep(&mut self, next: Kept)
+        requires { (arrived : Arrivals) → Fit arrived self.old.ins → Came arrived next.from next.arrival }
+        ensures { self.new ≡ record self.old { kept = Some next } }
+    {
+        self.kept = Some(next);
+    }
+
+    // Takes an arrival that came to it, if it may be taken: one event, its room first, then what it does, and then what it
+    // sends.
+    fn take_arrival(&mut self, next: &Kept) -> Result<bool, OutOfMemory>
+        requires { (arrived : Arrivals) → Fit arrived self.old.ins → Came arrived next.now.from next.now.arrival }
+        ensures happens { result ≡ Ok true → HasHappened (event.Take (link next.now.from (A.id self.old.state)) next.now.arrival.index) self.old.history self.new.history }
+        ensures history { result ≢ Ok true → self.new.history ≡ self.old.history }
         ensures name { name_of A.id self.new ≡ name_of A.id self.old }
-        ensures takes { result ≡ Ok true → HasTaken A.id self.old self.new }
-        ensures stays { result ≢ Ok true → IsAtHand self.old.kept self.old.ins self.new.ins self.new.kept }
+        ensures ins { self.new.ins ≡ self.old.ins }
+        ensures kept { self.new.kept ≡ self.old.kept }
     {
-        let Some(Kept { from, arrival }) = self.fetch() else {
+        let latest = self.clock.max(next.arrival.packet.at);
+        if latest >= LAST_CLOCK {
             return Ok(false);
-        };
-        let index = arrival.index;
-        let packet = arrival.packet;
-        let task = Task::Take {
-            from,
-            index,
-            packet,
-        };
-        let took = self.event(&task)?;
-        if took {
-            self.kept = None;
         }
-        Ok(took)
+        reserve_event(&mut self.history, &mut self.outs, &mut self.outbox)?;
+        let from = next.from;
+        let index = next.arrival.index;
+        match self
+            .state
+            .take(from, index, &next.arrival.packet, &mut self.outbox)?
+        {
+            Worked::Idle => return Ok(false),
+            Worked::Did => {}
+        }
+        self.clock = latest + 1;
+        self.history.take(from, index, self.clock);
+        send_event(&mut self.outs, &mut self.outbox, self.clock);
+        Ok(true)
     }
 
-    // One piece of work, if nothing waits.
-    pub(crate) fn work(&mut self) -> Result<bool, OutOfMemory>
-        ensures { name_of A.id self.new ≡ name_of A.id self.old }
+    // Takes the arrival at hand, if there is one and it may be taken. What isn't taken is kept.
+    fn take_next(&mut self) -> Result<bool, OutOfMemory>
+        ensures takes { result ≡ Ok true → (taken : Kept) × Takes A.id self.old self.new taken }
+        ensures stays { result ≢ Ok true → TakesNothing A.id self.old self.new }
     {
-        if self.outs.some_wait() {
+        let Some(next) = self.fetch() else {
             return Ok(false);
+        };
+        match self.take_arrival(&next) {
+            Ok(true) => Ok(true),
+            Ok(false) => {
+                self.keep(next);
+                Ok(false)
+            },
+            Err(error) => {
+                self.keep(next);
+                Err(error)
+            },
         }
-        self.event(&Task::Work)
+    }
+
+    // Takes arrivals one after another, at most so many: the one that is kept, and then what its links give. Each is an event
+    // of its own, with its clock, and what one sends goes before the next. It ends where nothing is at hand, and where what is
+    // at hand may not be taken or memory is wanting for it, which then is kept. Gives how many it took.
+    pub(crate) fn take(&mut self, most: u64) -> Result<u64, OutOfMemory>
+        ensures takes { IfOk result (λ count. HasTaken A.id count self.old self.new) }
+        ensures failed { OnErr result ((count : ℕ) × HasTaken A.id count self.old self.new) }
+        ensures few { IfOk result (λ count. count ≤ most) }
+        ensures name { name_of A.id self.new ≡ name_of A.id self.old }
+    {
+        for count in 0..most {
+            if !self.take_next()? {
+                return Ok(count);
+            }
+        }
+        Ok(most)
+    }
+
+    // Pieces of work, one after another and at most so many, if nothing waits: their room first, then what they do, and then
+    // what they send. Each of them is an event of its own, with its clock. They are no more than the history has room for, so
+    // that memory is asked for as for one event. Gives how many they were.
+    pub(crate) fn work(&mut self, most: u64) -> Result<u64, OutOfMemory>
+        ensures worked { IfOk result (λ count. HasWorked (A.id self.old.state) count self.old.history self.new.history) }
+        ensures few { IfOk result (λ count. count ≤ most) }
+        ensures name { name_of A.id self.new ≡ name_of A.id self.old }
+        ensures ins { self.new.ins ≡ self.old.ins }
+        ensures kept { self.new.kept ≡ self.old.kept }
+    {
+        let clock = self.clock;
+        if clock >= LAST_CLOCK || self.outs.some_wait() {
+            return Ok(0);
+        }
+        reserve_event(&mut self.history, &mut self.outs, &mut self.outbox)?;
+        let most = most.min(LAST_CLOCK - clock) as usize;
+        let most = most.min(self.history.spare());
+        let steps = self.state.work(most, self.rise, &mut self.outbox)?;
+        let count = steps.count as u64;
+        self.clock = clock + count;
+        self.history.work_times(clock, steps.count);
+        self.outs.send_steps(&mut self.outbox, steps, clock);
+        self.outs.flush();
+        Ok(count)
     }
 
     // One row, if one is to be made.

@@ -1,11 +1,13 @@
 // All ends of links on which a node sends.
 ghost use Rattle.run_node.specs.Ends.{links_of};
-ghost use Rattle.run_node.specs.Sends.{with_all_sent};
-ghost use Rattle.std.specs.Prelude.{◌≡◌, ◌≤◌, OnOk, length};
+ghost use Rattle.run_node.specs.Sends.{with_all_sent, with_steps_sent};
+ghost use Rattle.run_node.specs.Steps.{pieces};
+ghost use Rattle.std.specs.Prelude.{◌≡◌, ◌≤◌, ◌<◌, ◌+◌, ◌*◌, ◌^◌, [], OnOk, length};
 
+use crate::acts::Steps;
 use crate::out_end::OutEnd;
 use crate::place_range::PlaceRange;
-use crate::sending::{count_firsts, flush_all, reserve_all, send_all};
+use crate::sending::{count_firsts, flush_all, reserve_all, send_all, send_steps};
 use flux_link::Outlet;
 use std::marker::Model;
 use tuple_edge::{OutOfMemory, Outbox};
@@ -72,11 +74,15 @@ impl<O: Outlet + Drop> Outs<O> {
         Ok(())
     }
 
-    /// Puts all packets of an outbox on their links, in order, each with the clock.
-    pub(crate) fn send_all(&mut self, outbox: &Outbox, clock: u64)
-        requires { length outbox.now.packets ≤ self.old.room }
-        ensures { self.new.links ≡ with_all_sent clock outbox.now.packets self.old.links }
+    /// Puts all packets of an outbox on their links, in order, each with the clock, and empties it.
+    pub(crate) fn send_all(&mut self, outbox: &mut Outbox, clock: u64)
+        requires { length outbox.old.packets ≤ self.old.room }
+        ensures links { self.new.links ≡ with_all_sent clock outbox.old.packets self.old.links }
+        ensures emptied { outbox.new.packets ≡ [] }
     {
+        if outbox.is_empty() {
+            return;
+        }
         let left = self.room - outbox.len();
         self.waiting = send_all(
             &mut self.ends,
@@ -87,6 +93,33 @@ impl<O: Outlet + Drop> Outs<O> {
             self.waiting,
         );
         self.room = left;
+        outbox.clear();
+    }
+
+    /// Puts the packets of steps on their links, in order, so many of each step with its clock, and empties the outbox. The clocks
+    /// follow on this one.
+    pub(crate) fn send_steps(&mut self, outbox: &mut Outbox, steps: Steps, clock: u64)
+        requires whole { length outbox.old.packets ≡ steps.count * steps.each }
+        requires clocks { clock + steps.count < 2 ^ 64 }
+        requires room { length outbox.old.packets ≤ self.old.room }
+        ensures links { self.new.links ≡ with_steps_sent clock (pieces steps.count steps.each outbox.old.packets) self.old.links }
+        ensures emptied { outbox.new.packets ≡ [] }
+    {
+        if outbox.is_empty() {
+            return;
+        }
+        let left = self.room - outbox.len();
+        self.waiting = send_steps(
+            &mut self.ends,
+            outbox,
+            steps,
+            clock,
+            self.firsts,
+            &mut self.near,
+            self.waiting,
+        );
+        self.room = left;
+        outbox.clear();
     }
 
     /// Pushes what waits, on each link as far as it has room.

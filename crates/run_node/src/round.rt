@@ -16,9 +16,8 @@ impl Round {
 
     /// The round of the next turn over so many links. It begins one link further.
     pub(crate) fn renewed(self, links: usize) -> Round {
-        Round {
-            next: self.next.wrapping_add(1),
-            left: links,
-        }
+        let further = self.next.saturating_add(1);
+        let next = if further < links { further } else { 0 };
+        Round { next, left: links }
     }
 }

@@ -41,26 +41,13 @@ impl<N: RunNames, A: Acts, M: Links, T: Tap> Node<N, A, M, T> {
         ensures { name_of A.id self.new ≡ name_of A.id self.old }
     {
         let fired = self.fire(script)?;
-        let took = self.take_some()?;
+        let took = self.take(PORTION)? > 0;
         let made = self.make_some(plan)?;
-        let did = self.work_some()?;
+        let did = self.work_some(script)?;
         if fired || took || made || did {
             return Ok(true);
         }
-        self.report_some()
-    }
-
-    fn take_some(&mut self) -> Result<bool, OutOfMemory>
-        ensures { name_of A.id self.new ≡ name_of A.id self.old }
-    {
-        let mut some = false;
-        for _ in 0..PORTION {
-            if !self.take()? {
-                break;
-            }
-            some = true;
-        }
-        Ok(some)
+        self.report_some(script)
     }
 
     fn make_some(&mut self, plan: &Plan) -> Result<bool, OutOfMemory>
@@ -77,23 +64,26 @@ impl<N: RunNames, A: Acts, M: Links, T: Tap> Node<N, A, M, T> {
     }
 
     // Where a turn came to nothing else, marks are reported by however little they rose.
-    fn report_some(&mut self) -> Result<bool, OutOfMemory>
+    fn report_some(&mut self, script: &Script) -> Result<bool, OutOfMemory>
         ensures { name_of A.id self.new ≡ name_of A.id self.old }
     {
         self.rise = 1;
-        self.work_some()
+        self.work_some(script)
     }
 
-    fn work_some(&mut self) -> Result<bool, OutOfMemory>
+    // The pieces are done several in one call, but one by one where an order becomes due in this turn.
+    fn work_some(&mut self, script: &Script) -> Result<bool, OutOfMemory>
         ensures { name_of A.id self.new ≡ name_of A.id self.old }
     {
-        let mut some = false;
-        for _ in 0..PORTION {
-            if !self.work()? {
+        let most = self.portion(script, PORTION);
+        let mut left = PORTION;
+        while left > 0 {
+            let count = self.work(left.min(most))?;
+            if count == 0 {
                 break;
             }
-            some = true;
+            left -= count;
         }
-        Ok(some)
+        Ok(left < PORTION)
     }
 }

@@ -1,10 +1,12 @@
 // What a node does in one turn, on one worker: its steps in their order, and how many of each there are at most.
-use crate::fixture::run;
+use crate::fixture::{emits_a_front, is_legal, run};
 use partition_runner::{FreeGate, Ran, Rings};
 use replica_node::Replica;
 use std::alloc::Global;
+use std::process::Abort;
 use std::test::Fail;
-use test_kit::{A, ONE, made};
+use std::thread::Threads;
+use test_kit::{A, ONE, Story, made};
 use tuple_edge::{Event, NodeId, OutOfMemory, Stamped};
 
 // What an event is.
@@ -164,15 +166,49 @@ fn most_at_once(portions: &[(Kind, u64)], kind: Kind) -> u64 {
     most
 }
 
-// Of what eight replicas send, egress takes 64 packets in a turn. A ring holds 128, and a replica goes on working
-// until one more waits. After 182 turns of each of the 26 nodes the end has come to all replicas, and not to egress.
+// Of what eight replicas send, egress takes 64 packets in a turn. A ring holds 128, and a replica goes on working until
+// some more wait: of the 24 that one call of work sends, the last 9. After 182 turns of each of the 26 nodes the end has come to
+// all replicas, and not to egress.
 #[test]
-fn a_turn_takes_a_portion_and_works_while_nothing_waits(rt: HostRuntime) -> Result<(), Fail> {
+fn a_turn_takes_a_portion_and_begins_work_while_nothing_waits(rt: HostRuntime) -> Result<(), Fail> {
     let story = made(rt.alloc(), BURST, 3, 5_000, b"")?;
     let outcome = run(&rt, rt.alloc(), &story, 1, 182 * 26, &mut Rings, &FreeGate)?;
     assert!(rt; !outcome.ran.egress.done());
-    assert_eq!(rt; most_under_way(&outcome.ran), 129);
+    assert_eq!(rt; most_under_way(&outcome.ran), 128 + 9);
     let portions = portions_of(rt.alloc(), &outcome.ran, NodeId::Egress)?;
     assert_eq!(rt; most_at_once(&portions, Kind::Take), 64);
+    Ok(())
+}
+
+// Four partitions that answer the end with some 350 rows each, more than egress takes from them in the meantime.
+const FOUR: &[u8] = b"flux 1\nstage 1 parts 4 by account window both 1000000\n";
+// Its nodes: ingress, three of each partition, and egress.
+const NODES: u64 = 14;
+
+// So many turns of one worker are legal and emit a front of the output; the most items under way then.
+fn runs_full<R: Threads + Sync + Abort>(
+    rt: &R,
+    alloc: Global,
+    story: &Story,
+    turns: u64,
+) -> Result<(u64, bool), OutOfMemory> {
+    let outcome = run(rt, alloc, story, 1, turns, &mut Rings, &FreeGate)?;
+    let legal = is_legal(alloc, story, &outcome)?;
+    assert!(rt; legal && emits_a_front(story, &outcome.ran), "{turns}");
+    Ok((most_under_way(&outcome.ran), outcome.ran.egress.done()))
+}
+
+// Where a ring is full up to 24 items wait beside it, and no row is lost, doubled or out of its place.
+#[test]
+fn rows_come_through_full_rings(rt: HostRuntime) -> Result<(), Fail> {
+    let story = made(rt.alloc(), FOUR, 3, 1_500, b"")?;
+    let mut most = 0u64;
+    for fours in 10..25 {
+        let (under_way, _done) = runs_full(&rt, rt.alloc(), &story, fours * 4 * NODES)?;
+        most = most.max(under_way);
+    }
+    assert!(rt; 128 < most && most <= 128 + 24, "{most}");
+    let (_under_way, done) = runs_full(&rt, rt.alloc(), &story, 1_000_000)?;
+    assert!(rt; done);
     Ok(())
 }

@@ -1,20 +1,19 @@
 -- The inputs of both files in order of time.
-use Rattle.std.proofs.Common.{ℕ, ◌≡◌, ◌<◌, ◌≤◌, ◌+◌, List, [], ◌∷◌, ◌++◌, get_or, length, map, take, refl, sym, ap, subst, ◌∙◌, true, arith}
+use Rattle.std.proofs.Common.{ℕ, ◌≡◌, ◌<◌, ◌≤◌, ◌+◌, List, [], ◌∷◌, ◌++◌, get_or, length, map, take, sym, ap, subst, ◌∙◌, true, arith}
 use Rattle.std.specs.Prelude.{All, IsSortedByKey}
 use Rattle.std.specs.Cmp.{IsStrictWeakOrder}
 use Rattle.std.specs.List.Sorted.{IsStableByKey}
 use Rattle.std.specs.Ordering.{int_cmp}
 use Rattle.std.proofs.lemmas.Cmp.{int_cmp_total}
-use Rattle.std.proofs.lemmas.List.{length-append, length-map, map-append, map_push, take_more}
+use Rattle.std.proofs.lemmas.List.{length-append, length-map, take_more}
 use Rattle.std.proofs.lemmas.List.Elements.{All-append, All-map, All-weaker}
 use Rattle.std.proofs.lemmas.List.Sorted.{All-permutation, length_permutation, ranks_by}
 use Rattle.tuple_edge.specs.Input.{Input, from_first, rows_in}
 use Rattle.tuple_edge.specs.declared.row.Row.{Row}
-use Rattle.trade_text.specs.Inputs.{IsTimeOrder, from_second, in_order_by, input_of, inputs_of_both, is_earlier, rows_from}
+use Rattle.trade_text.specs.Inputs.{IsTimeOrder, from_second, in_order_by, inputs_of_both, is_earlier}
 use Rattle.trade_text.specs.Limits.{max_inputs}
 use Rattle.trade_text.specs.TradesView.{IsInputRow, IsTrades, paired}
-use Rattle.trade_text.specs.declared.merging.SourcedRow.{SourcedRow}
-use Rattle.trade_text.proofs.Ordered.{in_order_by-map, order_same, order_sorted, order_stable, sorted_is}
+use Rattle.trade_text.proofs.Ordered.{order_same, order_sorted, order_stable, sorted_is}
 use Rattle.trade_text.proofs.Sources.{paired_push, rows_paired, sources_paired}
 
 ranks : IsStrictWeakOrder is_earlier
@@ -28,21 +27,11 @@ ordered given = record {
   stable = order_stable is_earlier ranks given;
 }
 
-from_source : (source : ℕ) (rows : List Row) → map input_of (rows_from source rows) ≡ map (λ row. record { source = source; row = row }) rows
-from_source source [] = refl
-from_source source (row ∷ rows) = ap (λ inputs. record { source = source; row = row } ∷ inputs) (from_source source rows)
-
 -- what the stable sort by time gives of the rows of both files
-pub sorted_both : (trades movements : List Row) (given ordered : List SourcedRow) → given ≡ rows_from 0 trades ++ rows_from 1 movements
-    → IsSortedByKey (λ (x : SourcedRow). x.row.time) int_cmp ordered → IsStableByKey (λ (x : SourcedRow). x.row.time) int_cmp given ordered
-    → map input_of ordered ≡ inputs_of_both trades movements
-sorted_both trades movements given ordered is sorted stable =
-    let by : IsStrictWeakOrder (λ (a b : SourcedRow). is_earlier (input_of a) (input_of b)) = ranks_by int_cmp_total (λ (x : SourcedRow). x.row.time) in
-    ap (map input_of) (sorted_is (λ (a b : SourcedRow). is_earlier (input_of a) (input_of b)) by given ordered sorted stable)
-    ∙ in_order_by-map input_of is_earlier given
-    ∙ ap (λ xs. in_order_by is_earlier (map input_of xs)) is
-    ∙ ap (in_order_by is_earlier) (map-append input_of (rows_from 0 trades) (rows_from 1 movements) ∙ ap (λ xs. xs ++ map input_of (rows_from 1 movements)) (from_source 0 trades)
-    ∙ ap (λ xs. from_first trades ++ xs) (from_source 1 movements))
+pub sorted_both : (trades movements : List Row) (given ordered : List Input) → given ≡ from_first trades ++ from_second movements
+    → IsSortedByKey (λ (x : Input). x.row.time) int_cmp ordered → IsStableByKey (λ (x : Input). x.row.time) int_cmp given ordered
+    → ordered ≡ inputs_of_both trades movements
+sorted_both trades movements given ordered is sorted stable = sorted_is is_earlier ranks given ordered sorted stable ∙ ap (in_order_by is_earlier) is
 
 -- what holds of all inputs of both files holds of each in order
 each_ordered : (P : Input → Type 0) (trades movements : List Row) → All P (from_first trades) → All P (from_second movements) → All P (inputs_of_both trades movements)
@@ -78,10 +67,9 @@ merged_limits trades movements rows sources symbols first second few known is sa
     }
 
 -- one more input is taken apart
-pub parted_push : (rows : List Row) (sources : List ℕ) (given : List SourcedRow) (i : ℕ) (d : SourcedRow) → i < length given → length sources ≡ length rows → paired rows sources ≡ map input_of (take i given)
-    → paired (rows ++ (get_or given i d).row ∷ []) (sources ++ (get_or given i d).source ∷ []) ≡ map input_of (take (i + 1) given)
+pub parted_push : (rows : List Row) (sources : List ℕ) (given : List Input) (i : ℕ) (d : Input) → i < length given → length sources ≡ length rows → paired rows sources ≡ take i given
+    → paired (rows ++ (get_or given i d).row ∷ []) (sources ++ (get_or given i d).source ∷ []) ≡ take (i + 1) given
 parted_push rows sources given i d l same is =
     paired_push rows sources (get_or given i d).row (get_or given i d).source same
-    ∙ ap (λ xs. xs ++ input_of (get_or given i d) ∷ []) is
-    ∙ sym (map_push input_of (take i given) (get_or given i d))
-    ∙ ap (map input_of) (sym (take_more given i d l))
+    ∙ ap (λ inputs. inputs ++ get_or given i d ∷ []) is
+    ∙ sym (take_more given i d l)

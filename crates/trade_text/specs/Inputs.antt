@@ -4,7 +4,6 @@ use Rattle.std.specs.List.Sorted.{IsStableBy}
 use Rattle.std.specs.Ordering.{int_cmp, is_lt}
 use Rattle.tuple_edge.specs.Input.{Input, from_first}
 use Rattle.tuple_edge.specs.declared.row.Row.{Row}
-use Rattle.trade_text.specs.declared.merging.SourcedRow.{SourcedRow}
 
 -- ---- order
 
@@ -20,9 +19,13 @@ in_order_by is_before (x ∷ xs) = put_by is_before x (in_order_by is_before xs)
 
 -- ---- inputs
 
+-- rows that all come from this source
+abbrev pub rows_from : ℕ → List Row → List Input
+rows_from source rows = map (λ row. record { source = source; row = row }) rows
+
 -- rows that all come from the second source
 abbrev pub from_second : List Row → List Input
-from_second rows = map (λ row. record { source = 1; row = row }) rows
+from_second rows = rows_from 1 rows
 
 abbrev pub is_earlier : Input → Input → Bool
 is_earlier x y = is_lt (int_cmp x.row.time y.row.time)
@@ -40,12 +43,3 @@ pub record IsTimeOrder (given ordered : List Input) : Type 0 where
   pub same : IsPermutation given ordered
   pub rising : IsSortedBy is_earlier ordered
   pub stable : IsStableBy is_earlier given ordered
-
--- ---- rows with their sources, as the code holds them
-
-abbrev pub input_of : SourcedRow → Input
-input_of x = record { source = x.source; row = x.row }
-
--- rows of a source
-abbrev pub rows_from : ℕ → List Row → List SourcedRow
-rows_from source rows = map (λ row. record { source = source; row = row }) rows

@@ -1,27 +1,20 @@
 // The rows of both files, in order of time.
-ghost use Rattle.std.specs.Prelude.{◌≡◌, ◌++◌, ◌≤◌, ◌+◌, IfOk, OnErr, OnOk, false, length, map, true};
-ghost use Rattle.trade_text.specs.Inputs.{IsTimeOrder, from_second, input_of, inputs_of_both, rows_from};
+ghost use Rattle.std.specs.Prelude.{◌≡◌, ◌++◌, ◌≤◌, ◌+◌, IfOk, OnErr, OnOk, false, length, true};
+ghost use Rattle.trade_text.specs.Inputs.{IsTimeOrder, from_second, inputs_of_both, rows_from};
 ghost use Rattle.trade_text.specs.Limits.{max_inputs};
 ghost use Rattle.tuple_edge.specs.Input.{from_first};
 ghost use Rattle.trade_text.specs.TradesView.{inputs_in, paired};
 
 use crate::{Cash, Trades};
 use std::alloc::Global;
-use tuple_edge::{OutOfMemory, Row};
-
-// A row with the source from which it comes.
-#[derive(Clone, Copy)]
-pub(crate) struct SourcedRow {
-    pub(crate) source: u32,
-    pub(crate) row: Row,
-}
+use tuple_edge::{Input, OutOfMemory, Row};
 
 // Appends the rows of a source.
-fn push_rows(inputs: &mut Vec<SourcedRow>, source: u32, rows: &[Row]) -> Result<(), OutOfMemory>
+fn push_rows(inputs: &mut Vec<Input>, source: u32, rows: &[Row]) -> Result<(), OutOfMemory>
     ensures { OnOk result (inputs.new.items ≡ inputs.old.items ++ rows_from source rows.now) }
 {
     for row in rows {
-        inputs.push(SourcedRow { source, row: *row })?;
+        inputs.push(Input { source, row: *row })?;
     }
     Ok(())
 }
@@ -31,9 +24,9 @@ fn in_time_order(
     alloc: Global,
     trades: &[Row],
     movements: &[Row],
-) -> Result<Vec<SourcedRow>, OutOfMemory>
+) -> Result<Vec<Input>, OutOfMemory>
     requires { length trades.now + length movements.now ≤ max_inputs }
-    ensures { IfOk result (λ inputs. map input_of inputs.items ≡ inputs_of_both trades.now movements.now) }
+    ensures { IfOk result (λ inputs. inputs.items ≡ inputs_of_both trades.now movements.now) }
 {
     let mut inputs = Vec::new(alloc);
     inputs.reserve(trades.len() + movements.len())?;
@@ -44,8 +37,8 @@ fn in_time_order(
 }
 
 // The rows of inputs, and the source of each.
-fn parted(alloc: Global, inputs: &[SourcedRow]) -> Result<(Vec<Row>, Vec<u32>), OutOfMemory>
-    ensures inputs { IfOk result (λ parts. paired parts.0.items parts.1.items ≡ map input_of inputs.now) }
+fn parted(alloc: Global, inputs: &[Input]) -> Result<(Vec<Row>, Vec<u32>), OutOfMemory>
+    ensures inputs { IfOk result (λ parts. paired parts.0.items parts.1.items ≡ inputs.now) }
     ensures many { IfOk result (λ parts. length parts.1.items ≡ length parts.0.items) }
 {
     let mut rows = Vec::new(alloc);

@@ -1,6 +1,5 @@
 // Ingress as a node, where partitions are groups of three.
 ghost use Rattle.flux_producer.specs.ProducerView.{contents_of};
-ghost use Rattle.ingress_egress.specs.IngressView.{any_input_of};
 ghost use Rattle.node_edges.specs.OutEdges.{HasMade};
 ghost use Rattle.pair_machine.specs.CountLaws.{made_for};
 ghost use Rattle.pair_machine.specs.Edges.{edge_to};
@@ -19,13 +18,13 @@ ghost use Rattle.tuple_edge.specs.declared.event.Worked.TheVariants.{Idle};
 use crate::group::replica;
 use crate::{GROUP_SIZE, TrioOutbox};
 use flux_producer::{Due, Producer};
-use ingress_egress::{Given, make_at};
+use ingress_egress::make_at;
 use partition_step::make_room;
 use plan_reader::{Plan, Stage};
 use std::alloc::Global;
 use std::marker::Model;
 use trio_machine::{TrioBody, TrioNode};
-use tuple_edge::{EdgeId, Item, OutOfMemory, Row, Worked};
+use tuple_edge::{EdgeId, Input, Item, OutOfMemory, Row, Worked};
 
 /// Ingress: it makes the inputs into items, one after another, and sends them, with the marks and the end,
 /// to the first stage. It has one source.
@@ -134,7 +133,7 @@ impl TrioIngress {
         if self.makes > self.rows.len() as u64 {
             return Ok(Worked::Idle);
         }
-        let input = given_at(&self.rows, self.makes as usize);
+        let input = input_at(&self.rows, self.makes as usize);
         let stamp = self.makes + 1;
         make_with_room(&mut self.producer, &self.first, self.mark, stamp, input)?;
         self.makes = stamp;
@@ -196,12 +195,12 @@ impl TrioIngress {
 }
 
 // The input at a place, from 0, if there is one.
-fn given_at(rows: &[Row], nth: usize) -> Option<Given>
-    ensures { any_input_of result ≡ slice_get (from_first rows.now) nth }
+fn input_at(rows: &[Row], nth: usize) -> Option<Input>
+    ensures { result ≡ slice_get (from_first rows.now) nth }
 {
     match rows.get(nth) {
         None => None,
-        Some(row) => Some(Given {
+        Some(row) => Some(Input {
             source: 0,
             row: *row,
         }),
@@ -214,12 +213,12 @@ fn make_with_room(
     first: &Stage,
     mark: u64,
     stamp: u64,
-    input: Option<Given>,
+    input: Option<Input>,
 ) -> Result<(), OutOfMemory>
     requires parts { 1 ≤ first.now.parts }
     requires targets { length producer.old.edges ≡ first.now.parts }
     requires mark { 1 ≤ mark }
-    ensures made { OnOk result (HasMade (λ t. edge_to (Some first.now) t (made_for 0 mark stamp (any_input_of input))) producer.old producer.new) }
+    ensures made { OnOk result (HasMade (λ t. edge_to (Some first.now) t (made_for 0 mark stamp input)) producer.old producer.new) }
     ensures contents { OnErr result (contents_of producer.new ≡ contents_of producer.old) }
 {
     make_room(producer, 2)?;

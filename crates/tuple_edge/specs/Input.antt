@@ -1,11 +1,11 @@
 -- The inputs of a dataflow: rows with the source of ingress from which each comes.
-use Rattle.std.specs.Prelude.{ℕ, List, map}
+use Rattle.std.specs.Prelude.{List, map}
+use Rattle.tuple_edge.specs.declared.input.Input.{Input as Declared}
 use Rattle.tuple_edge.specs.declared.row.Row.{Row}
 
--- a row and its source, from 0
-pub record Input : Type 0 where
-  pub source : ℕ
-  pub row : Row
+-- a row and its source, from 0: the type of the code
+abbrev pub Input : Type 0
+Input = Declared
 
 -- rows that all come from the first source
 abbrev pub from_first : List Row → List Input

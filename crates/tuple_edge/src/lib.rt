@@ -1,5 +1,5 @@
-//! Rows, the items of an edge, and the packets and events of the nodes: the plain data that every
-//! other crate speaks of, with the few functions that give it meaning.
+//! Rows, inputs, the items of an edge, and the packets and events of the nodes: the plain data that
+//! every other crate speaks of, with the few functions that give it meaning.
 //!
 //! It promises the order of items (by stamp, then rows before the mark before the end, then source)
 //! and of nodes, the routing of a row, sums that stop at a bound, and that an outbox is a list. It
@@ -7,6 +7,7 @@
 #![tactic(auto)]
 
 mod event;
+mod input;
 mod item;
 mod limits;
 mod memory;
@@ -19,6 +20,7 @@ mod status;
 mod sum;
 
 pub use event::{Drained, Event, History, Stamped, Worked};
+pub use input::Input;
 pub use item::{Item, NUMBER_LIMIT};
 pub use limits::{MAX_THREADS, MOST_PACKETS};
 pub use memory::OutOfMemory;

@@ -1,5 +1,5 @@
-use Rattle.merge_order.proofs.Heads.{least_is}
+use Rattle.merge_order.proofs.Heads.{least_begins}
 use Rattle.merge_order.proofs.head.least_head.Goals as goal
 
-pub loop-source-init : goal.loop-source-init
-loop-source-init c = least_is c.args.queues.now
+pub loop-place-init : goal.loop-place-init
+loop-place-init c = least_begins c.args.queues.now c.in_ok-first.field-0.now c.in_ok-least.least.now c.in_ok-first.ensures.value c.in_ok-least.ensures

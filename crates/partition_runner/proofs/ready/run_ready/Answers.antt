@@ -13,11 +13,10 @@ run_linked-parts-requires-clause-planned g c κs within = subst IsPlan c.require
 
 pub run_linked-parts-requires-clause-distinct : goal.run_linked-parts-requires-clause-distinct
 run_linked-parts-requires-clause-distinct g c κs within =
-    let r = c.ready.invariant in
-    names_distinct (map (name_of id_of) (opening_of c.ready.inside.board)) (subst Apart (sym r.2.ids) (nodes_apart g.N.RunNames.plan))
+    names_distinct (map (name_of id_of) (opening_of c.ready.inside.board)) (subst Apart (sym c.ready.invariant.nodes.ids) (nodes_apart g.N.RunNames.plan))
 
 pub run_linked-parts-requires-clause-linked : goal.run_linked-parts-requires-clause-linked
-run_linked-parts-requires-clause-linked g c κs within = c.ready.invariant.2.linked
+run_linked-parts-requires-clause-linked g c κs within = c.ready.invariant.nodes.linked
 
 pub returns-clause-run : goal.returns-clause-run
-returns-clause-run g c = subst (λ ids. IsRun id_of StandsFor g.N.RunNames.plan g.N.RunNames.inputs g.N.RunNames.script ids (parts_in c.run_linked-parts.result.0.items)) c.ready.invariant.2.ids c.run_linked-parts.ensures.run
+returns-clause-run g c = subst (λ ids. IsRun id_of StandsFor g.N.RunNames.plan g.N.RunNames.inputs g.N.RunNames.script ids (parts_in c.run_linked-parts.result.0.items)) c.ready.invariant.nodes.ids c.run_linked-parts.ensures.run

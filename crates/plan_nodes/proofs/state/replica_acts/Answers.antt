@@ -2,16 +2,15 @@ use Rattle.std.proofs.Common.{ap, arith, refl}
 use Rattle.replica_node.specs.Rules.{back_asked, down_sent, stop_asked}
 use Rattle.replica_node.specs.ReplicaView.{ReplicaView}
 use Rattle.run_node.specs.declared.acts.Task.TheVariants as task
-use Rattle.plan_nodes.proofs.Acting.{back_at, replica_does, replica_takes, replica_works}
+use Rattle.plan_nodes.proofs.Acting.{acted_by_take, back_at, replica_does}
+use Rattle.plan_nodes.proofs.Pieces.{acted_alone}
 use Rattle.plan_nodes.proofs.state.replica_acts.Goals as goal
 
-pub returns-in_ok-on-in-Take : goal.returns-in_ok-on-in-Take
-returns-in_ok-on-in-Take c = let e = c.on.ensures in replica_takes c.args.node.now c.on.new.self c.in-Take.from c.in-Take.index c.in-Take.packet c.args.task.now c.args.out.now.packets c.on.new.out.packets c.in-Take.is c.requires.empty
-    c.in_ok-on-in-Take.ensures.course e.few e.linked e.role
+pub returns-in-Take : goal.returns-in-Take
+returns-in-Take c = acted_by_take _ _ c.in-Take.from c.in-Take.index c.in-Take.packet c.args.task.now c.replica_takes.result c.replica_takes.new.out.packets c.in-Take.is c.replica_takes.ensures
 
 pub returns-in-Work : goal.returns-in-Work
-returns-in-Work c = let e = c.work_or_wait.ensures in replica_works c.args.node.now c.work_or_wait.new.self c.args.task.now c.work_or_wait.result c.args.out.now c.work_or_wait.new.out c.in-Work.is c.requires.empty
-    e.idle e.unchanged e.few e.linked e.role e.course
+returns-in-Work c = acted_alone _ _ c.args.task.now c.replica_works.result c.args.out.now.packets c.replica_works.new.out.packets c.in-Work.is c.requires.empty c.replica_works.ensures
 
 pub returns-in-Kill : goal.returns-in-Kill
 returns-in-Kill c = let e = c.kill.ensures in let old = c.args.node.now in replica_does old c.kill.new.self c.args.task.now task.Kill c.args.out.now.packets c.kill.new.out.packets (down_sent old) c.in-Kill.is c.requires.empty

@@ -34,7 +34,16 @@ invariant_of-result c =
     let some = c.mark-mark.ensures.limits.mark_low in
     let rows = ap length (c.in_ok-rows.ensures.items ∙ c.rows.ensures.rows) in
     let limit = c.rows.ensures.limits.few_rows in
-    (c.first_stage-first.ensures.some, omega arith, omega arith, omega arith, omega arith, subst (AreWide parts) (sym same) (open_wide parts version), subst (HaveMadeAtMost 0) (sym same) (open_made parts version), times c)
+    record {
+      parts = c.first_stage-first.ensures.some;
+      mark = omega arith;
+      few_inputs = omega arith;
+      made = omega arith;
+      few_sources = omega arith;
+      wide = subst (AreWide parts) (sym same) (open_wide parts version);
+      produced = subst (HaveMadeAtMost 0) (sym same) (open_made parts version);
+      times = times c;
+    }
 
 pub returns : goal.returns
 returns c = record {

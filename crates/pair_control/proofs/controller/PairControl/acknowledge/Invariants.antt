@@ -1,6 +1,6 @@
 use Rattle.std.proofs.Common.{◌≡◌, ◌<◌, ◌≤◌, ◌-◌, ◌*◌, ◌++◌, ℕ, max, length, slice_index}
 use Rattle.pair_machine.specs.Controllers.{acks_from, least}
-use Rattle.pair_control.specs.ControllerView.{IsLed, numbers_of, partition_of}
+use Rattle.pair_control.specs.ControllerView.{IsPairControl, numbers_of, partition_of}
 use Rattle.pair_control.specs.Packets.{SendsAtMost, packets_of}
 use Rattle.pair_control.proofs.controller.PairControl.acknowledge.Given as goal
 
@@ -13,12 +13,8 @@ invariant-loop-edge l = record {
   term : l.self-inside.term ≡ l.fn.self.term;
   leader : l.self-inside.leader ≡ l.fn.self.leader;
   whole : l.edge-end ≡ length l.fn.self.acked;
-  led : IsLed l.self-inside.leader l.self-inside.a.status l.self-inside.b.status;
-  first : 1 ≤ l.self-inside.stage;
-  few : length l.self-inside.acked.items ≤ 8;
+  sound : IsPairControl l.self-inside.stage l.self-inside.a l.self-inside.b l.self-inside.acked.items l.self-inside.leader;
   edges : length l.self-inside.acked.items ≡ length l.fn.self.acked;
-  a_edges : length l.self-inside.a.reports ≡ length l.self-inside.acked.items;
-  b_edges : length l.self-inside.b.reports ≡ length l.self-inside.acked.items;
   done : (q : ℕ) → q < l.edge → slice_index l.self-inside.acked.items q ≡ max (slice_index l.fn.self.acked q) (least (numbers_of l.fn.self) q);
   left : (q : ℕ) → l.edge ≤ q → slice_index l.self-inside.acked.items q ≡ slice_index l.fn.self.acked q;
   packets : l.out.packets ++ packets_of (acks_from (length l.fn.self.acked - l.edge) l.edge (partition_of l.fn.self) (numbers_of l.fn.self)) ≡ l.fn.out.packets ++ packets_of (acks_from (length l.fn.self.acked) 0 (partition_of l.fn.self) (numbers_of l.fn.self));

@@ -1,7 +1,6 @@
 use Rattle.std.proofs.Common.{Ok, ◌≡◌, ◌∙◌, ◌+◌, ◌<◌, ◌^◌, ◌++◌, ◌∷◌, [], ap, sym, subst, arith, List, false}
 use Rattle.std.specs.Prelude.{is_some}
 use Rattle.tuple_edge.specs.declared.event.Stamped.{Stamped}
-use Rattle.run_node.specs.Ends.{OutsView}
 use Rattle.pair_machine.specs.Courses.{Arrivals}
 use Rattle.pair_machine.specs.Numbers.{Node}
 use Rattle.pair_machine.specs.Scripts.{IsAllowedAt}
@@ -20,8 +19,7 @@ invariant_of-self-2 g c =
     let c_new = c.max-clock.result + 1 in
     let packets = c.act.new.out.packets in
     let reserved = c.reserve_event.ensures.links in
-    let sent = c.send_all.ensures ∙ ap (with_all_sent c_new packets) reserved in
-    let flushed : c.flush.new.self.links ≡ with_all_sent c_new packets n.outs.links = ap (λ (o : OutsView). o.links) c.flush.ensures ∙ sent in
+    let sent : c.send_event.new.outs.links ≡ with_all_sent c_new packets n.outs.links = c.send_event.ensures.links ∙ ap (with_all_sent c_new packets) reserved in
     let did = c.in_ok-act.was ∙ ap Ok c.in-Did.is in
     let came = subst (λ (v : NodeView _ _). (arrived : Arrivals) → Fit arrived v.ins → CameFor arrived c.args.task.now) (sym c.self.view_is) c.requires.came in
     let allowed = subst (λ (v : NodeView _ _). (x : Node) → g.A.Acts.stands g.N.RunNames.plan g.N.RunNames.inputs v.state x → IsAllowedAt g.N.RunNames.script (event_of (g.A.Acts.id v.state) c.args.task.now) x) (sym c.self.view_is) c.requires.allowed in
@@ -29,18 +27,18 @@ invariant_of-self-2 g c =
     let after : clock_of c.args.task.now < c_new = omega (arith, c.max-clock.ensures, c.clock.ensures) in
     let small : c_new < 2 ^ 62 = omega (arith, c.if-clock-ge-LAST_CLOCK.false) in
     let fresh : repeats n.fired c.args.task.now ≡ false = sym c.repeats.ensures ∙ c.if-repeats.false in
-    let sound = sound_after g.A.Acts.id g.A.Acts.of_plan g.A.Acts.stands g.N.RunNames.plan g.N.RunNames.inputs g.N.RunNames.script n.state n.ins.items n.outs.links n.kept n.clock n.fired n.history.entries c.self.invariant.2
-    c.args.task.now c.act.new.self packets c_new came later after small fresh c.act.ensures.id (c.act.ensures.of_plan g.N.RunNames.plan c.self.invariant.2.named)
-    (c.act.ensures.here did) (c.act.ensures.step did) (c.act.ensures.linked did g.N.RunNames.plan c.self.invariant.2.named) allowed in
+    let sound = sound_after g.A.Acts.id g.A.Acts.of_plan g.A.Acts.stands g.N.RunNames.plan g.N.RunNames.inputs g.N.RunNames.script n.state n.ins.items n.outs.links n.kept n.clock n.fired n.history.entries c.self.invariant.sound
+    c.args.task.now c.act.new.self packets c_new came later after small fresh c.act.ensures.id (c.act.ensures.of_plan g.N.RunNames.plan c.self.invariant.sound.named)
+    (c.act.ensures.here did) (c.act.ensures.step did) (c.act.ensures.linked did g.N.RunNames.plan c.self.invariant.sound.named) allowed in
     let fired : fired_after n.fired c.args.task.now ≡ c.after-self-inside.result = sym c.after-self-inside.ensures in
-    let me : c.reserve_event.new.history.node ≡ g.A.Acts.id n.state = c.reserve_event.ensures.node ∙ c.self.invariant.3 in
+    let me : c.reserve_event.new.history.node ≡ g.A.Acts.id n.state = c.reserve_event.ensures.node ∙ c.self.invariant.own in
     let history = c.note.ensures.entries ∙ (ap (λ l. l ++ record { clock = c_new; event = event_of c.reserve_event.new.history.node c.args.task.now } ∷ []) c.reserve_event.ensures.history ∙ ap (λ k. n.history.entries ++ record { clock = c_new; event = event_of k c.args.task.now } ∷ []) me) in
-    let at_links = subst (λ l. IsSoundNode g.A.Acts.id g.A.Acts.of_plan g.A.Acts.stands g.N.RunNames.plan g.N.RunNames.inputs g.N.RunNames.script c.act.new.self n.ins.items l n.kept c_new c.after-self-inside.result (n.history.entries ++ record { clock = c_new; event = event_of (g.A.Acts.id n.state) c.args.task.now } ∷ [])) (sym flushed) (subst (λ f. IsSoundNode g.A.Acts.id g.A.Acts.of_plan g.A.Acts.stands g.N.RunNames.plan g.N.RunNames.inputs g.N.RunNames.script c.act.new.self n.ins.items (with_all_sent c_new packets n.outs.links) n.kept c_new f (n.history.entries ++ record { clock = c_new; event = event_of (g.A.Acts.id n.state) c.args.task.now } ∷ [])) fired sound) in (
-      c.clear.ensures.packets,
-      tap_later g.T.Tap.given g.A.Acts.rows n.tap n.state c.act.new.self c.act.ensures.rows c.self.invariant.1,
-      subst (λ (l : List Stamped). IsSoundNode g.A.Acts.id g.A.Acts.of_plan g.A.Acts.stands g.N.RunNames.plan g.N.RunNames.inputs g.N.RunNames.script c.act.new.self n.ins.items c.flush.new.self.links n.kept c_new c.after-self-inside.result l) (sym history) at_links,
-      c.note.ensures.node ∙ c.reserve_event.ensures.node ∙ c.self.invariant.3 ∙ sym c.act.ensures.id,
-    )
+    let at_links = subst (λ l. IsSoundNode g.A.Acts.id g.A.Acts.of_plan g.A.Acts.stands g.N.RunNames.plan g.N.RunNames.inputs g.N.RunNames.script c.act.new.self n.ins.items l n.kept c_new c.after-self-inside.result (n.history.entries ++ record { clock = c_new; event = event_of (g.A.Acts.id n.state) c.args.task.now } ∷ [])) (sym sent) (subst (λ f. IsSoundNode g.A.Acts.id g.A.Acts.of_plan g.A.Acts.stands g.N.RunNames.plan g.N.RunNames.inputs g.N.RunNames.script c.act.new.self n.ins.items (with_all_sent c_new packets n.outs.links) n.kept c_new f (n.history.entries ++ record { clock = c_new; event = event_of (g.A.Acts.id n.state) c.args.task.now } ∷ [])) fired sound) in record {
+      unsent = c.send_event.ensures.unsent;
+      gave = tap_later g.T.Tap.given g.A.Acts.rows n.tap n.state c.act.new.self c.act.ensures.rows c.self.invariant.gave;
+      sound = subst (λ (l : List Stamped). IsSoundNode g.A.Acts.id g.A.Acts.of_plan g.A.Acts.stands g.N.RunNames.plan g.N.RunNames.inputs g.N.RunNames.script c.act.new.self n.ins.items c.send_event.new.outs.links n.kept c_new c.after-self-inside.result l) (sym history) at_links;
+      own = c.note.ensures.node ∙ c.reserve_event.ensures.node ∙ c.self.invariant.own ∙ sym c.act.ensures.id;
+    }
 
 pub returns-clause-name : goal.returns-clause-name
 returns-clause-name g c =
@@ -48,37 +46,44 @@ returns-clause-name g c =
     let c_new = c.max-clock.result + 1 in
     let packets = c.act.new.out.packets in
     let reserved = c.reserve_event.ensures.links in
-    let sent = c.send_all.ensures ∙ ap (with_all_sent c_new packets) reserved in
-    let flushed : c.flush.new.self.links ≡ with_all_sent c_new packets n.outs.links = ap (λ (o : OutsView). o.links) c.flush.ensures ∙ sent in
-    let outs : out_names c.flush.new.self.links ≡ out_names n.outs.links = ap out_names flushed ∙ names-with_all_sent c_new packets n.outs.links in
+    let sent : c.send_event.new.outs.links ≡ with_all_sent c_new packets n.outs.links = c.send_event.ensures.links ∙ ap (with_all_sent c_new packets) reserved in
+    let outs : out_names c.send_event.new.outs.links ≡ out_names n.outs.links = ap out_names sent ∙ names-with_all_sent c_new packets n.outs.links in
     let id = c.act.ensures.id in
-    let names : ◌≡◌ {A = NodeName} (record { id = g.A.Acts.id c.act.new.self; ins = in_names n.ins.items; outs = out_names c.flush.new.self.links; tapped = is_some n.tap }) (record { id = g.A.Acts.id n.state; ins = in_names n.ins.items; outs = out_names n.outs.links; tapped = is_some n.tap }) =
+    let names : ◌≡◌ {A = NodeName} (record { id = g.A.Acts.id c.act.new.self; ins = in_names n.ins.items; outs = out_names c.send_event.new.outs.links; tapped = is_some n.tap }) (record { id = g.A.Acts.id n.state; ins = in_names n.ins.items; outs = out_names n.outs.links; tapped = is_some n.tap }) =
     (λ i. record { id = id i; ins = in_names n.ins.items; outs = outs i; tapped = is_some n.tap }) in
     names ∙ ap (name_of g.A.Acts.id) c.self.view_is
 
 pub invariant_of-self-in_err-act : goal.invariant_of-self-in_err-act
 invariant_of-self-in_err-act g c =
     let n = c.self.inside in
-    let sound = c.self.invariant.2 in
+    let sound = c.self.invariant.sound in
     let same = c.reserve_event.ensures.links in
     let still = sound_still g.A.Acts.id g.A.Acts.of_plan g.A.Acts.stands g.N.RunNames.plan g.N.RunNames.inputs g.N.RunNames.script n.state n.ins.items n.outs.links n.kept n.clock n.fired n.history.entries sound
-    c.act.new.self c.reserve_event.new.outs.links c.reserve_event.new.history.entries same c.reserve_event.ensures.history c.act.ensures.id (c.act.ensures.of_plan g.N.RunNames.plan sound.named) (λ x h. c.in_err-act.ensures.unchanged g.N.RunNames.plan g.N.RunNames.inputs x h) in
-    (c.in_err-act.ensures.unsent, tap_later g.T.Tap.given g.A.Acts.rows n.tap n.state c.act.new.self c.act.ensures.rows c.self.invariant.1, still, c.reserve_event.ensures.node ∙ c.self.invariant.3 ∙ sym c.act.ensures.id)
+    c.act.new.self c.reserve_event.new.outs.links c.reserve_event.new.history.entries same c.reserve_event.ensures.history c.act.ensures.id (c.act.ensures.of_plan g.N.RunNames.plan sound.named) (λ x h. c.in_err-act.ensures.unchanged g.N.RunNames.plan g.N.RunNames.inputs x h) in record {
+      unsent = c.in_err-act.ensures.unsent;
+      gave = tap_later g.T.Tap.given g.A.Acts.rows n.tap n.state c.act.new.self c.act.ensures.rows c.self.invariant.gave;
+      sound = still;
+      own = c.reserve_event.ensures.node ∙ c.self.invariant.own ∙ sym c.act.ensures.id;
+    }
 
 pub invariant_of-self-in-Idle : goal.invariant_of-self-in-Idle
 invariant_of-self-in-Idle g c =
     let n = c.self.inside in
-    let sound = c.self.invariant.2 in
+    let sound = c.self.invariant.sound in
     let same = c.reserve_event.ensures.links in
     let idle = c.act.ensures.idle (c.in_ok-act.was ∙ ap Ok c.in-Idle.is) in
     let still = sound_still g.A.Acts.id g.A.Acts.of_plan g.A.Acts.stands g.N.RunNames.plan g.N.RunNames.inputs g.N.RunNames.script n.state n.ins.items n.outs.links n.kept n.clock n.fired n.history.entries sound
-    c.act.new.self c.reserve_event.new.outs.links c.reserve_event.new.history.entries same c.reserve_event.ensures.history c.act.ensures.id (c.act.ensures.of_plan g.N.RunNames.plan sound.named) (λ x h. subst (λ st. g.A.Acts.stands g.N.RunNames.plan g.N.RunNames.inputs st x) (sym idle.0) h) in
-    (idle.1, tap_later g.T.Tap.given g.A.Acts.rows n.tap n.state c.act.new.self c.act.ensures.rows c.self.invariant.1, still, c.reserve_event.ensures.node ∙ c.self.invariant.3 ∙ sym c.act.ensures.id)
+    c.act.new.self c.reserve_event.new.outs.links c.reserve_event.new.history.entries same c.reserve_event.ensures.history c.act.ensures.id (c.act.ensures.of_plan g.N.RunNames.plan sound.named) (λ x h. subst (λ st. g.A.Acts.stands g.N.RunNames.plan g.N.RunNames.inputs st x) (sym idle.0) h) in record {
+      unsent = idle.1;
+      gave = tap_later g.T.Tap.given g.A.Acts.rows n.tap n.state c.act.new.self c.act.ensures.rows c.self.invariant.gave;
+      sound = still;
+      own = c.reserve_event.ensures.node ∙ c.self.invariant.own ∙ sym c.act.ensures.id;
+    }
 
 pub returns-clause-happens : goal.returns-clause-happens
 returns-clause-happens g c = λ _.
     let n = c.self.inside in
-    let me : c.reserve_event.new.history.node ≡ g.A.Acts.id n.state = c.reserve_event.ensures.node ∙ c.self.invariant.3 in
+    let me : c.reserve_event.new.history.node ≡ g.A.Acts.id n.state = c.reserve_event.ensures.node ∙ c.self.invariant.own in
     let here : HasHappened (event_of (g.A.Acts.id n.state) c.args.task.now) n.history.entries c.note.new.history.entries = record {
       clock = c.max-clock.result + 1;
       added = c.note.ensures.entries ∙ (ap (λ l. l ++ record { clock = c.max-clock.result + 1; event = event_of c.reserve_event.new.history.node c.args.task.now } ∷ []) c.reserve_event.ensures.history ∙ ap (λ k. n.history.entries ++ record { clock = c.max-clock.result + 1; event = event_of k c.args.task.now } ∷ []) me);

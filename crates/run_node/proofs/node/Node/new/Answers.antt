@@ -10,9 +10,9 @@ invariant_of-result g c =
     let r = c.requires in
     let sound = sound_new g.A.Acts.id g.A.Acts.of_plan g.A.Acts.stands g.N.RunNames.plan g.N.RunNames.inputs g.N.RunNames.script c.args.state c.args.ins.items (links_of c.args.outs.items) c.nothing.result r.planned r.timely r.named r.there r.opening r.linked r.fresh in
     let linked = subst (λ l. IsSoundNode g.A.Acts.id g.A.Acts.of_plan g.A.Acts.stands g.N.RunNames.plan g.N.RunNames.inputs g.N.RunNames.script c.args.state c.args.ins.items l None 0 c.nothing.result _)
-    (sym (ap (λ (o : OutsView). o.links) c.new.ensures)) sound in (
-      c.new-2.ensures,
-      r.tap,
-      subst (IsSoundNode g.A.Acts.id g.A.Acts.of_plan g.A.Acts.stands g.N.RunNames.plan g.N.RunNames.inputs g.N.RunNames.script c.args.state c.args.ins.items c.new.result.links None 0 c.nothing.result) (sym (ap (λ (v : LogView). v.entries) c.new-history.ensures)) linked,
-      ap (λ (v : LogView). v.node) c.new-history.ensures ∙ c.id.ensures,
-    )
+    (sym (ap (λ (o : OutsView). o.links) c.new.ensures)) sound in record {
+      unsent = c.new-2.ensures;
+      gave = r.tap;
+      sound = subst (IsSoundNode g.A.Acts.id g.A.Acts.of_plan g.A.Acts.stands g.N.RunNames.plan g.N.RunNames.inputs g.N.RunNames.script c.args.state c.args.ins.items c.new.result.links None 0 c.nothing.result) (sym (ap (λ (v : LogView). v.entries) c.new-history.ensures)) linked;
+      own = ap (λ (v : LogView). v.node) c.new-history.ensures ∙ c.id.ensures;
+    }

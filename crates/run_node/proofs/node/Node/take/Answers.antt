@@ -1,30 +1,55 @@
-use Rattle.std.proofs.Common.{Ok, Some, ◌≡◌, ◌∙◌, ◌++◌, ◌∷◌, [], ℕ, List, ap, sym, subst}
-use Rattle.tuple_edge.specs.declared.event.Event.TheVariants as event
-use Rattle.tuple_edge.specs.declared.event.Stamped.{Stamped}
-use Rattle.tuple_edge.specs.declared.node.NodeId.{NodeId}
-use Rattle.pair_machine.specs.Links.{link}
-use Rattle.run_node.specs.Ends.{InLink}
-use Rattle.run_node.specs.Fits.{HasHappened, IsAtHand}
-use Rattle.run_node.specs.NodeView.{NodeName, NodeView}
+use Rattle.std.proofs.Common.{Ok, Err, Result, Bool, true, false, ◌≡◌, ◌≢◌, ◌∙◌, ◌++◌, ◌∷◌, [], length, ap, sym, arith}
+use Rattle.std.specs.Prelude.{OnErr}
+use Rattle.run_node.specs.Takes.{HasTaken, Takes}
+use Rattle.run_node.proofs.Takes.{length_more, stays_same, steps_more}
 use Rattle.run_node.proofs.node.Node.take.Goals as goal
 
--- what was taken between was taken from the beginning, by the same node
-taken_by : (from me same : NodeId) (index : ℕ) (before between after end : List Stamped) → me ≡ same → between ≡ before → end ≡ after
-    → HasHappened (event.Take (link from me) index) between after → HasHappened (event.Take (link from same) index) before end
-taken_by from me same index before between after end is was still h = record {
-  clock = h.clock;
-  added = still ∙ (h.added ∙ (λ i. was i ++ record { clock = h.clock; event = event.Take (link from (is i)) index } ∷ []));
-}
+-- what holds whatever the error is holds at an error
+on_err : {T E P : Type 0} (r : Result T E) → P → OnErr r P
+on_err (Ok x) p = tt
+on_err (Err e) p = p
 
-pub returns-then-took-clause-takes : goal.returns-then-took-clause-takes
-returns-then-took-clause-takes g c = λ _.
-    let old = c.args.self.now in
-    let ins = ap (λ (v : NodeView _ _). v.ins) c.self.view_is ∙ c.event.ensures.ins in
-    let history = ap (λ (v : NodeView _ _). v.history) c.self.view_is in
-    let me = ap (λ (n : NodeName). n.id) c.in-Some.ensures.name in
-    record {
-      taken = c.in-Some.field-0;
-      hand = subst (λ (l : List InLink). IsAtHand old.kept old.ins l (Some c.in-Some.field-0)) (sym ins) c.in-Some.ensures.hand;
-      event = taken_by c.in-Some.field-0.from _ _ c.in-Some.field-0.arrival.index _ _ _ _ me c.in-Some.ensures.history history
-          (c.event.ensures.happens (c.in_ok-took.was ∙ ap Ok c.if-took.true));
+failed : {E : Type 0} (r : Result Bool E) (e : E) → r ≡ Err e → r ≢ Ok true
+failed r e was z = let w : Err e ≡ Ok true = sym was ∙ z in cc
+
+took_none : {E : Type 0} (r : Result Bool E) (b : Bool) → r ≡ Ok b → b ≡ false → r ≢ Ok true
+took_none r b was none z = let w = sym (was ∙ ap Ok none) ∙ z in cc
+
+pub loop-count-preserved : goal.loop-count-preserved
+loop-count-preserved g c =
+    let so_far = c.loop-count.invariant in
+    let next = c.take_next.ensures.takes (c.in_ok-take_next.was ∙ ap Ok c.if-not-branch.false) in
+    (so_far.0 ++ next.0 ∷ [], length_more so_far.0 next.0 c.loop-count.count so_far.1, steps_more (Takes g.A.Acts.id) so_far.0 next.0 c.args.self.now c.loop-count.self c.take_next.new.self so_far.2 next.1, next.1.name ∙ so_far.3)
+
+pub returns-then-not-branch-clause-takes : goal.returns-then-not-branch-clause-takes
+returns-then-not-branch-clause-takes g c =
+    let so_far = c.loop-count.invariant in record {
+      between = c.loop-count.self;
+      taken = so_far.0;
+      many = so_far.1;
+      takes = so_far.2;
+      stays = c.take_next.ensures.stays (took_none c.take_next.result c.in_ok-take_next.field-0 c.in_ok-take_next.was c.if-not-branch.true);
+    }
+
+pub returns-in_err-take_next-clause-failed : goal.returns-in_err-take_next-clause-failed
+returns-in_err-take_next-clause-failed g c =
+    let so_far = c.loop-count.invariant in
+    let run : HasTaken g.A.Acts.id c.loop-count.count c.args.self.now c.take_next.new.self = record {
+      between = c.loop-count.self;
+      taken = so_far.0;
+      many = so_far.1;
+      takes = so_far.2;
+      stays = c.take_next.ensures.stays (failed c.take_next.result c.in_err-take_next.field-0.0 c.in_err-take_next.was);
+    } in
+    on_err c.from_residual.result (c.loop-count.count, run)
+
+pub returns-clause-takes : goal.returns-clause-takes
+returns-clause-takes g c =
+    let so_far = c.loop-count.invariant in
+    let all : length so_far.0 ≡ c.args.most = omega (arith, so_far.1, c.loop-count.auto.count-end, c.loop-count-test.false) in record {
+      between = c.loop-count.self;
+      taken = so_far.0;
+      many = all;
+      takes = so_far.2;
+      stays = stays_same g.A.Acts.id c.loop-count.self;
     }

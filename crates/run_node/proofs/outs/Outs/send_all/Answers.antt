@@ -1,6 +1,7 @@
 use Rattle.std.proofs.Common.{◌≡◌, ◌∙◌, ◌≤◌, ◌+◌, ◌-◌, ◌++◌, List, length, take, drop, ap, subst, sym, arith}
 use Rattle.run_node.specs.Ends.{HaveRoom, OutEndView, OutsView, links_of}
 use Rattle.run_node.specs.FirstLinks.{AreFirst, receivers}
+use Rattle.run_node.specs.Sends.{with_all_sent}
 use Rattle.run_node.proofs.Places.{written}
 use Rattle.run_node.proofs.SentPackets.{receivers-with_all_sent}
 use Rattle.run_node.proofs.outs.Outs.send_all.Goals as goal
@@ -23,3 +24,8 @@ invariant_of-self g c =
       subst (HaveRoom left) (sym same) (sent.ensures.room left (subst (λ k. HaveRoom k c.deref_mut.result.now) whole room)),
       subst (AreFirst n.firsts) (sym to) c.self.invariant.1,
     )
+
+pub returns-then-is_empty-clause-links : goal.returns-then-is_empty-clause-links
+returns-then-is_empty-clause-links g c =
+    let none = c.is_empty.ensures.0 c.if-is_empty.true in
+    sym (ap (λ l. with_all_sent c.args.clock l c.args.self.now.links) none)

@@ -3,7 +3,7 @@ use Rattle.std.proofs.lemmas.Bool.{ltb-true, ltb-false}
 use Rattle.std.proofs.lemmas.Option.{slice_get_past}
 use Rattle.ingress_egress.proofs.EachSource.{at_get, none_paired}
 use Rattle.trade_text.proofs.Sources.{input_at}
-use Rattle.ingress_egress.proofs.making.given_at.Goals as goal
+use Rattle.ingress_egress.proofs.making.input_at.Goals as goal
 
 pub returns-in-None : goal.returns-in-None
 returns-in-None c = sym (none_paired c.args.rows.now c.args.sources.now c.args.nth (slice_get_past c.args.rows.now c.args.nth (ltb-false c.args.nth (length c.args.rows.now) (sym c.in-None.ensures.lookup.0))))

@@ -1,6 +1,0 @@
-use Rattle.std.proofs.Common.{◌≡◌}
-use Rattle.run_node.specs.NodeView.{name_of}
-use Rattle.run_node.proofs.node.Node.take_some.Given as goal
-
-abbrev pub invariant-loop : goal.invariant-loop
-invariant-loop g l = name_of g.A.Acts.id l.self ≡ name_of g.A.Acts.id l.initial.self
