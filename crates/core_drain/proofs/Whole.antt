@@ -19,8 +19,10 @@ use Rattle.pair_machine.proofs.DrainWhole.{drain_whole, finds_lost}
 use Rattle.pair_machine.proofs.Legal.{leads_one}
 use Rattle.ingress_egress.specs.EgressStands as egress
 use Rattle.ingress_egress.specs.EgressView.{EgressView}
-use Rattle.flux_core.specs.CoreView.{CoreView, flow_in, inputs_of}
+use Rattle.plan_nodes.specs.declared.state.NodeState.TheVariants as state
+use Rattle.flux_core.specs.CoreView.{CoreView, emitted_by, flow_in, inputs_of, rows_at, station}
 use Rattle.flux_core.specs.Stands.{IsCore, IsKnown, StandsFor}
+use Rattle.flux_core.proofs.Placed.{emitted_so}
 use Rattle.core_drain.specs.Drained.{IsCutShort, IsCutShortFrom, IsDrainedFrom, IsEachServed, IsLost, IsWhole}
 use Rattle.core_drain.specs.Progress.{IsAfter, IsWithin, MayBegin, Start, flow_at}
 use Rattle.core_drain.proofs.Along.{along_at}
@@ -95,12 +97,12 @@ module _ (old new : CoreView) (before after : List Event) (s : State) (plan : Is
         done = subst (IsEgressDone f) here z.done;
       }
 
-  pub rows_from : IsAfter b new after (drain_events f s) → new.egress.emitted ≡ output old.plan (inputs_of old)
+  pub rows_from : IsAfter b new after (drain_events f s) → emitted_by new ≡ output old.plan (inputs_of old)
   unfolding drained_from
   rows_from a =
       let z = drained_from a in
       let w = drain_whole old.plan (inputs_of old) plan s g served in
-      let stood = (egress_stands new a.state a.stands).emitted in
+      let stood = emitted_so new a.state a.stands in
       let count : (egress_in (a.state.nodes node.Egress)).count ≡ (egress_in (w.reached.nodes node.Egress)).count = z.done ∙ sym w.done in
       stood ∙ ((λ i. output_first (a.plan i) (a.inputs i) (egress_in (a.state.nodes node.Egress)).count) ∙ (ap (output_first old.plan (inputs_of old)) count ∙ w.output))
 
@@ -127,9 +129,9 @@ DoneSo e done = (plan : PlanView) (rows : List Input) (n : Node) → IsPlan plan
 abbrev pub RowsSo : EgressView → Bool → Type 0
 RowsSo e done = (plan : PlanView) (rows : List Input) (n : Node) → IsPlan plan → egress.StandsFor plan rows e n → done ≡ true → e.emitted ≡ output plan rows
 
-module _ (core : CoreView) (is : IsCore core) (events : List Event) (e : EgressView) (same : e ≡ core.egress) (done : Bool) (so : DoneSo e done) where
+module _ (core : CoreView) (is : IsCore core) (events : List Event) (e : EgressView) (same : Some (state.Egress e) ≡ (station core node.Egress).content) (done : Bool) (so : DoneSo e done) where
   stands_at : (s : State) → StandsFor core s → egress.StandsFor core.plan (inputs_of core) e (s.nodes node.Egress)
-  stands_at s stands = subst (λ k. egress.StandsFor core.plan (inputs_of core) k (s.nodes node.Egress)) (sym same) (egress_stands core s stands)
+  stands_at s stands = egress_stands core s stands e same
 
   done_at : (s : State) → StandsFor core s → (done ≡ true) ↔ IsEgressDone (flow_in core) s
   done_at s stands = so core.plan (inputs_of core) (s.nodes node.Egress) is.plan (stands_at s stands)
@@ -142,7 +144,7 @@ module _ (core : CoreView) (is : IsCore core) (events : List Event) (e : EgressV
       let t = there_from core is in
       record {
         drained = λ s stands g. done_already core events s stands ((done_at s stands).0 ends);
-        rows = subst (λ (k : EgressView). k.emitted ≡ output core.plan (inputs_of core)) same (rows core.plan (inputs_of core) (t.state.nodes node.Egress) is.plan (stands_at t.state t.stands) ends);
+        rows = ap rows_at (sym same) ∙ (rows core.plan (inputs_of core) (t.state.nodes node.Egress) is.plan (stands_at t.state t.stands) ends);
       }
 
   -- the first lost pair that code finds

@@ -12,7 +12,7 @@ use Rattle.pair_machine.specs.Machine.{State}
 use Rattle.pair_machine.specs.Numbers.{Partition}
 use Rattle.pair_machine.specs.Output.{output}
 use Rattle.pair_machine.specs.Sound.{IsServed}
-use Rattle.flux_core.specs.CoreView.{CoreView, flow_in, inputs_of}
+use Rattle.flux_core.specs.CoreView.{CoreView, emitted_by, flow_in, inputs_of}
 use Rattle.flux_core.specs.Stands.{StandsFor}
 
 -- a counted replica of each pair of the plan runs
@@ -38,7 +38,7 @@ pub record IsDrainedFrom (old new : CoreView) (before after : List Event) (s : S
 -- the core was drained, from whatever state it stood for, and all of the output is emitted
 pub record IsWhole (old new : CoreView) (before after : List Event) : Type 0 where
   pub drained : (s : State) → StandsFor old s → IsDrainable (flow_in old) s → IsDrainedFrom old new before after s
-  pub rows : new.egress.emitted ≡ output old.plan (inputs_of old)
+  pub rows : emitted_by new ≡ output old.plan (inputs_of old)
 
 -- in a state egress has more to merge, and this pair is the first lost one
 pub record IsLostIn (f : Flow) (s : State) (p : Partition) : Type 0 where

@@ -1,5 +1,5 @@
 -- The merged events and the drain of what the threads left are how a run ends.
-use Rattle.std.proofs.Common.{◌≡◌, ◌∙◌, ◌≤◌, ◌++◌, List, [], refl, sym, ap, subst}
+use Rattle.std.proofs.Common.{◌≡◌, ◌∙◌, ◌≤◌, ◌++◌, List, [], inl, refl, sym, ap, subst}
 use Rattle.std.proofs.lemmas.List.{append-nil}
 use Rattle.tuple_edge.specs.Input.{Input}
 use Rattle.tuple_edge.specs.declared.event.Drained.{Drained}
@@ -13,6 +13,7 @@ use Rattle.pair_machine.specs.CountLaws.{output_first}
 use Rattle.pair_machine.specs.Counts.{flow_of}
 use Rattle.pair_machine.specs.Drain.{IsFirstLost, drain, pairs_up_to, partition}
 use Rattle.pair_machine.specs.Legal.{IsLegal}
+use Rattle.pair_machine.specs.Lists.{Among}
 use Rattle.pair_machine.specs.Machine.{State, egress_in}
 use Rattle.pair_machine.specs.Messages.{Message}
 use Rattle.pair_machine.specs.Numbers.{Node, Partition}
@@ -26,15 +27,18 @@ use Rattle.pair_machine.proofs.Journal.{journals_go_on, with_sent}
 use Rattle.pair_machine.proofs.Legal.{at_the_end}
 use Rattle.pair_machine.proofs.MachineLaws.{plan_owed, plan_safe}
 use Rattle.ingress_egress.specs.EgressView.{IsFrontOf}
-use Rattle.flux_core.specs.CoreView.{CoreView, inputs_of}
+use Rattle.plan_nodes.specs.States.{StandsFor as NodeStands, id_of}
+use Rattle.flux_core.specs.CoreView.{CoreView, emitted_by, inputs_at, inputs_of, standing, station}
 use Rattle.flux_core.specs.Opening.{bare_core}
 use Rattle.flux_core.specs.Stands.{IsGiven}
+use Rattle.flux_core.proofs.Contents.{inputs_contents}
 use Rattle.partition_runner.specs.Ran.{IsLegalLeft}
 use Rattle.partition_runner.specs.declared.ran.Left.{Left}
 use Rattle.core_drain.specs.Drained.{IsDrained, IsDrainedFrom, IsLost, IsWhole}
 use Rattle.drained_run.specs.Ended.{EndsSo, IsLostAt, IsRun, rows_at}
 use Rattle.drained_run.specs.Ended as ended
 use Rattle.drained_run.proofs.Joined.{bare, drainable, events_of, given_here, left, reached, reaches, stands}
+use Rattle.drained_run.proofs.Nodes.{emitted_stand, find, inputs_stand}
 
 -- legal events within a script lead to the state that they reach
 leads : (plan : PlanView) (inputs : List Input) (script : List Order) → IsPlan plan → (events : List Event) (s : State) → IsLegal (flow_of plan inputs) events s → AreWithin (flow_of plan inputs) script events
@@ -56,15 +60,15 @@ behind : (old new : CoreView) (es after : List Event) (d : Drained) → IsDraine
 behind old new es after drained.Whole w = record { drained = λ s stands may. behind_from old new es after s (w.drained s stands may); rows = w.rows }
 behind old new es after (drained.Lost stage part) l = record { lost = l.lost; unchanged = l.unchanged; no_event = ap (λ xs. es ++ xs) l.no_event ∙ append-nil es }
 
-module _ (plan : PlanView) (script : List Order) (ran : Left) (limits : IsPlan plan) (run : IsLegalLeft plan ran.ingress.inputs script ran) (core : CoreView) (after : List Event)
-    (same_plan : core.plan ≡ plan) (same_inputs : inputs_of core ≡ ran.ingress.inputs) where
+module _ (plan : PlanView) (script : List Order) (ran : Left) (limits : IsPlan plan) (run : IsLegalLeft plan (inputs_of (bare_core plan ran.nodes.items)) script ran) (core : CoreView) (after : List Event)
+    (same_plan : core.plan ≡ plan) (same_inputs : inputs_of core ≡ inputs_of (bare_core plan ran.nodes.items)) where
   abbrev inputs : List Input
-  inputs = ran.ingress.inputs
+  inputs = inputs_of (bare_core plan ran.nodes.items)
 
   abbrev start : CoreView
   start = bare plan script ran limits run
 
-  whole : IsWhole start core (events_of ran) after → ended.IsWhole plan inputs script after core.egress.emitted
+  whole : IsWhole start core (events_of ran) after → ended.IsWhole plan inputs script after (emitted_by core)
   whole w =
       let f = flow_of plan inputs in
       let r = reached plan script ran limits run in
@@ -73,7 +77,7 @@ module _ (plan : PlanView) (script : List Order) (ran : Left) (limits : IsPlan p
       let free = drains_free f u in
       let on = journals_go_on f script r.reached d.went.reached u (events_of ran) (drain f u) r.legal r.within free.no_message free.no_order refl d.went.legal in
       let count = ap (λ (nodes : NodeId → Node). (egress_in (nodes node.Egress)).count) on.nodes in
-      let here = (d.went.stands node.Egress (tt, tt)).content.1.emitted in
+      let here = emitted_stand core.plan (inputs_of core) (station core node.Egress).content (d.went.reached.nodes node.Egress) (d.went.stands node.Egress (tt, tt)).content in
       let at : output_first core.plan (inputs_of core) (egress_in (d.went.reached.nodes node.Egress)).count ≡ rows_at plan inputs on.state =
       (λ j. output_first (same_plan j) (same_inputs j) (sym count j)) in
       record {
@@ -84,13 +88,14 @@ module _ (plan : PlanView) (script : List Order) (ran : Left) (limits : IsPlan p
         output = w.rows;
       }
 
-  lost : (p : Partition) → IsLost start core (events_of ran) after p → IsLostAt plan inputs script after core.egress.emitted p
+  lost : (p : Partition) → IsLost start core (events_of ran) after p → IsLostAt plan inputs script after (emitted_by core) p
   lost p l =
       let f = flow_of plan inputs in
       let r = reached plan script ran limits run in
       let u = left plan script ran limits run in
       let at = l.lost u (stands plan script ran limits run) in
-      let emitted : core.egress.emitted ≡ rows_at plan inputs r.reached = ap (λ (c : CoreView). c.egress.emitted) l.unchanged ∙ r.stand.egress.emitted in
+      let here = emitted_stand plan inputs (station start node.Egress).content (u.nodes node.Egress) (stands plan script ran limits run node.Egress (tt, tt)).content in
+      let emitted : emitted_by core ≡ rows_at plan inputs r.reached = ap emitted_by l.unchanged ∙ here in
       let first : IsFirstLost r.reached (pairs_up_to f f.stages) p = same_lost r.reached.nodes (λ l. []) r.reached.sent (pairs_up_to f f.stages) p at.first in
       let count = (egress_in (r.reached.nodes node.Egress)).count in
       record {
@@ -103,32 +108,35 @@ module _ (plan : PlanView) (script : List Order) (ran : Left) (limits : IsPlan p
         unsafe = λ safe. first.lost (at_the_end f (λ t. (q : Partition) → 1 ≤ q.stage → IsServed t q) (events_of ran) r.reached (plan_safe plan inputs limits script safe (events_of ran) r.reached r.legal r.within) r.legal.leads p at.there.first);
       }
 
-  pub ends : (d : Drained) → IsDrained start core (events_of ran) after d → EndsSo plan inputs script after core.egress.emitted d
+  pub ends : (d : Drained) → IsDrained start core (events_of ran) after d → EndsSo plan inputs script after (emitted_by core) d
   ends drained.Whole h = whole h
   ends (drained.Lost stage part) h = lost (partition stage part) h
 
 -- ---- of the run's own inputs
 
 -- ingress has the inputs of the run
-own_inputs : (plan : PlanView) (inputs : List Input) (script : List Order) (ran : Left) → IsLegalLeft plan inputs script ran → ran.ingress.inputs ≡ inputs
-own_inputs plan inputs script ran run = (reaches plan inputs script ran run).stand.ingress.inputs
+own_inputs : (plan : PlanView) (inputs : List Input) (script : List Order) (ran : Left) → IsLegalLeft plan inputs script ran → inputs_of (bare_core plan ran.nodes.items) ≡ inputs
+own_inputs plan inputs script ran run =
+    let r = reaches plan inputs script ran run in
+    let f = find (λ s. NodeStands plan inputs s (r.reached.nodes (id_of s))) node.Ingress ran.nodes.items (subst (Among node.Ingress) (sym run.nodes_are) (inl refl)) r.stand in
+    ap (λ o. inputs_at (standing o).content) f.there ∙ (inputs_contents f.one ∙ inputs_stand plan inputs f.one (r.reached.nodes (id_of f.one)) f.named f.holds)
 
-own_run : (plan : PlanView) (inputs : List Input) (script : List Order) (ran : Left) → IsLegalLeft plan inputs script ran → IsLegalLeft plan ran.ingress.inputs script ran
+own_run : (plan : PlanView) (inputs : List Input) (script : List Order) (ran : Left) → IsLegalLeft plan inputs script ran → IsLegalLeft plan (inputs_of (bare_core plan ran.nodes.items)) script ran
 own_run plan inputs script ran run = subst (λ (I : List Input). IsLegalLeft plan I script ran) (sym (own_inputs plan inputs script ran run)) run
 
 module _ (plan : PlanView) (inputs : List Input) (script : List Order) (ran : Left) (limits : IsPlan plan) (run : IsLegalLeft plan inputs script ran) where
   abbrev bare_nodes : CoreView
-  bare_nodes = bare_core plan ran.ingress ran.replicas.items ran.controls.items ran.egress
+  bare_nodes = bare_core plan ran.nodes.items
 
   pub given : IsGiven bare_nodes
   given = given_here plan script ran limits (own_run plan inputs script ran run)
 
   -- where the drain's events were listed apart
   pub run_ends : (old core : CoreView) (before after : List Event) (d : Drained) → old ≡ bare_nodes → before ≡ [] → core.plan ≡ old.plan → inputs_of core ≡ inputs_of old
-      → IsDrained old core before after d → EndsSo plan inputs script (events_of ran ++ after) core.egress.emitted d
+      → IsDrained old core before after d → EndsSo plan inputs script (events_of ran ++ after) (emitted_by core) d
   run_ends old core before after d is none same_plan same_inputs h =
       let plan_is : core.plan ≡ plan = same_plan ∙ ap (λ (c : CoreView). c.plan) is in
-      let inputs_are : inputs_of core ≡ ran.ingress.inputs = same_inputs ∙ ap (λ (c : CoreView). inputs_of c) is in
+      let inputs_are : inputs_of core ≡ inputs_of bare_nodes = same_inputs ∙ ap (λ (c : CoreView). inputs_of c) is in
       let drained_so : IsDrained bare_nodes core (events_of ran) (events_of ran ++ after) d = behind bare_nodes core (events_of ran) after d (subst (λ c. IsDrained c core [] after d) is (subst (λ es. IsDrained old core es after d) none h)) in
-      subst (λ (I : List Input). EndsSo plan I script (events_of ran ++ after) core.egress.emitted d) (own_inputs plan inputs script ran run)
+      subst (λ (I : List Input). EndsSo plan I script (events_of ran ++ after) (emitted_by core) d) (own_inputs plan inputs script ran run)
       (ends plan script ran limits (own_run plan inputs script ran run) core (events_of ran ++ after) plan_is inputs_are d drained_so)

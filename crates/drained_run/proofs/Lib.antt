@@ -3,4 +3,4 @@ pub mod Ending
 pub mod Fronts
 pub mod Joined
 pub mod Logs
-pub mod Places
+pub mod Nodes

@@ -25,13 +25,14 @@ pub struct Ended {
 impl Model for Ended {
     ghost use Rattle.drained_run.specs.Ended.{EndedView};
     ghost use Rattle.event_log.specs.Views.{named_logs};
+    ghost use Rattle.flux_core.specs.CoreView.{emitted_by};
     ghost use Rattle.journal_writer.specs.Merged.{AreMergeable, merged_events};
     ghost use Rattle.std.specs.Prelude.{◌++◌};
 
     ghost Value = { EndedView };
 
     ghost view = { λ e. record {
-      rows = e.core.egress.emitted;
+      rows = emitted_by e.core;
       events = merged_events (named_logs e.logs.items) ++ e.drain.events;
       drained = e.drained;
     } };

@@ -2,7 +2,7 @@
 ghost use mathlib.Core.List.{IsPrefix};
 ghost use Rattle.drained_run.specs.Ended.{IsEnded};
 ghost use Rattle.pair_machine.specs.Output.{output};
-ghost use Rattle.partition_runner.specs.Ran.{IsLegalLeft};
+ghost use Rattle.partition_runner.specs.Ran.{IsLegalLeft, emitted_in};
 ghost use Rattle.std.specs.Prelude.{◌≤◌, IfOk};
 ghost use Rattle.trade_text.specs.TradesView.{inputs_in};
 ghost use Rattle.tuple_edge.specs.Limits.{max_threads};
@@ -32,19 +32,13 @@ pub fn finish_run(
 ) -> Result<Ended, OutOfMemory>
     requires { IsLegalLeft plan.now (inputs_in trades.now) script.now left }
     ensures ended { IfOk result (IsEnded plan.now (inputs_in trades.now) script.now) }
-    ensures goes_on { IfOk result (λ ended. IsPrefix left.egress.emitted ended.rows) }
-    ensures front { IsPrefix left.egress.emitted (output plan.now (inputs_in trades.now)) }
+    ensures goes_on { IfOk result (λ ended. IsPrefix (emitted_in left.nodes.items) ended.rows) }
+    ensures front { IsPrefix (emitted_in left.nodes.items) (output plan.now (inputs_in trades.now)) }
 {
     // This call's clause says that a plan is within the limits.
     let _stages = plan.stages();
-    let Left {
-        ingress,
-        replicas,
-        controls,
-        egress,
-        logs,
-    } = left;
-    let mut core = Core::of(alloc, plan, ingress, replicas, controls, egress)?;
+    let Left { nodes, logs } = left;
+    let mut core = Core::of(alloc, plan, nodes)?;
     let mut events = EventBlocks::new(alloc);
     let drained = drain(&mut core, &mut events)?;
     Ok(Ended {

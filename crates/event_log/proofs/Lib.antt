@@ -1,3 +1,4 @@
+pub mod Again
 pub mod Continuing
 pub mod Places
 pub mod Pushing

@@ -1,14 +1,10 @@
 -- Events that are repeated: one more of them, and one more block.
-use Rattle.std.proofs.Common.{ℕ, zero, suc, ◌≡◌, ◌+◌, ◌<◌, List, [], ◌∷◌, ◌++◌, get_or, length, take, refl, sym, ap, ◌∙◌, append_assoc, append-nil, add-one, arith}
+use Rattle.std.proofs.Common.{ℕ, zero, suc, ◌≡◌, ◌+◌, ◌<◌, List, [], ◌∷◌, ◌++◌, get_or, length, take, refl, sym, ap, ◌∙◌, append_assoc, append-nil, add-one}
 use Rattle.std.specs.Prelude.{replicate}
 use Rattle.std.proofs.lemmas.List.{take_more}
 use Rattle.tuple_edge.specs.declared.event.Event.{Event}
-use Rattle.tuple_edge.specs.declared.event.Event.TheVariants as event
-use Rattle.tuple_edge.specs.declared.event.Stamped.{Stamped}
-use Rattle.tuple_edge.specs.declared.node.NodeId.{NodeId}
 use Rattle.event_log.specs.declared.blocks.Block.{Block}
 use Rattle.event_log.specs.Blocks.{events_in}
-use Rattle.event_log.specs.Views.{works_after}
 
 once_more : (n : ℕ) (e : Event) → replicate (suc n) e ≡ replicate n e ++ e ∷ []
 once_more zero e = refl
@@ -33,19 +29,3 @@ appended bs same i d old before after within is earlier now =
     ∙ append_assoc old (events_in (take i bs)) (replicate b.count b.event)
     ∙ ap (λ l. old ++ l) (sym next)
     ∙ ap (λ l. old ++ events_in (take (i + 1) l)) is
-
--- ---- pieces of work with clocks that follow on one
-
-abbrev pub worked_at : NodeId → ℕ → Stamped
-worked_at node clock = record { clock = clock; event = event.Work node }
-
-works_once_more : (node : NodeId) (times clock : ℕ) → works_after node clock (suc times) ≡ works_after node clock times ++ worked_at node (clock + times + 1) ∷ []
-works_once_more node zero clock = let same : clock + 1 ≡ clock + 0 + 1 = omega arith in ap (λ c. worked_at node c ∷ []) same
-works_once_more node (suc times) clock =
-    let same : clock + 1 + times + 1 ≡ clock + suc times + 1 = omega arith in
-    ap (λ l. worked_at node (clock + 1) ∷ l)
-    (works_once_more node times (clock + 1) ∙ ap (λ c. works_after node (clock + 1) times ++ worked_at node c ∷ []) same)
-
--- one more at the end
-pub works_after-more : (node : NodeId) (clock times : ℕ) → works_after node clock (times + 1) ≡ works_after node clock times ++ worked_at node (clock + times + 1) ∷ []
-works_after-more node clock times = ap (works_after node clock) (add-one times) ∙ works_once_more node times clock

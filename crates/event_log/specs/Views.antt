@@ -1,5 +1,6 @@
 -- What contracts see of a log, and of the senders that it knows.
 use Rattle.std.specs.Prelude.{◌≡◌, ℕ, zero, suc, ◌+◌, ◌++◌, List, [], ◌∷◌, map}
+use Rattle.tuple_edge.specs.declared.event.Event.{Event}
 use Rattle.tuple_edge.specs.declared.event.Event.TheVariants as event
 use Rattle.tuple_edge.specs.declared.event.History.{History}
 use Rattle.tuple_edge.specs.declared.event.Stamped.{Stamped}
@@ -18,10 +19,18 @@ named_logs logs = map (λ l. (l.node, l.entries)) logs
 abbrev pub named_histories : List History → List (NodeId × List Stamped)
 named_histories histories = map (λ h. (h.node, h.entries.items)) histories
 
--- so many pieces of work of a node, one after another, with the clocks that follow on this one
+-- an event so many times, one after another, with the clocks that follow on this one
+abbrev pub repeated_after : Event → ℕ → ℕ → List Stamped
+repeated_after e clock zero = []
+repeated_after e clock (suc times) = record { clock = clock + 1; event = e } ∷ repeated_after e (clock + 1) times
+
+-- so many pieces of work of a node, likewise
 abbrev pub works_after : NodeId → ℕ → ℕ → List Stamped
-works_after node clock zero = []
-works_after node clock (suc times) = record { clock = clock + 1; event = event.Work node } ∷ works_after node (clock + 1) times
+works_after node clock times = repeated_after (event.Work node) clock times
+
+-- so many makes, likewise
+abbrev pub makes_after : ℕ → ℕ → List Stamped
+makes_after clock times = repeated_after event.Make clock times
 
 -- the senders from which a node took: their names, the index of the last take from each, and how many more fit without memory
 pub record SendersView : Type 0 where

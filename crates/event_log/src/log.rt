@@ -1,9 +1,9 @@
 // A log of events.
 ghost use Rattle.std.specs.Prelude.{◌≡◌, ◌≤◌, ◌<◌, ◌+◌, ◌^◌, ◌++◌, ◌∷◌, [], length, IfOk, OnOk, OnErr, IsTrue, ◌↔◌};
-ghost use Rattle.std.specs.Prelude.{vec_len, vec_capacity};
+ghost use Rattle.std.specs.Prelude.{replicate, vec_len, vec_capacity};
 ghost use Rattle.tuple_edge.specs.declared.event.Event.TheVariants as event;
 ghost use Rattle.event_log.specs.Reading.{whole_of};
-ghost use Rattle.event_log.specs.Views.{named_histories, named_logs, works_after};
+ghost use Rattle.event_log.specs.Views.{makes_after, named_histories, named_logs, works_after};
 
 use crate::coding::{entry_of, rise_of, take_of, work_entry};
 use crate::entry::Entry;
@@ -54,6 +54,18 @@ fn keep_whole(whole: &mut Vec<Stamped>, entry: Entry, stamped: Stamped)
     match entry {
         Entry::Work { .. } | Entry::Make { .. } | Entry::Take { .. } => {},
         Entry::Jump { .. } | Entry::Whole => whole.push_reserved(stamped),
+    }
+}
+
+// Appends an entry so many times.
+fn push_times(entries: &mut Vec<Entry>, entry: Entry, times: usize)
+    requires { vec_len entries.old + times ≤ vec_capacity entries.old }
+    ensures items { entries.new.items ≡ entries.old.items ++ replicate times entry }
+    ensures len { vec_len entries.new ≡ vec_len entries.old + times }
+    ensures capacity { vec_capacity entries.new ≡ vec_capacity entries.old }
+{
+    for _nth in 0..times {
+        entries.push_reserved(entry);
     }
 }
 
@@ -144,9 +156,34 @@ impl Log {
         ensures entries { self.new.entries ≡ self.old.entries ++ works_after self.old.node clock times }
         ensures spare { self.old.spare ≤ self.new.spare + times }
     {
-        for done in 0..times {
-            self.work(clock + done as u64 + 1);
+        if times == 0 {
+            return;
         }
+        self.work(clock + 1);
+        push_times(&mut self.entries, Entry::Work { rise: 1 }, times - 1);
+        self.clock = clock + times as u64;
+        self.room -= times - 1;
+    }
+
+    /// Appends that ingress made an input into items so many times, with the clocks that follow on this one. It takes as many
+    /// places of the room, and can't fail.
+    pub fn make_times(&mut self, clock: u64, times: usize)
+        requires room { times ≤ self.old.spare }
+        requires clocks { clock + times < 2 ^ 64 }
+        ensures node { self.new.node ≡ self.old.node }
+        ensures entries { self.new.entries ≡ self.old.entries ++ makes_after clock times }
+        ensures spare { self.old.spare ≤ self.new.spare + times }
+    {
+        if times == 0 {
+            return;
+        }
+        self.push_reserved(Stamped {
+            clock: clock + 1,
+            event: Event::Make,
+        });
+        push_times(&mut self.entries, Entry::Make { rise: 1 }, times - 1);
+        self.clock = clock + times as u64;
+        self.room -= times - 1;
     }
 
     /// Appends that the node took the packet with this index from a sender. It takes one place of the room, and can't fail.

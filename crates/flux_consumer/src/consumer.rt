@@ -8,7 +8,7 @@ ghost use Rattle.std.specs.Prelude.{◌≡◌, ◌≤◌, ◌<◌, ◌+◌, ◌�
 ghost use Rattle.tuple_edge.specs.Limits.{number_limit};
 ghost use Rattle.tuple_edge.specs.declared.item.Item.{Item};
 
-use merge_order::{Merge, Offer};
+use merge_order::{Head, Merge, Offer};
 use std::alloc::Global;
 use std::marker::Model;
 use tuple_edge::{Item, OutOfMemory};
@@ -75,11 +75,32 @@ impl Consumer {
         self.merge.ready()
     }
 
-    /// What [`Consumer::next`] would give; it stays where it is. None exactly where it isn't ready.
-    pub fn peek(&self) -> Option<Item>
-        ensures { result ≡ item_of (least self.now.merge.waiting) }
+    /// The least head, which stays where it is until [`Consumer::pass`] takes it. None exactly where it
+    /// isn't ready.
+    pub fn least(&self) -> Option<Head>
+        ensures value { result ≡ least self.now.merge.waiting }
+        ensures known { IsSome result ↔ IsTrue (all_wait self.now.merge.waiting) }
+        ensures first { IfSome result (ComesFirst self.now.merge.waiting) }
+        // Over edges for which it stands.
+        ensures whole { (last : ℕ) (edges : List (List Item)) → AreEdges last edges → StandsFor last edges self.now.merge
+            → AllTaken edges self.now.merge → result ≡ None → self.now.merge.count ≡ length (merged last edges) }
     {
-        self.merge.peek()
+        self.merge.least()
+    }
+
+    /// Takes the least head, which is this one, as the next item of the merged list.
+    pub fn pass(&mut self, head: &Head)
+        requires next { least self.old.merge.waiting ≡ Some head.now }
+        requires room { self.old.merge.count + 1 < number_limit }
+        ensures after { self.new ≡ with_merge self.old (after_next self.old.merge) }
+        ensures fewer { sum_by length self.new.merge.waiting < sum_by length self.old.merge.waiting }
+        // Over edges for which it stands.
+        ensures stands { (last : ℕ) (edges : List (List Item)) → AreEdges last edges → StandsFor last edges self.old.merge
+            → StandsFor last edges self.new.merge }
+        ensures in_order { (last : ℕ) (edges : List (List Item)) → AreEdges last edges → StandsFor last edges self.old.merge
+            → slice_get (items (merged last edges)) self.old.merge.count ≡ Some head.now.item }
+    {
+        self.merge.pass(head)
     }
 
     /// The next item of the merged list. None exactly where it isn't ready.

@@ -1,5 +1,5 @@
 -- A core stays one that stands for a known state.
-use Rattle.std.proofs.Common.{◌≡◌, ◌∙◌, ◌⊎◌, inl, inr, ◌++◌, Bool, true, false, [], ◌∷◌, Err, Result, refl, sym, ap, subst, true≢false}
+use Rattle.std.proofs.Common.{◌≡◌, ◌∙◌, ◌⊎◌, inl, inr, ◌++◌, Bool, true, false, [], ◌∷◌, Err, Result, Some, refl, sym, ap, subst, true≢false}
 use Rattle.tuple_edge.specs.declared.event.Event.{Event}
 use Rattle.plan_reader.specs.Nodes.{names_event}
 use Rattle.plan_reader.specs.PlanView.{IsPlan}
@@ -17,15 +17,18 @@ use Rattle.pair_machine.proofs.Legal.{legal_join}
 use Rattle.pair_machine.proofs.MachineLaws.{steps_keep_sound}
 use Rattle.pair_machine.proofs.StepTurns.{at_there}
 use Rattle.replica_node.specs.Course.{AreTimely}
-use Rattle.flux_core.specs.Acts.{IsRefusedSo}
-use Rattle.flux_core.specs.CoreView.{CoreView, flow_in, inputs_of, station}
+use Rattle.plan_nodes.specs.NodeOrder.{nodes_of}
+use Rattle.plan_nodes.specs.States.{id_of}
+use Rattle.flux_core.specs.Acts.{IsActOf, IsRefusedSo}
+use Rattle.flux_core.specs.CoreView.{CoreView, Standing, StationView, flow_in, inputs_of, standing, station}
 use Rattle.flux_core.specs.Refusals.{IsRefusal}
-use Rattle.flux_core.specs.Stands.{IsCore, IsGiven, IsKnown, IsReached, StandsFor}
-use Rattle.flux_core.specs.Steps.{GoesOn, HasActed, HasSoundState, IsApplied, IsTaskOf, MayApply}
-use Rattle.flux_core.specs.declared.acts.Task.{Task}
+use Rattle.flux_core.specs.Stands.{ContentStands, IsCore, IsGiven, IsKnown, IsReached, StandsFor}
+use Rattle.flux_core.specs.Steps.{GoesOn, HasChanged, HasSoundState, IsApplied, IsTaskOf, MayApply}
+use Rattle.flux_core.specs.declared.asked.Asked.{Asked}
 use Rattle.flux_core.specs.declared.error.ApplyError.{ApplyError}
 use Rattle.flux_core.specs.declared.error.ApplyError.TheVariants as error
 use Rattle.flux_core.proofs.KeepsOwed.{keeps_drainable}
+use Rattle.flux_core.proofs.Placing.{inputs_same as inputs_kept}
 use Rattle.flux_core.proofs.Steps.{goes_on}
 use Rattle.flux_core.proofs.There.{there}
 
@@ -67,17 +70,18 @@ module _ (old new : CoreView) (e : Event) (p : IsPlan old.plan) (is_there : IsTh
   known_on false h (inl t) = absurd (true≢false (sym t))
   known_on false h (inr may) = given_on h may
 
-pub applied : (old new : CoreView) (t : Task) (e : Event) → IsCore old → names_event old.plan e ≡ true → MayApply old e → IsTaskOf old e t → HasActed (at_node e) t old new → IsCore new × IsApplied old new e
+pub applied : (old new : CoreView) (t : Asked) (e : Event) → IsCore old → names_event old.plan e ≡ true → MayApply old e → IsTaskOf old e t → HasChanged (at_node e) t old new → IsCore new × IsApplied old new e
 applied old new t e core named may task h =
     let is_there = there old.plan (inputs_of old) core.plan e named in
+    let inputs = inputs_kept (at_node e) t old new h in
     let goes = goes_on old new t e core.plan core.times is_there h task in (
       record {
         plan = subst IsPlan (sym h.plan) core.plan;
-        times = subst AreTimely (sym h.inputs) core.times;
-        logs = h.logs core.logs;
-        known = subst (λ w. IsKnown w new) (sym h.whole) (known_on old new e core.plan is_there goes h.plan h.inputs old.whole core.known may);
+        times = subst AreTimely (sym inputs) core.times;
+        names = h.names ∙ core.names ∙ ap nodes_of (sym h.plan);
+        known = subst (λ w. IsKnown w new) (sym h.whole) (known_on old new e core.plan is_there goes h.plan inputs old.whole core.known may);
       },
-      record { steps = goes; others = h.others; plan = h.plan; inputs = h.inputs; whole = h.whole },
+      record { steps = goes; others = h.others; plan = h.plan; inputs = inputs; whole = h.whole },
     )
 
 -- ---- refusals
@@ -96,14 +100,16 @@ unfolding step
 refused_early f s e x h = refusal_on (acted f (at_node e) s) (λ r. refl) (act_of f s e) x h
 
 -- what the node refuses
-pub refused_there : (core : CoreView) (t : Task) (e : Event) (x : ApplyError) → IsCore core → names_event core.plan e ≡ true → IsTaskOf core e t
-    → IsRefusedSo core.plan (at_node e) t (station core (at_node e)).content x → (s : State) → StandsFor core s → IsRefusal (step (flow_in core) s e) x
+pub refused_there : (core : CoreView) (t : Asked) (e : Event) (x : ApplyError) (at : StationView) → IsCore core → names_event core.plan e ≡ true → IsTaskOf core e t
+    → station core (at_node e) ≡ standing (Some at) → id_of at.node ≡ at_node e → IsRefusedSo core.plan t at.node x → (s : State) → StandsFor core s → IsRefusal (step (flow_in core) s e) x
 unfolding step
-refused_there core t e x is named task refused s stands =
+refused_there core t e x at is named task here name refused s stands =
     let f = flow_in core in
     let n = at_node e in
     let z = task s stands in
     let has = at_there f e (there core.plan (inputs_of core) is.plan e named) in
-    let at_does : IsRefusal (does f n z.0 (s.nodes n)) x = refused (inputs_of core) is.plan (s.nodes n) z.0 z.2 (stands n has).content in
+    let stood : ContentStands core.plan (inputs_of core) n (Some at.node) (s.nodes n) = subst (λ (k : Standing). ContentStands core.plan (inputs_of core) n k.content (s.nodes n)) here (stands n has).content in
+    let at_does : IsRefusal (does f n z.0 (s.nodes n)) x = subst (λ k. IsRefusal (does f k z.0 (s.nodes n)) x) name
+    (refused (inputs_of core) is.plan (s.nodes n) z.0 (subst (λ k. IsActOf core.plan (inputs_of core) k t (s.nodes n) z.0) (sym name) z.2) stood.1) in
     let at_after : IsRefusal (after n s (does f n z.0 (s.nodes n))) x = refusal_on (after n s) (λ r. refl) (does f n z.0 (s.nodes n)) x at_does in
     subst (λ a. IsRefusal (acted f n s a) x) (sym z.1) at_after

@@ -1,28 +1,11 @@
 -- One element of a list written, and lists mapped.
-use Rattle.std.proofs.Common.{◌≡◌, ◌≢◌, ◌∙◌, ℕ, zero, suc, ◌<◌, List, [], ◌∷◌, Option, Some, length, map, slice_get, slice_index_or, slice_set, refl, sym, ap, unwrap_or, arith}
+use Rattle.std.proofs.Common.{◌≡◌, ◌∙◌, ℕ, zero, suc, ◌<◌, ◌+◌, List, [], ◌∷◌, ◌++◌, Option, Some, length, map, slice_get, slice_index_or, slice_set, refl, sym, ap, unwrap_or, arith}
 use Rattle.std.specs.Option.{option_map}
 
 pub set-same : {X : Type 0} (xs : List X) (i : ℕ) (x y : X) → slice_get xs i ≡ Some x → slice_get (slice_set xs i y) i ≡ Some y
 set-same [] i x y e = let z : ⊥ = cc e in absurd z
 set-same (z ∷ xs) zero x y e = refl
 set-same (z ∷ xs) (suc i) x y e = set-same xs i x y e
-
-pub set-other : {X : Type 0} (xs : List X) (i j : ℕ) (y : X) → j ≢ i → slice_get (slice_set xs i y) j ≡ slice_get xs j
-set-other [] i j y ne = refl
-set-other (z ∷ xs) zero zero y ne = absurd (ne refl)
-set-other (z ∷ xs) zero (suc j) y ne = refl
-set-other (z ∷ xs) (suc i) zero y ne = refl
-set-other (z ∷ xs) (suc i) (suc j) y ne = set-other xs i j y (λ e. ne (ap suc e))
-
-pub set-itself : {X : Type 0} (xs : List X) (i : ℕ) (x : X) → slice_get xs i ≡ Some x → slice_set xs i x ≡ xs
-set-itself [] i x e = refl
-set-itself (z ∷ xs) zero x e = let h : z ≡ x = ap (λ o. unwrap_or o x) e in ap (λ w. w ∷ xs) (sym h)
-set-itself (z ∷ xs) (suc i) x e = ap (λ r. z ∷ r) (set-itself xs i x e)
-
-pub map-set : {X Y : Type 0} (f : X → Y) (xs : List X) (i : ℕ) (y : X) → map f (slice_set xs i y) ≡ slice_set (map f xs) i (f y)
-map-set f [] i y = refl
-map-set f (z ∷ xs) zero y = refl
-map-set f (z ∷ xs) (suc i) y = ap (λ r. f z ∷ r) (map-set f xs i y)
 
 pub get-map : {X Y : Type 0} (f : X → Y) (xs : List X) (i : ℕ) → slice_get (map f xs) i ≡ option_map f (slice_get xs i)
 get-map f [] i = refl
@@ -38,11 +21,6 @@ pub get-back : {X Y : Type 0} (f : X → Y) (xs : List X) (i : ℕ) (y : Y) → 
 get-back f [] i y e = let z : ⊥ = cc e in absurd z
 get-back f (x ∷ xs) zero y e = (x, refl, ap (λ o. unwrap_or o y) e)
 get-back f (x ∷ xs) (suc i) y e = get-back f xs i y e
-
-pub get-there : {X : Type 0} (xs : List X) (i : ℕ) → i < length xs → (x : X) × (slice_get xs i ≡ Some x)
-get-there [] i l = absurd (omega (arith, l))
-get-there (x ∷ xs) zero l = (x, refl)
-get-there (x ∷ xs) (suc i) l = get-there xs i (omega arith)
 
 pub length-map-of : {X Y : Type 0} (f : X → Y) (xs : List X) → length (map f xs) ≡ length xs
 length-map-of f [] = refl
@@ -62,10 +40,17 @@ get-at (y ∷ xs) (suc i) x l e = get-at xs i x (omega arith) e
 pub same-there : {X : Type 0} (o : Option X) (x y : X) → o ≡ Some x → o ≡ Some y → x ≡ y
 same-there o x y e f = ap (λ p. unwrap_or p x) (sym e ∙ f)
 
-pub set-same-mapped : {X Y : Type 0} (f : X → Y) (xs : List X) (i : ℕ) (x y : X) → slice_get xs i ≡ Some x → f y ≡ f x → map f (slice_set xs i y) ≡ map f xs
-set-same-mapped f xs i x y at e = map-set f xs i y ∙ ap (slice_set (map f xs) i) e ∙ sym (map-set f xs i x) ∙ ap (map f) (set-itself xs i x at)
+-- ---- one list behind another
 
-pub length-set : {X : Type 0} (xs : List X) (i : ℕ) (y : X) → length (slice_set xs i y) ≡ length xs
-length-set [] i y = refl
-length-set (x ∷ xs) zero y = refl
-length-set (x ∷ xs) (suc i) y = let r = length-set xs i y in omega arith
+pub get-left : {X : Type 0} (xs ys : List X) (i : ℕ) → i < length xs → slice_get (xs ++ ys) i ≡ slice_get xs i
+get-left [] ys i l = absurd (omega (arith, l))
+get-left (x ∷ xs) ys zero l = refl
+get-left (x ∷ xs) ys (suc i) l = get-left xs ys i (omega arith)
+
+pub get-right : {X : Type 0} (xs ys : List X) (i : ℕ) → slice_get (xs ++ ys) (length xs + i) ≡ slice_get ys i
+get-right [] ys i = ap (slice_get ys) {x = 0 + i} {y = i} (omega arith)
+get-right (x ∷ xs) ys i = let e : length (x ∷ xs) + i ≡ suc (length xs + i) = omega arith in ap (slice_get (x ∷ xs ++ ys)) e ∙ get-right xs ys i
+
+pub none-there : {X : Type 0} (xs : List X) → length xs ≡ 0 → xs ≡ []
+none-there [] e = refl
+none-there (x ∷ xs) e = absurd (omega (arith, e))

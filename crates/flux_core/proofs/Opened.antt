@@ -1,103 +1,99 @@
 -- A core that opens stands for the opening, and one of given nodes for a state from which the drain may begin.
-use Rattle.std.proofs.Common.{◌≡◌, ◌∙◌, ◌+◌, ℕ, zero, suc, Bool, true, false, List, [], ◌∷◌, All, Option, None, Some, length, map, slice_get, refl, sym, ap, subst, arith}
-use Rattle.std.proofs.lemmas.List.Elements.{All-head, All-tail}
-use Rattle.std.specs.Option.{option_map}
+use Rattle.std.proofs.Common.{◌≡◌, ◌∙◌, ◌≤◌, ◌<◌, ◌+◌, ℕ, zero, suc, ⊎_elim, Bool, true, false, List, [], ◌∷◌, ◌++◌, Some, arith, length, map, slice_index_or, take, refl, sym, ap, subst, true≢false, if◌then◌else◌}
+use Rattle.std.proofs.lemmas.List.{map-append}
 use Rattle.tuple_edge.specs.Input.{Input}
 use Rattle.tuple_edge.specs.declared.node.NodeId.{NodeId}
 use Rattle.tuple_edge.specs.declared.node.NodeId.TheVariants as node
 use Rattle.plan_reader.specs.PlanView.{IsPlan, PlanView}
-use Rattle.pair_control.specs.ControllerView.{ControllerView}
 use Rattle.pair_machine.proofs.MachineLaws.{plan_opens_sound}
+use Rattle.pair_machine.proofs.Lists.{each_more}
+use Rattle.pair_machine.proofs.Names.{is_node-true, node_self}
 use Rattle.pair_machine.proofs.PlanNodes.{nodes_named}
 use Rattle.pair_machine.specs.Links.{HasNode}
+use Rattle.pair_machine.specs.Lists.{Among}
 use Rattle.pair_machine.specs.Machine.{new_node, opening}
-use Rattle.ingress_egress.specs.EgressStands as egress
-use Rattle.ingress_egress.specs.EgressView.{EgressView}
-use Rattle.ingress_egress.specs.IngressStands as ingress
-use Rattle.ingress_egress.specs.IngressView.{IngressView}
+use Rattle.pair_machine.specs.Numbers.{is_node}
 use Rattle.replica_node.specs.Course.{AreTimely}
-use Rattle.replica_node.specs.ReplicaView.{ReplicaView}
-use Rattle.flux_core.specs.CoreView.{CoreView, HasLogs, IngressIs, Log, any_log, any_replica, contents_of, core_of, flow_in, inputs_of, pair_place, replica_contents, replica_place, station}
-use Rattle.flux_core.specs.Opening.{AreEmpty, HasPairsBefore, Opens, bare_core}
-use Rattle.flux_core.specs.Stands.{ContentStands, IsCore, IsGiven, IsKnown, PacketsStand, StandsFor, StationStands}
-use Rattle.flux_core.proofs.Contents.{content_in}
-use Rattle.flux_core.proofs.Lists.{get-map, length-map-of}
-use Rattle.flux_core.proofs.OpenPairs.{all_added}
+use Rattle.plan_nodes.specs.NodeOrder.{nodes_of}
+use Rattle.plan_nodes.specs.States.{StandsFor as NodeStandsFor, contents_of, id_of, inputs_in}
+use Rattle.plan_nodes.specs.declared.state.NodeState.{NodeState}
+use Rattle.plan_nodes.specs.declared.state.NodeState.TheVariants as state
+use Rattle.plan_nodes.proofs.NodeOrder.{all_there}
+use Rattle.flux_core.specs.CoreView.{CoreView, StationView, core_of, flow_in, found, inputs_at, inputs_of, names_of, standing, station}
+use Rattle.flux_core.specs.Opening.{AreOpen, bare_core, new_station}
+use Rattle.flux_core.specs.Stands.{IsCore, IsGiven, StandsFor, StationStands}
+use Rattle.flux_core.proofs.Contents.{content_in, id_contents}
+use Rattle.flux_core.proofs.ByName.{ingress_there}
+use Rattle.flux_core.proofs.Lists.{get-at}
+use Rattle.flux_core.proofs.Sendings.{take-next}
 
--- ---- logs of nodes that have sent nothing
+-- stations of nodes have the nodes' names
+names_new : (nodes : List NodeState) → names_of (map new_station nodes) ≡ map id_of nodes
+names_new [] = refl
+names_new (s ∷ nodes) = λ j. id_contents s j ∷ names_new nodes j
 
--- they are a list of empty logs, one for each node
-pub all_empty : {X : Type 0} (logs : List Log) (nodes : List X) → AreEmpty logs (length nodes) → logs ≡ map (λ x. []) nodes
-all_empty logs nodes h = go logs nodes h.count h.empty
+-- the inputs are those of the first node, which is ingress
+first_inputs : (plan : PlanView) (nodes : List NodeState) (d : NodeState) → map id_of nodes ≡ nodes_of plan → inputs_at (standing (found node.Ingress (map new_station nodes))).content ≡ inputs_in (slice_index_or nodes 0 d)
+first_inputs plan [] d e = let z : ⊥ = cc e in absurd z
+first_inputs plan (s ∷ nodes) d e = go s (let z : id_of s ≡ node.Ingress = cc e in z)
   where
-    go : {X : Type 0} (logs : List Log) (nodes : List X) → length logs ≡ length nodes → All (λ (log : Log). log ≡ []) logs → logs ≡ map (λ x. []) nodes
-    go [] [] e all = refl
-    go [] (x ∷ nodes) e all = absurd (omega (arith, e))
-    go (log ∷ logs) [] e all = absurd (omega (arith, e))
-    go (log ∷ logs) (x ∷ nodes) e all =
-        let first : log ≡ [] = All-head (λ (l : Log). l ≡ []) log logs all in
-        let rest = go logs nodes (omega (arith, e)) (All-tail (λ (l : Log). l ≡ []) log logs all) in
-        λ i. first i ∷ rest i
+    go : (s : NodeState) → id_of s ≡ node.Ingress → inputs_at (standing (found node.Ingress (map new_station (s ∷ nodes)))).content ≡ inputs_in s
+    go (state.Ingress i) name = refl
+    go (state.Replica v) name = let z : ⊥ = cc name in absurd z
+    go (state.Control c) name = let z : ⊥ = cc name in absurd z
+    go (state.Egress x) name = let z : ⊥ = cc name in absurd z
 
-empty_at : {X : Type 0} (nodes : List X) (i : ℕ) → any_log (slice_get (map (λ x. []) nodes) i) ≡ []
-empty_at [] i = refl
-empty_at (x ∷ nodes) zero = refl
-empty_at (x ∷ nodes) (suc i) = empty_at nodes i
+-- ---- nodes that open
 
-nothing_sent : (plan : PlanView) (rows : List Input) (n : NodeId) (log : Log) → log ≡ [] → PacketsStand plan rows n log (λ to. [])
-nothing_sent plan rows n log e = subst (λ l. PacketsStand plan rows n l (λ to. [])) (sym e) (λ to. tt)
-
--- ---- the opening
-
-mapped_replica : (o : Option ReplicaView) → any_replica (option_map replica_contents o) ≡ contents_of (any_replica o)
-mapped_replica None = refl
-mapped_replica (Some v) = refl
-
-replica_mapped : (plan : PlanView) (rows : List Input) (n : NodeId) (rs : List ReplicaView) (place : ℕ) → Opens plan n (any_replica (slice_get rs place))
-    → ContentStands plan rows n (any_replica (slice_get (map replica_contents rs) place)) (new_node n)
-replica_mapped plan rows n rs place h =
-    let same : any_replica (slice_get (map replica_contents rs) place) ≡ contents_of (any_replica (slice_get rs place)) = ap any_replica (get-map replica_contents rs place) ∙ mapped_replica (slice_get rs place) in
-    subst (λ k. ContentStands plan rows n k (new_node n)) (sym same) (content_in plan rows n (any_replica (slice_get rs place)) (new_node n) (h rows))
-
-module _ (plan : PlanView) (whole : Bool) (i : IngressView) (rs : List ReplicaView) (cs : List ControllerView) (e : EgressView) where
-  -- these nodes with no packet ever sent
-  abbrev Bare : CoreView
-  Bare = core_of plan whole i rs cs e [] (map (λ v. []) rs) (map (λ c. []) cs) []
-
-  pub opens : ingress.StandsFor plan i.inputs i (new_node node.Ingress) → HasPairsBefore plan rs cs (length plan.stages + 1) 0
-      → ((rows : List Input) → egress.StandsFor plan rows e (new_node node.Egress)) → StandsFor Bare opening
-  opens ingress_opens pairs egress_opens = at
+module _ (plan : PlanView) (rows : List Input) where
+  -- the node of a name that is one of theirs stands for its numbers at the start, and sent nothing
+  open_at : (n : NodeId) (nodes : List NodeState) → AreOpen plan rows nodes → Among n (map id_of nodes) → StationStands plan rows n (standing (found n (map new_station nodes))) opening
+  open_at n [] fresh among = absurd among
+  open_at n (s ∷ nodes) fresh among = go (is_node (id_of (contents_of s)) n) refl (λ there. open_at n nodes fresh.1 there)
     where
-      at : (n : NodeId) → HasNode (flow_in Bare) n → StationStands plan i.inputs n (station Bare n) opening
-      at node.Ingress has = record { content = content_in plan i.inputs node.Ingress (IngressIs i) (new_node node.Ingress) (refl, ingress_opens); sent = λ to. tt }
-      at (node.Replica s p w) has =
-          let pair = all_added plan rs cs pairs s p ((nodes_named plan i.inputs (node.Replica s p w)).named has) in
-          let place = replica_place plan s p w in
-          record {
-            content = replica_mapped plan i.inputs (node.Replica s p w) rs place (pair.replica w);
-            sent = nothing_sent plan i.inputs (node.Replica s p w) (any_log (slice_get (map (λ v. []) rs) place)) (empty_at rs place);
-          }
-      at (node.Control s p) has =
-          let pair = all_added plan rs cs pairs s p ((nodes_named plan i.inputs (node.Control s p)).named has) in
-          let place = pair_place plan s p in
-          record {
-            content = pair.control i.inputs;
-            sent = nothing_sent plan i.inputs (node.Control s p) (any_log (slice_get (map (λ c. []) cs) place)) (empty_at cs place);
-          }
-      at node.Egress has = record { content = (refl, egress_opens i.inputs); sent = λ to. tt }
+      later : is_node (id_of (contents_of s)) n ≡ false → (n ≡ id_of s) → ⊥
+      later e same = true≢false (sym (ap (λ k. is_node k n) (id_contents s ∙ sym same) ∙ node_self n) ∙ e)
 
-  bare_logs : HasLogs Bare
-  bare_logs = record {
-    replicas = length-map-of (λ v. []) rs ∙ sym (length-map-of replica_contents rs);
-    controls = length-map-of (λ c. []) cs;
-  }
+      go : (b : Bool) → is_node (id_of (contents_of s)) n ≡ b → (Among n (map id_of nodes) → StationStands plan rows n (standing (found n (map new_station nodes))) opening)
+          → StationStands plan rows n (standing (if b then Some (new_station s) else found n (map new_station nodes))) opening
+      go true e rest =
+          let name : id_of s ≡ n = sym (id_contents s) ∙ is_node-true (id_of (contents_of s)) n e in
+          record { content = content_in plan rows n s (new_node n) (name, subst (λ k. NodeStandsFor plan rows s (new_node k)) name fresh.0); sent = λ to. tt }
+      go false e rest = ⊎_elim (λ same. absurd (later e same)) rest among
 
-  -- a core of these nodes and of logs in which nothing is
-  pub bare_same : (li : Log) (lr lc : List Log) (le : Log) → li ≡ [] → AreEmpty lr (length rs) → AreEmpty lc (length cs) → le ≡ [] → core_of plan whole i rs cs e li lr lc le ≡ Bare
-  bare_same li lr lc le ei er ec ee = λ j. core_of plan whole i rs cs e (ei j) (all_empty lr rs er j) (all_empty lc cs ec j) (ee j)
+-- the first so many nodes of a plan are there, in their order, as they open
+pub record AreOpenedTo (plan : PlanView) (rows : List Input) (ids : List NodeId) (nodes : List NodeState) (i : ℕ) : Type 0 where
+  pub names : map id_of nodes ≡ take i ids
+  pub opens : AreOpen plan rows nodes
 
-  pub bare_known : IsPlan plan → AreTimely i.inputs → IsKnown whole Bare → IsCore Bare
-  bare_known limits times known = record { plan = limits; times = times; logs = bare_logs; known = known }
+pub opened_none : (plan : PlanView) (rows : List Input) (ids : List NodeId) (nodes : List NodeState) → nodes ≡ [] → AreOpenedTo plan rows ids nodes 0
+opened_none plan rows ids nodes e = subst (λ ns. AreOpenedTo plan rows ids ns 0) (sym e) (record { names = sym (none ids); opens = tt })
+  where
+    none : (ids : List NodeId) → take 0 ids ≡ []
+    none [] = refl
+    none (id ∷ ids) = refl
+
+pub opened_next : (plan : PlanView) (rows : List Input) (ids : List NodeId) (nodes : List NodeState) (i : ℕ) (id : NodeId) (s : NodeState) → AreOpenedTo plan rows ids nodes i → i < length ids → id ≡ slice_index_or ids i id
+    → id_of s ≡ id → NodeStandsFor plan rows s (new_node id) → AreOpenedTo plan rows ids (nodes ++ s ∷ []) (i + 1)
+opened_next plan rows ids nodes i id s h within e name stands = record {
+  names =
+      let next : take (i + 1) ids ≡ take i ids ++ id ∷ [] = ap (λ k. take k ids) {x = i + 1} {y = suc i} (omega arith) ∙ take-next ids i id (get-at ids i id within e) in
+      map-append id_of nodes (s ∷ []) ∙ (λ j. h.names j ++ name j ∷ []) ∙ sym next;
+  opens = each_more (λ k. NodeStandsFor plan rows k (new_node (id_of k))) nodes s h.opens (subst (λ k. NodeStandsFor plan rows s (new_node k)) (sym name) stands);
+}
+
+pub opened_all : (plan : PlanView) (rows : List Input) (ids : List NodeId) (nodes : List NodeState) (i : ℕ) → AreOpenedTo plan rows ids nodes i → length ids ≤ i → map id_of nodes ≡ ids
+opened_all plan rows ids nodes i h full = h.names ∙ past ids i full
+  where
+    past : (xs : List NodeId) (n : ℕ) → length xs ≤ n → take n xs ≡ xs
+    past [] zero l = refl
+    past [] (suc n) l = refl
+    past (x ∷ xs) zero l = absurd (omega (arith, l))
+    past (x ∷ xs) (suc n) l = ap (λ ys. x ∷ ys) (past xs n (omega (arith, l)))
+
+-- these nodes with no packet ever sent
+abbrev pub Bare : PlanView → Bool → List NodeState → CoreView
+Bare plan whole nodes = core_of plan whole (map new_station nodes)
 
 -- what a core is that opens
 pub record IsOpened (core : CoreView) (given : PlanView) (rows : List Input) : Type 0 where
@@ -106,36 +102,59 @@ pub record IsOpened (core : CoreView) (given : PlanView) (rows : List Input) : T
   pub plan : core.plan ≡ given
   pub inputs : inputs_of core ≡ rows
 
-pub opened : (plan : PlanView) (rows : List Input) (copy : PlanView) (i : IngressView) (rs : List ReplicaView) (cs : List ControllerView) (e : EgressView) (li : Log) (lr lc : List Log) (le : Log)
-    → copy ≡ plan → IsPlan plan → AreTimely i.inputs → ingress.StandsFor plan rows i (new_node node.Ingress) → HasPairsBefore plan rs cs (length plan.stages + 1) 0
-    → ((rows : List Input) → egress.StandsFor plan rows e (new_node node.Egress)) → li ≡ [] → AreEmpty lr (length rs) → AreEmpty lc (length cs) → le ≡ []
-    → IsOpened (core_of copy true i rs cs e li lr lc le) plan rows
-opened plan rows copy i rs cs e li lr lc le same limits times ingress_opens pairs egress_opens ei er ec ee =
-    let inputs : i.inputs ≡ rows = ingress_opens.inputs in
-    let stands = opens plan true i rs cs e (subst (λ I. ingress.StandsFor plan I i (new_node node.Ingress)) (sym inputs) ingress_opens) pairs egress_opens in
-    let bare : IsOpened (Bare plan true i rs cs e) plan rows = record {
-      is = bare_known plan true i rs cs e limits times (record {
-        events = [];
-        state = opening;
-        legal = record { there = tt; leads = refl };
-        sound = plan_opens_sound plan i.inputs limits;
-        stands = stands;
-      });
-      opens = stands;
-      plan = refl;
-      inputs = inputs;
-    } in
-    let as_bare : core_of copy true i rs cs e li lr lc le ≡ Bare plan true i rs cs e = ap (λ p. core_of p true i rs cs e li lr lc le) same ∙ bare_same plan true i rs cs e li lr lc le ei er ec ee in
-    subst (λ core. IsOpened core plan rows) (sym as_bare) bare
+opened_bare : (plan : PlanView) (rows : List Input) (nodes : List NodeState) (d : NodeState) → IsPlan plan → AreTimely (inputs_in (slice_index_or nodes 0 d)) → map id_of nodes ≡ nodes_of plan → AreOpen plan rows nodes
+    → IsOpened (Bare plan true nodes) plan rows
+opened_bare plan rows nodes d limits times names fresh = record {
+  is = record {
+    plan = limits;
+    times = subst AreTimely (sym (first_inputs plan nodes d names)) times;
+    names = names_new nodes ∙ names;
+    known = record {
+      events = [];
+      state = opening;
+      legal = record { there = tt; leads = refl };
+      sound = plan_opens_sound plan (inputs_of (Bare plan true nodes)) limits;
+      stands = opens;
+    };
+  };
+  opens = opens;
+  plan = refl;
+  inputs = inputs;
+}
+  where
+    among : (n : NodeId) → HasNode (flow_in (Bare plan true nodes)) n → Among n (map id_of nodes)
+    among n has = subst (Among n) (sym names) (all_there plan n ((nodes_named plan (inputs_of (Bare plan true nodes)) n).named has))
+
+    inputs : inputs_of (Bare plan true nodes) ≡ rows
+    inputs =
+        let i = ingress_there plan rows (station (Bare plan true nodes) node.Ingress).content (new_node node.Ingress) (open_at plan rows node.Ingress nodes fresh (among node.Ingress (tt, tt))).content in
+        ap inputs_at i.1 ∙ i.2.inputs
+
+    opens : StandsFor (Bare plan true nodes) opening
+    opens = subst (λ I. (n : NodeId) → HasNode (flow_in (Bare plan true nodes)) n → StationStands plan I n (station (Bare plan true nodes) n) opening) (sym inputs) (λ n has. open_at plan rows n nodes fresh (among n has))
+
+pub opened : (plan copy : PlanView) (rows : List Input) (nodes : List NodeState) (d : NodeState) (stations : List StationView) → stations ≡ map new_station nodes → copy ≡ plan → IsPlan plan → d ≡ slice_index_or nodes 0 d
+    → AreTimely (inputs_in d) → map id_of nodes ≡ nodes_of plan → AreOpen plan rows nodes → IsOpened (core_of copy true stations) plan rows
+opened plan copy rows nodes d stations made same limits first times names fresh =
+    let as_bare : core_of copy true stations ≡ Bare plan true nodes = λ j. core_of (same j) true (made j) in
+    subst (λ core. IsOpened core plan rows) (sym as_bare) (opened_bare plan rows nodes d limits (subst (λ s. AreTimely (inputs_in s)) first times) names fresh)
+
+-- there is a first node
+pub first_there : (plan : PlanView) (nodes : List NodeState) → map id_of nodes ≡ nodes_of plan → 0 < length nodes
+first_there plan [] e = let z : ⊥ = cc e in absurd z
+first_there plan (s ∷ nodes) e = omega arith
+
+-- ---- given nodes
 
 -- what a core is that is made of nodes alone
 pub record IsBare (core : CoreView) (bare : CoreView) : Type 0 where
   pub is : IsCore core
   pub same : core ≡ bare
 
-pub bared : (plan copy : PlanView) (i : IngressView) (rs : List ReplicaView) (cs : List ControllerView) (e : EgressView) (li : Log) (lr lc : List Log) (le : Log)
-    → copy ≡ plan → IsPlan plan → AreTimely i.inputs → IsGiven (bare_core plan i rs cs e) → li ≡ [] → AreEmpty lr (length rs) → AreEmpty lc (length cs) → le ≡ []
-    → IsBare (core_of copy false i rs cs e li lr lc le) (bare_core plan i rs cs e)
-bared plan copy i rs cs e li lr lc le same limits times given ei er ec ee =
-    let as_bare : core_of copy false i rs cs e li lr lc le ≡ bare_core plan i rs cs e = ap (λ p. core_of p false i rs cs e li lr lc le) same ∙ bare_same plan false i rs cs e li lr lc le ei er ec ee in
-    record { is = subst IsCore (sym as_bare) (bare_known plan false i rs cs e limits times given); same = as_bare }
+pub bared : (plan copy : PlanView) (nodes : List NodeState) (d : NodeState) (stations : List StationView) → stations ≡ map new_station nodes → copy ≡ plan → IsPlan plan → d ≡ slice_index_or nodes 0 d
+    → AreTimely (inputs_in d) → map id_of nodes ≡ nodes_of plan → IsGiven (bare_core plan nodes) → IsBare (core_of copy false stations) (bare_core plan nodes)
+bared plan copy nodes d stations made same limits first times names given =
+    let as_bare : core_of copy false stations ≡ bare_core plan nodes = λ j. core_of (same j) false (made j) in
+    let timely : AreTimely (inputs_in (slice_index_or nodes 0 d)) = subst (λ s. AreTimely (inputs_in s)) first times in
+    let is : IsCore (bare_core plan nodes) = record { plan = limits; times = subst AreTimely (sym (first_inputs plan nodes d names)) timely; names = names_new nodes ∙ names; known = given } in
+    record { is = subst IsCore (sym as_bare) is; same = as_bare }

@@ -1,5 +1,5 @@
 -- The promises hold of every core.
-use Rattle.std.proofs.Common.{◌≡◌, ◌∙◌, ℕ, true, false, Bool, Some, List, unwrap_or, sym, ap, subst, arith}
+use Rattle.std.proofs.Common.{◌≡◌, ◌∙◌, ℕ, true, false, Bool, Option, Some, List, unwrap_or, sym, ap, subst, arith}
 use Rattle.tuple_edge.specs.Input.{Input}
 use Rattle.tuple_edge.specs.declared.node.NodeId.TheVariants as node
 use Rattle.tuple_edge.specs.declared.node.Which.{Which}
@@ -18,7 +18,9 @@ use Rattle.replica_node.specs.StandsFor.{PhaseStands}
 use Rattle.replica_node.specs.declared.phase.Phase.{Phase}
 use Rattle.replica_node.specs.declared.phase.Phase.TheVariants as phase
 use Rattle.flux_core.specs.Acts.{merges_at}
-use Rattle.flux_core.specs.CoreView.{Content, CoreView, ReplicaIs, inputs_of, station}
+use Rattle.plan_nodes.specs.declared.state.NodeState.{NodeState}
+use Rattle.plan_nodes.specs.declared.state.NodeState.TheVariants as state
+use Rattle.flux_core.specs.CoreView.{CoreView, inputs_of, station}
 use Rattle.flux_core.specs.Promises.{HasMergedInOrder, HoldsWhatIsOwed, MergesInOrder}
 use Rattle.flux_core.specs.Stands.{ContentStands, IsCore, IsKnown}
 use Rattle.flux_core.proofs.Done.{some_state}
@@ -37,10 +39,10 @@ module _ (plan : PlanView) (rows : List Input) (is : IsPlan plan) where
   merged_running p m (phase.Gathering g) x r h e = let z : ⊥ = cc e in absurd z
   merged_running p m (phase.Gone i) x r h e = let z : ⊥ = cc e in absurd z
 
-  merged_there : (stage part : ℕ) (which : Which) → HasNode (flow_of plan rows) (node.Replica stage part which) → (c : Content) (x : _) → ContentStands plan rows (node.Replica stage part which) c x
-      → (v : ReplicaView) (r : Running) → c ≡ ReplicaIs v → running_in v.phase ≡ Some r → HasMergedInOrder plan rows (record { stage = stage; part = part }) r
+  merged_there : (stage part : ℕ) (which : Which) → HasNode (flow_of plan rows) (node.Replica stage part which) → (c : Option NodeState) (x : _) → ContentStands plan rows (node.Replica stage part which) c x
+      → (v : ReplicaView) (r : Running) → c ≡ Some (state.Replica v) → running_in v.phase ≡ Some r → HasMergedInOrder plan rows (record { stage = stage; part = part }) r
   merged_there stage part which has c x h v r e running =
-      let here : ContentStands plan rows (node.Replica stage part which) (ReplicaIs v) x = subst (λ k. ContentStands plan rows (node.Replica stage part which) k x) e h in
+      let here : ContentStands plan rows (node.Replica stage part which) (Some (state.Replica v)) x = subst (λ k. ContentStands plan rows (node.Replica stage part which) k x) e h in
       let named = ap (merges_at plan rows) here.0 in
       let first = has.0.0 in let last = has.0.1 in
       merged_running (record { stage = stage; part = part }) (record { first = first; last = omega (arith, last) }) v.phase (replica_in x) r (subst (λ p. PhaseStands plan rows p v.phase (replica_in x)) named here.1.phase_stands) running

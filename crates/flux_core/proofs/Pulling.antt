@@ -33,13 +33,14 @@ use Rattle.replica_node.specs.StandsFor.{PhaseStands}
 use Rattle.replica_node.specs.declared.phase.Phase.{Phase}
 use Rattle.replica_node.specs.declared.phase.Phase.TheVariants as phase
 use Rattle.flux_core.specs.Acts.{IsActOf, IsNextAt, merges_at}
-use Rattle.flux_core.specs.CoreView.{Content, ControllerIs, EgressIs, IngressIs, Nothing, ReplicaIs}
+use Rattle.plan_nodes.specs.declared.state.NodeState.{NodeState}
+use Rattle.plan_nodes.specs.declared.state.NodeState.TheVariants as state
 use Rattle.flux_core.specs.Ends.{IsNextSource, IsOfTwo, consumer_in, producer_in}
 use Rattle.flux_core.specs.Pulls.{IsAhead, IsNoPull, IsPullOf}
 use Rattle.flux_core.specs.Refusals.{IsRefusal}
 use Rattle.flux_core.specs.Stands.{ContentStands}
-use Rattle.flux_core.specs.declared.acts.Task.{Task}
-use Rattle.flux_core.specs.declared.acts.Task.TheVariants as task
+use Rattle.flux_core.specs.declared.asked.Asked.{Asked}
+use Rattle.flux_core.specs.declared.asked.Asked.TheVariants as asked
 use Rattle.flux_core.specs.declared.error.ApplyError.{ApplyError}
 use Rattle.flux_core.specs.declared.error.ApplyError.TheVariants as error
 
@@ -109,22 +110,22 @@ module _ (plan : PlanView) (rows : List Input) where
   phase_unmarked p (phase.Gone i) (Gathering x) q h e = refl
   phase_unmarked p (phase.Gone i) (Gone j) q h e = refl
 
-  pub marked : (n : NodeId) (c : Content) (x : Node) (k : ConsumerView) (q : ℕ) → ContentStands plan rows n c x → consumer_in c ≡ Some k → q < length k.merge.marks → machine.mark_of q n x ≡ Some (mark_of k.merge q)
-  marked n (IngressIs i) x k q h e l = let z : ⊥ = cc e in absurd z
-  marked n (ReplicaIs v) x k q h e l = subst (λ m. machine.mark_of q m x ≡ Some (mark_of k.merge q)) h.0 (phase_marked (partition_of v.role) v.phase (replica_in x) k q h.1.phase_stands e l)
-  marked n (ControllerIs c) x k q h e l = let z : ⊥ = cc e in absurd z
-  marked n (EgressIs g) x k q h e l =
+  pub marked : (n : NodeId) (c : Option NodeState) (x : Node) (k : ConsumerView) (q : ℕ) → ContentStands plan rows n c x → consumer_in c ≡ Some k → q < length k.merge.marks → machine.mark_of q n x ≡ Some (mark_of k.merge q)
+  marked n (Some (state.Ingress i)) x k q h e l = let z : ⊥ = cc e in absurd z
+  marked n (Some (state.Replica v)) x k q h e l = subst (λ m. machine.mark_of q m x ≡ Some (mark_of k.merge q)) h.0 (phase_marked (partition_of v.role) v.phase (replica_in x) k q h.1.phase_stands e l)
+  marked n (Some (state.Control c)) x k q h e l = let z : ⊥ = cc e in absurd z
+  marked n (Some (state.Egress g)) x k q h e l =
       let same : g.consumer ≡ k = ap (λ o. unwrap_or o k) e in
       let within = subst (λ m. q < m) h.1.consumer.edges (subst (λ z. q < length z.merge.marks) (sym same) l) in
       subst (λ m. machine.mark_of q m x ≡ Some (mark_of k.merge q)) h.0 (ap Some (sym (h.1.consumer.marks q within) ∙ ap (λ z. mark_of z.merge q) same))
-  marked n Nothing x k q h e l = absurd h
+  marked n None x k q h e l = absurd h
 
-  pub unmarked : (n : NodeId) (c : Content) (x : Node) (q : ℕ) → ContentStands plan rows n c x → consumer_in c ≡ None → machine.mark_of q n x ≡ None
-  unmarked n (IngressIs i) x q h e = subst (λ m. machine.mark_of q m x ≡ None) h.0 refl
-  unmarked n (ReplicaIs v) x q h e = subst (λ m. machine.mark_of q m x ≡ None) h.0 (phase_unmarked (partition_of v.role) v.phase (replica_in x) q h.1.phase_stands e)
-  unmarked n (ControllerIs c) x q h e = subst (λ m. machine.mark_of q m x ≡ None) h.0 refl
-  unmarked n (EgressIs g) x q h e = let z : ⊥ = cc e in absurd z
-  unmarked n Nothing x q h e = absurd h
+  pub unmarked : (n : NodeId) (c : Option NodeState) (x : Node) (q : ℕ) → ContentStands plan rows n c x → consumer_in c ≡ None → machine.mark_of q n x ≡ None
+  unmarked n (Some (state.Ingress i)) x q h e = subst (λ m. machine.mark_of q m x ≡ None) h.0 refl
+  unmarked n (Some (state.Replica v)) x q h e = subst (λ m. machine.mark_of q m x ≡ None) h.0 (phase_unmarked (partition_of v.role) v.phase (replica_in x) q h.1.phase_stands e)
+  unmarked n (Some (state.Control c)) x q h e = subst (λ m. machine.mark_of q m x ≡ None) h.0 refl
+  unmarked n (Some (state.Egress g)) x q h e = let z : ⊥ = cc e in absurd z
+  unmarked n None x q h e = absurd h
 
   -- ---- any producer
 
@@ -135,24 +136,24 @@ module _ (plan : PlanView) (rows : List Input) where
   edge_from (node.Control s p) q t = ingress_edge q t
   edge_from node.Egress q t = ingress_edge q t
 
-  pub buffered : (n : NodeId) (c : Content) (x : Node) (p : ProducerView) (q t : ℕ) → ContentStands plan rows n c x → ((i : IngressView) → c ≡ IngressIs i → q < length i.producers) → producer_in c q ≡ Some p → t < length p.edges
+  pub buffered : (n : NodeId) (c : Option NodeState) (x : Node) (p : ProducerView) (q t : ℕ) → ContentStands plan rows n c x → ((i : IngressView) → c ≡ Some (state.Ingress i) → q < length i.producers) → producer_in c q ≡ Some p → t < length p.edges
       → Buffered p t (buffer_of (flow_of plan rows) q t n x) (edge_from n q t)
-  buffered n (IngressIs i) x p q t h few e l =
+  buffered n (Some (state.Ingress i)) x p q t h few e l =
       let same : producer_at i q ≡ p = ap (λ o. unwrap_or o p) e in
       subst (λ m. Buffered p t (buffer_of (flow_of plan rows) q t m x) (edge_from m q t)) h.0
       (subst (λ y. Buffered y t (buffer_of (flow_of plan rows) q t node.Ingress x) (ingress_edge q t)) same (ingress_buffered i x q t h.1 (few i refl) (subst (λ y. t < length y.edges) (sym same) l)))
-  buffered n (ReplicaIs v) x p q t h few e l =
+  buffered n (Some (state.Replica v)) x p q t h few e l =
       subst (λ m. Buffered p t (buffer_of (flow_of plan rows) q t m x) (edge_from m q t)) h.0 (phase_buffered (partition_of v.role) v.phase (replica_in x) p t h.1.phase_stands e l)
-  buffered n (ControllerIs c) x p q t h few e l = let z : ⊥ = cc e in absurd z
-  buffered n (EgressIs g) x p q t h few e l = let z : ⊥ = cc e in absurd z
-  buffered n Nothing x p q t h few e l = absurd h
+  buffered n (Some (state.Control c)) x p q t h few e l = let z : ⊥ = cc e in absurd z
+  buffered n (Some (state.Egress g)) x p q t h few e l = let z : ⊥ = cc e in absurd z
+  buffered n None x p q t h few e l = absurd h
 
-  pub unbuffered : (n : NodeId) (c : Content) (x : Node) (q t : ℕ) → ContentStands plan rows n c x → producer_in c q ≡ None → buffer_of (flow_of plan rows) q t n x ≡ None
-  unbuffered n (IngressIs i) x q t h e = let z : ⊥ = cc e in absurd z
-  unbuffered n (ReplicaIs v) x q t h e = subst (λ m. buffer_of (flow_of plan rows) q t m x ≡ None) h.0 (phase_unbuffered (partition_of v.role) v.phase (replica_in x) t h.1.phase_stands e)
-  unbuffered n (ControllerIs c) x q t h e = subst (λ m. buffer_of (flow_of plan rows) q t m x ≡ None) h.0 refl
-  unbuffered n (EgressIs g) x q t h e = subst (λ m. buffer_of (flow_of plan rows) q t m x ≡ None) h.0 refl
-  unbuffered n Nothing x q t h e = absurd h
+  pub unbuffered : (n : NodeId) (c : Option NodeState) (x : Node) (q t : ℕ) → ContentStands plan rows n c x → producer_in c q ≡ None → buffer_of (flow_of plan rows) q t n x ≡ None
+  unbuffered n (Some (state.Ingress i)) x q t h e = let z : ⊥ = cc e in absurd z
+  unbuffered n (Some (state.Replica v)) x q t h e = subst (λ m. buffer_of (flow_of plan rows) q t m x ≡ None) h.0 (phase_unbuffered (partition_of v.role) v.phase (replica_in x) t h.1.phase_stands e)
+  unbuffered n (Some (state.Control c)) x q t h e = subst (λ m. buffer_of (flow_of plan rows) q t m x ≡ None) h.0 refl
+  unbuffered n (Some (state.Egress g)) x q t h e = subst (λ m. buffer_of (flow_of plan rows) q t m x ≡ None) h.0 refl
+  unbuffered n None x q t h e = absurd h
 
   -- ---- the edge between the two
 
@@ -177,7 +178,7 @@ first_none : (test : ℕ → Bool) → ((q : ℕ) → test q ≡ false) → (n :
 first_none test h zero = refl
 first_none test h (suc n) = λ j. option_or (first_none test h n j) (if h n j then Some n else None)
 
-module _ (plan : PlanView) (rows : List Input) (i : IngressView) (x : Node) (to : NodeId) (c : Content) (y : Node) (stands : ingress.StandsFor plan rows i x) (at : ContentStands plan rows to c y) where
+module _ (plan : PlanView) (rows : List Input) (i : IngressView) (x : Node) (to : NodeId) (c : Option NodeState) (y : Node) (stands : ingress.StandsFor plan rows i x) (at : ContentStands plan rows to c y) where
   abbrev test : ℕ → Bool
   test q = is_behind (machine.mark_of q to y) (source_made (flow_of plan rows) (ingress_in x) q (part_of to))
 
@@ -252,15 +253,15 @@ pull_lost q low mark produced h = go (nat_le low mark) (nat_lt mark produced) re
     go true false x y = refl
     go false b x y = refl
 
-module _ (plan : PlanView) (rows : List Input) (s : State) (from to : NodeId) (cf ct : Content) (here : ContentStands plan rows from cf (s.nodes from)) (there_to : ContentStands plan rows to ct (s.nodes to))
+module _ (plan : PlanView) (rows : List Input) (s : State) (from to : NodeId) (cf ct : Option NodeState) (here : ContentStands plan rows from cf (s.nodes from)) (there_to : ContentStands plan rows to ct (s.nodes to))
     (edge : HasEdge (flow_of plan rows) from to) (q : ℕ) (source : source_pulled (flow_of plan rows) from (s.nodes from) to (s.nodes to) ≡ q)
-    (few : (i : IngressView) → cf ≡ IngressIs i → q < length i.producers) (same : (st p : ℕ) (w : Which) → from ≡ node.Replica st p w → q ≡ p) where
+    (few : (i : IngressView) → cf ≡ Some (state.Ingress i) → q < length i.producers) (same : (st p : ℕ) (w : Which) → from ≡ node.Replica st p w → q ≡ p) where
   act_at : (o : Option machine.Buffer) (m : Option ℕ) → buffer_of (flow_of plan rows) q (part_of to) from (s.nodes from) ≡ o → machine.mark_of q to (s.nodes to) ≡ m → act_of (flow_of plan rows) s (event.Pull from to) ≡ pull_of q o m
   act_at o m e k = ap (λ j. pull_of j (buffer_of (flow_of plan rows) j (part_of to) from (s.nodes from)) (machine.mark_of j to (s.nodes to))) source ∙ (λ j. pull_of q (e j) (k j))
 
-  pub pull_asked : (op : Option ProducerView) (oc : Option ConsumerView) → producer_in cf q ≡ op → consumer_in ct ≡ oc → (t : Task) → IsPullOf op (part_of to) oc q t
+  pub pull_asked : (op : Option ProducerView) (oc : Option ConsumerView) → producer_in cf q ≡ op → consumer_in ct ≡ oc → (t : Asked) → IsPullOf op (part_of to) oc q t
       → (a : Act) × (act_of (flow_of plan rows) s (event.Pull from to) ≡ Ok a) × IsActOf plan rows to t (s.nodes to) a
-  pull_asked (Some p) (Some c) ep ec (task.Pull k i) h =
+  pull_asked (Some p) (Some c) ep ec (asked.Pull k i) h =
       let b = buffered plan rows from cf (s.nodes from) p q (part_of to) here few ep h.1 in
       let m = marked plan rows to ct (s.nodes to) c q there_to ec h.2 in
       let mark = mark_of c.merge q in
@@ -271,19 +272,14 @@ module _ (plan : PlanView) (rows : List Input) (s : State) (from to : NodeId) (c
         act_at _ _ b.numbers m ∙ pull_kept q (buffer_at p (part_of to)).low mark (buffer_at p (part_of to)).produced h.3.low h.3.produced,
         subst (λ j. (Pulls q ≡ Pulls j) × IsNextAt plan rows to j i (machine.mark_of j to (s.nodes to))) (sym h.0) (refl, next),
       )
-  pull_asked (Some p) (Some c) ep ec (task.Take f b) h = absurd h
-  pull_asked (Some p) (Some c) ep ec task.Work h = absurd h
-  pull_asked (Some p) (Some c) ep ec task.Make h = absurd h
-  pull_asked (Some p) (Some c) ep ec task.Kill h = absurd h
-  pull_asked (Some p) (Some c) ep ec task.AskStop h = absurd h
-  pull_asked (Some p) (Some c) ep ec task.AskBack h = absurd h
+  pull_asked (Some p) (Some c) ep ec (asked.Task t) h = absurd h
   pull_asked None oc ep ec t h = absurd (no_producer oc t h)
     where
-      no_producer : (oc : Option ConsumerView) (t : Task) → IsPullOf None (part_of to) oc q t → ⊥
+      no_producer : (oc : Option ConsumerView) (t : Asked) → IsPullOf None (part_of to) oc q t → ⊥
       no_producer oc t h = h
   pull_asked (Some p) None ep ec t h = absurd (no_consumer t h)
     where
-      no_consumer : (t : Task) → IsPullOf (Some p) (part_of to) None q t → ⊥
+      no_consumer : (t : Asked) → IsPullOf (Some p) (part_of to) None q t → ⊥
       no_consumer t h = h
 
   pub pull_refused : (op : Option ProducerView) (oc : Option ConsumerView) → producer_in cf q ≡ op → consumer_in ct ≡ oc → (x : ApplyError) → IsNoPull op (part_of to) oc q x

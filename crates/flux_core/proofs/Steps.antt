@@ -13,21 +13,24 @@ use Rattle.pair_machine.specs.Courses.{Pairwise}
 use Rattle.pair_machine.specs.Flow.{Flow}
 use Rattle.pair_machine.specs.Journal.{TakesNoMessage}
 use Rattle.pair_machine.specs.Links.{HasNode, IsThere, link}
-use Rattle.pair_machine.specs.Machine.{State, act_of, acted, after, at_node, buffer_of, changed, mark_of, messages_to, posted, pull_of, source_pulled, step}
+use Rattle.pair_machine.specs.Machine.{State, act_of, acted, after, at_node, buffer_of, changed, does, mark_of, messages_to, posted, pull_of, source_pulled, step}
 use Rattle.pair_machine.specs.Machine as machine
-use Rattle.pair_machine.specs.Messages.{Act, AsksBack, AsksStop, Dies, Makes, Message, Pulls, Refusal, Works}
+use Rattle.pair_machine.specs.Messages.{Act, AsksBack, AsksStop, Dies, Envelope, Makes, Message, Pulls, Refusal, Works}
 use Rattle.pair_machine.specs.Numbers.{Node, is_node}
 use Rattle.pair_machine.proofs.MachineLaws.{sound_asks}
 use Rattle.pair_machine.proofs.Names.{is_node-true, node_self}
 use Rattle.pair_machine.proofs.StepTurns.{ActSent, act_sent, at_there}
 use Rattle.pair_machine.proofs.Tests.{if_elim}
 use Rattle.replica_node.specs.Course.{AreTimely}
-use Rattle.flux_core.specs.Acts.{IsActOf}
-use Rattle.flux_core.specs.CoreView.{Content, CoreView, Log, Station, flow_in, inputs_of, station}
+use Rattle.plan_nodes.specs.States.{id_of}
+use Rattle.plan_nodes.specs.declared.state.NodeState.{NodeState}
+use Rattle.flux_core.specs.Acts.{ActsSo, IsActOf}
+use Rattle.flux_core.specs.CoreView.{CoreView, Log, Standing, flow_in, inputs_of, station}
 use Rattle.flux_core.specs.Sent.{bodies_to}
 use Rattle.flux_core.specs.Stands.{ContentStands, PacketsStand, StandsFor, StationStands}
-use Rattle.flux_core.specs.Steps.{GoesOn, HasActed, IsTaskOf, MayStep}
-use Rattle.flux_core.specs.declared.acts.Task.{Task}
+use Rattle.flux_core.specs.Steps.{GoesOn, HasChanged, IsTaskOf, MayStep}
+use Rattle.flux_core.specs.declared.asked.Asked.{Asked}
+use Rattle.flux_core.proofs.Placing.{inputs_same}
 use Rattle.flux_core.proofs.Sendings.{bodies-append}
 
 -- ---- lists related one by one
@@ -66,7 +69,7 @@ may_asks f s e a there (inr free) done = (free.1.within (at_node e), free_asks f
 -- ---- the next state
 
 module _ (plan : PlanView) (rows : List Input) where
-  content_changed : (b : Bool) (m n : NodeId) (old new : Content) (x y : Node) → (b ≡ true → (m ≡ n) × ContentStands plan rows n new y)
+  content_changed : (b : Bool) (m n : NodeId) (old new : Option NodeState) (x y : Node) → (b ≡ true → (m ≡ n) × ContentStands plan rows n new y)
       → (b ≡ false → new ≡ old) → ContentStands plan rows m old x → ContentStands plan rows m new (if b then y else x)
   content_changed true m n old new x y here elsewhere h = let z = here refl in subst (λ k. ContentStands plan rows k new y) (sym z.0) z.1
   content_changed false m n old new x y here elsewhere h = subst (λ c. ContentStands plan rows m c x) (sym (elsewhere refl)) h
@@ -79,8 +82,16 @@ module _ (plan : PlanView) (rows : List Input) where
       subst (λ bodies. Pairwise R bodies (sent to ++ out to)) (sym (ap (bodies_to to) z.0 ∙ bodies-append to old more)) (pairwise-append R (bodies_to to old) (sent to) (bodies_to to more) (out to) (h to) (z.1 to))
   sent_changed false m old new more sent out here elsewhere h = λ to. subst (λ log. Pairwise (BodyStands plan rows (link m to)) (bodies_to to log) (sent to)) (sym (elsewhere refl)) (h to)
 
+  -- what a node does under its own name it does under any that is the same
+  acts_here : (n : NodeId) (t : Asked) (old new : NodeState) (sent : Log) → id_of old ≡ n → id_of new ≡ id_of old → ActsSo plan t old new sent → IsPlan plan → AreTimely rows → (x : Node) (a : Act) → IsActOf plan rows n t x a
+      → ContentStands plan rows n (Some old) x → Asks (flow_of plan rows) n x a
+      → (d : Node × List Envelope) × (does (flow_of plan rows) n a x ≡ Ok d) × ContentStands plan rows n (Some new) d.0 × PacketsStand plan rows n sent (λ to. messages_to to d.1)
+  acts_here n t old new sent named same acts p timely x a is stands asks =
+      let z = acts rows p timely x a (subst (λ k. IsActOf plan rows k t x a) (sym named) is) stands.1 (subst (λ k. Asks (flow_of plan rows) k x a) (sym named) asks) in
+      (z.0, subst (λ k. does (flow_of plan rows) k a x ≡ Ok z.0) named z.1, (same ∙ named, z.2), subst (λ k. PacketsStand plan rows k sent (λ to. messages_to to z.0.1)) named z.3)
+
 -- the node did the task of an event at it: then the machine's step is one, and the core stands for the state after it
-pub stepped : (old new : CoreView) (t : Task) (e : Event) → IsPlan old.plan → AreTimely (inputs_of old) → HasNode (flow_in old) (at_node e) → HasActed (at_node e) t old new
+pub stepped : (old new : CoreView) (t : Asked) (e : Event) → IsPlan old.plan → AreTimely (inputs_of old) → HasNode (flow_in old) (at_node e) → HasChanged (at_node e) t old new
     → (s : State) → StandsFor old s → (a : Act) → act_of (flow_in old) s e ≡ Ok a → IsActOf old.plan (inputs_of old) (at_node e) t (s.nodes (at_node e)) a
     → Asks (flow_in old) (at_node e) (s.nodes (at_node e)) a → (u : State) × (step (flow_in old) s e ≡ Ok u) × StandsFor new u
 unfolding step
@@ -88,26 +99,30 @@ stepped old new t e p timely has h s stands a act is asks =
     let n = at_node e in
     let plan = old.plan in
     let rows = inputs_of old in
-    let d = h.acts rows p timely (s.nodes n) a is (stands n has).content asks in
+    let sent = h.acted.sent in
+    let stood : ContentStands plan rows n (Some h.before.node) (s.nodes n) = subst (λ (at : Standing). ContentStands plan rows n at.content (s.nodes n)) h.was (stands n has).content in
+    let d = acts_here plan rows n t h.before.node h.after.node sent h.id h.acted.id (h.acted.acts plan) p timely (s.nodes n) a is stood asks in
     let u : State = record { nodes = changed n d.0.0 s.nodes; sent = posted n d.0.1 s.sent } in
     let done : step (flow_of plan rows) s e ≡ Ok u = ap (acted (flow_of plan rows) n s) act ∙ ap (after n s) d.1 in
+    let stands_now : ContentStands plan rows n (station new n).content d.0.0 = subst (λ (at : Standing). ContentStands plan rows n at.content d.0.0) (sym h.now) d.2 in
+    let log : (station new n).sent ≡ (station old n).sent ++ sent = ap (λ (at : Standing). at.sent) h.now ∙ h.acted.noted ∙ ap (λ (at : Standing). at.sent ++ sent) (sym h.was) in
     let Good : PlanView → List Input → Type 0 = λ P I. (m : NodeId) → HasNode (flow_of P I) m → StationStands P I m (station new m) u in
     let good : Good plan rows = λ m has_m.
     let before = stands m has_m in
     let same : is_node m n ≡ true → m ≡ n = is_node-true m n in
-    let apart : is_node m n ≡ false → station new m ≡ station old m = λ b. h.others m has_m (λ eq. let z : true ≡ false = sym (ap (λ k. is_node k n) eq ∙ node_self n) ∙ b in absurd (true≢false z)) in
+    let apart : is_node m n ≡ false → station new m ≡ station old m = λ b. h.others m (λ eq. let z : true ≡ false = sym (ap (λ k. is_node k n) eq ∙ node_self n) ∙ b in absurd (true≢false z)) in
     record {
       content = content_changed plan rows (is_node m n) m n (station old m).content (station new m).content (s.nodes m) d.0.0
-          (λ b. (same b, subst (λ k. ContentStands plan rows n (station new k).content d.0.0) (sym (same b)) d.2))
-          (λ b. ap (λ (at : Station). at.content) (apart b)) before.content;
-      sent = sent_changed plan rows (is_node m n) m (station old m).sent (station new m).sent h.sent (λ to. s.sent (link m to)) (λ to. messages_to to d.0.1)
-          (λ b. (subst (λ k. (station new k).sent ≡ (station old k).sent ++ h.sent) (sym (same b)) h.log, subst (λ k. PacketsStand plan rows k h.sent (λ to. messages_to to d.0.1)) (sym (same b)) d.3))
-          (λ b. ap (λ (at : Station). at.sent) (apart b)) before.sent;
+          (λ b. (same b, subst (λ k. ContentStands plan rows n (station new k).content d.0.0) (sym (same b)) stands_now))
+          (λ b. ap (λ (at : Standing). at.content) (apart b)) before.content;
+      sent = sent_changed plan rows (is_node m n) m (station old m).sent (station new m).sent sent (λ to. s.sent (link m to)) (λ to. messages_to to d.0.1)
+          (λ b. (subst (λ k. (station new k).sent ≡ (station old k).sent ++ sent) (sym (same b)) log, subst (λ k. PacketsStand plan rows k sent (λ to. messages_to to d.0.1)) (sym (same b)) d.3))
+          (λ b. ap (λ (at : Standing). at.sent) (apart b)) before.sent;
     } in
-    (u, done, subst (λ P. Good P (inputs_of new)) (sym h.plan) (subst (λ I. Good plan I) (sym h.inputs) good))
+    (u, done, subst (λ P. Good P (inputs_of new)) (sym h.plan) (subst (λ I. Good plan I) (sym (inputs_same n t old new h)) good))
 
 -- the core goes on as the machine does
-pub goes_on : (old new : CoreView) (t : Task) (e : Event) → IsPlan old.plan → AreTimely (inputs_of old) → IsThere (flow_in old) e → HasActed (at_node e) t old new → IsTaskOf old e t → GoesOn old new e
+pub goes_on : (old new : CoreView) (t : Asked) (e : Event) → IsPlan old.plan → AreTimely (inputs_of old) → IsThere (flow_in old) e → HasChanged (at_node e) t old new → IsTaskOf old e t → GoesOn old new e
 goes_on old new t e p timely there h task s stands may =
     let f = flow_in old in
     let z = task s stands in

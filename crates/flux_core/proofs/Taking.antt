@@ -1,31 +1,27 @@
 -- What a Take asks of its node is the packet that was sent at its place.
-use Rattle.std.proofs.Common.{◌≡◌, ◌∙◌, ℕ, zero, suc, Bool, List, [], ◌∷◌, None, Some, Err, length, slice_get, refl, sym, ap, subst, true, unwrap_or, arith}
+use Rattle.std.proofs.Common.{◌≡◌, ◌∙◌, ℕ, zero, suc, List, [], ◌∷◌, None, Some, Err, length, slice_get, refl, sym, ap, subst, true, unwrap_or, arith}
 use Rattle.tuple_edge.specs.declared.event.Event.TheVariants as event
 use Rattle.tuple_edge.specs.declared.node.LinkId.{LinkId}
-use Rattle.tuple_edge.specs.declared.node.NodeId.{NodeId}
-use Rattle.tuple_edge.specs.declared.node.NodeId.TheVariants as node
 use Rattle.tuple_edge.specs.declared.packet.Body.{Body}
 use Rattle.plan_reader.specs.Nodes.{has_link}
-use Rattle.plan_reader.specs.PlanView.{PlanView}
-use Rattle.pair_control.specs.ControllerView.{ControllerView}
 use Rattle.pair_machine.specs.Contents.{BodyStands}
 use Rattle.pair_machine.specs.Courses.{Pairwise}
 use Rattle.pair_machine.specs.Machine.{State, act_of, nth_from_one, taking_of}
 use Rattle.pair_machine.specs.Messages.{Message, NotSent, Takes}
-use Rattle.ingress_egress.specs.EgressView.{EgressView}
-use Rattle.ingress_egress.specs.IngressView.{IngressView}
-use Rattle.replica_node.specs.ReplicaView.{ReplicaView}
 use Rattle.flux_core.specs.Acts.{IsTimelyTask}
-use Rattle.flux_core.specs.CoreView.{CoreView, Log, core_of, flow_in, inputs_of, log_in, station}
+use Rattle.plan_nodes.specs.NodeOrder.{nodes_of}
+use Rattle.flux_core.specs.CoreView.{CoreView, flow_in, inputs_of, standing, standing_at, station}
 use Rattle.flux_core.specs.Refusals.{IsRefusal}
 use Rattle.flux_core.specs.Sent.{bodies_to}
 use Rattle.flux_core.specs.Stands.{IsCore, StandsFor}
 use Rattle.flux_core.specs.Steps.{IsTaskOf}
 use Rattle.flux_core.specs.Taken.{IsMissing, IsPacketOf}
-use Rattle.flux_core.specs.declared.acts.Task.{Task}
-use Rattle.flux_core.specs.declared.acts.Task.TheVariants as task
+use Rattle.node_tasks.specs.declared.task.Task.TheVariants as task
+use Rattle.flux_core.specs.declared.asked.Asked.{Asked}
+use Rattle.flux_core.specs.declared.asked.Asked.TheVariants as asked
 use Rattle.flux_core.specs.declared.error.ApplyError.{ApplyError}
 use Rattle.flux_core.specs.declared.error.ApplyError.TheVariants as error
+use Rattle.flux_core.proofs.Placing.{placed}
 use Rattle.flux_core.proofs.There.{sender_there}
 
 -- ---- lists related one by one
@@ -59,31 +55,24 @@ nth-none R xs ys (suc k) h e = pairwise-none R xs ys k h e
 
 -- ---- the log of a node
 
-pub sent_is : (plan : PlanView) (whole : Bool) (i : IngressView) (rs : List ReplicaView) (cs : List ControllerView) (e : EgressView) (li : Log) (lr lc : List Log) (le : Log) (n : NodeId)
-    → log_in plan li lr lc le n ≡ (station (core_of plan whole i rs cs e li lr lc le) n).sent
-sent_is plan whole i rs cs e li lr lc le node.Ingress = refl
-sent_is plan whole i rs cs e li lr lc le (node.Replica s p w) = refl
-sent_is plan whole i rs cs e li lr lc le (node.Control s p) = refl
-sent_is plan whole i rs cs e li lr lc le node.Egress = refl
-
 module _ (core : CoreView) (named_plan : IsCore core) (l : LinkId) (k : ℕ) (named : has_link core.plan l ≡ true) where
   packets : (s : State) → StandsFor core s → Pairwise (BodyStands core.plan (inputs_of core) l) (bodies_to l.to (station core l.from).sent) (s.sent l)
   packets s stands = (stands l.from (sender_there core.plan (inputs_of core) l named)).sent l.to
 
-  found : (t : Task) → IsPacketOf (bodies_to l.to (station core l.from).sent) l k t → IsTaskOf core (event.Take l k) t
-  found (task.Take from b) h s stands =
+  found : (t : Asked) → IsPacketOf (bodies_to l.to (station core l.from).sent) l k t → IsTaskOf core (event.Take l k) t
+  found (asked.Task (task.Take from index packet)) h s stands =
       let bodies = bodies_to l.to (station core l.from).sent in
-      let m = nth-at (BodyStands core.plan (inputs_of core) l) bodies (s.sent l) k b (packets s stands) h.1 in (
+      let m = nth-at (BodyStands core.plan (inputs_of core) l) bodies (s.sent l) k packet.body (packets s stands) h.1 in (
         Takes l.from m.0,
         ap (taking_of l k (s.sent l)) m.1,
-        subst (λ a. (x : Message) × (Takes l.from m.0 ≡ Takes a x) × BodyStands core.plan (inputs_of core) (record { from = a; to = l.to }) b x) (sym h.0) (m.0, refl, m.2),
+        subst (λ a. (x : Message) × (Takes l.from m.0 ≡ Takes a x) × BodyStands core.plan (inputs_of core) (record { from = a; to = l.to }) packet.body x) (sym h.0) (m.0, refl, m.2),
       )
-  found task.Work h s stands = absurd h
-  found task.Make h s stands = absurd h
-  found task.Kill h s stands = absurd h
-  found task.AskStop h s stands = absurd h
-  found task.AskBack h s stands = absurd h
-  found (task.Pull q i) h s stands = absurd h
+  found (asked.Task task.Work) h s stands = absurd h
+  found (asked.Task task.Make) h s stands = absurd h
+  found (asked.Task task.Kill) h s stands = absurd h
+  found (asked.Task task.AskStop) h s stands = absurd h
+  found (asked.Task task.AskBack) h s stands = absurd h
+  found (asked.Pull q i) h s stands = absurd h
 
   missing : (x : ApplyError) → IsMissing (bodies_to l.to (station core l.from).sent) l k x → (s : State) → StandsFor core s → IsRefusal (act_of (flow_in core) s (event.Take l k)) x
   missing (error.NotSent m i n) h s stands =
@@ -98,28 +87,24 @@ module _ (core : CoreView) (named_plan : IsCore core) (l : LinkId) (k : ℕ) (na
   missing (error.NotHeld a b c) h s stands = absurd h
   missing error.OutOfMemory h s stands = tt
 
--- the same of the value that the fields make
-pub taken_found : (plan : PlanView) (whole : Bool) (i : IngressView) (rs : List ReplicaView) (cs : List ControllerView) (e : EgressView) (li : Log) (lr lc : List Log) (le : Log) (self : CoreView) (l : LinkId) (k : ℕ) (t : Task)
-    → core_of plan whole i rs cs e li lr lc le ≡ self → IsCore (core_of plan whole i rs cs e li lr lc le) → has_link self.plan l ≡ true → IsPacketOf (bodies_to l.to (log_in plan li lr lc le l.from)) l k t → IsTaskOf self (event.Take l k) t
-taken_found plan whole i rs cs e li lr lc le self l k t same is named h =
-    let old = core_of plan whole i rs cs e li lr lc le in
-    subst (λ c. IsTaskOf c (event.Take l k) t) same
-    (found old is l k (subst (λ c. has_link c.plan l ≡ true) (sym same) named) t (subst (λ log. IsPacketOf (bodies_to l.to log) l k t) (sent_is plan whole i rs cs e li lr lc le l.from) h))
+-- the same of the log at the node's place, of the value that the fields make
+module _ (old self : CoreView) (same : old ≡ self) (is : IsCore old) (l : LinkId) (k place : ℕ) (named : has_link self.plan l ≡ true) (at : slice_get (nodes_of self.plan) place ≡ Some l.from) where
+  log_is : (standing_at old.stations place).sent ≡ (station old l.from).sent
+  log_is =
+      let p = placed old is l.from place (subst (λ c. slice_get (nodes_of c.plan) place ≡ Some l.from) (sym same) at) in
+      ap (λ o. (standing o).sent) (p.there ∙ sym p.under)
 
-pub taken_missing : (plan : PlanView) (whole : Bool) (i : IngressView) (rs : List ReplicaView) (cs : List ControllerView) (e : EgressView) (li : Log) (lr lc : List Log) (le : Log) (self : CoreView) (l : LinkId) (k : ℕ) (x : ApplyError)
-    → core_of plan whole i rs cs e li lr lc le ≡ self → IsCore (core_of plan whole i rs cs e li lr lc le) → has_link self.plan l ≡ true → IsMissing (bodies_to l.to (log_in plan li lr lc le l.from)) l k x
-    → (s : State) → StandsFor self s → IsRefusal (act_of (flow_in self) s (event.Take l k)) x
-taken_missing plan whole i rs cs e li lr lc le self l k x same is named h =
-    let old = core_of plan whole i rs cs e li lr lc le in
-    subst (λ c. (s : State) → StandsFor c s → IsRefusal (act_of (flow_in c) s (event.Take l k)) x) same
-    (missing old is l k (subst (λ c. has_link c.plan l ≡ true) (sym same) named) x (subst (λ log. IsMissing (bodies_to l.to log) l k x) (sent_is plan whole i rs cs e li lr lc le l.from) h))
+  pub taken_found : (t : Asked) → IsPacketOf (bodies_to l.to (standing_at old.stations place).sent) l k t → IsTaskOf self (event.Take l k) t
+  taken_found t h =
+      subst (λ c. IsTaskOf c (event.Take l k) t) same
+      (found old is l k (subst (λ c. has_link c.plan l ≡ true) (sym same) named) t (subst (λ log. IsPacketOf (bodies_to l.to log) l k t) log_is h))
+
+  pub taken_missing : (x : ApplyError) → IsMissing (bodies_to l.to (standing_at old.stations place).sent) l k x → (s : State) → StandsFor self s → IsRefusal (act_of (flow_in self) s (event.Take l k)) x
+  taken_missing x h =
+      subst (λ c. (s : State) → StandsFor c s → IsRefusal (act_of (flow_in c) s (event.Take l k)) x) same
+      (missing old is l k (subst (λ c. has_link c.plan l ≡ true) (sym same) named) x (subst (λ log. IsMissing (bodies_to l.to log) l k x) log_is h))
 
 -- a Take's packet has nothing that is timely or not
-pub taken_timely : (bodies : List Body) (l : LinkId) (k : ℕ) (t : Task) → IsPacketOf bodies l k t → IsTimelyTask t
-taken_timely bodies l k (task.Take from b) h = tt
-taken_timely bodies l k task.Work h = absurd h
-taken_timely bodies l k task.Make h = absurd h
-taken_timely bodies l k task.Kill h = absurd h
-taken_timely bodies l k task.AskStop h = absurd h
-taken_timely bodies l k task.AskBack h = absurd h
-taken_timely bodies l k (task.Pull q i) h = absurd h
+pub taken_timely : (bodies : List Body) (l : LinkId) (k : ℕ) (t : Asked) → IsPacketOf bodies l k t → IsTimelyTask t
+taken_timely bodies l k (asked.Task t) h = tt
+taken_timely bodies l k (asked.Pull q i) h = absurd h

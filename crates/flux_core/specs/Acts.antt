@@ -1,6 +1,9 @@
 -- What an event asks of its node, and what it comes to there.
-use Rattle.std.specs.Prelude.{◌≡◌, ◌+◌, ℕ, List, Option, None, Some, Ok}
+use Rattle.std.specs.Prelude.{◌≡◌, ◌+◌, ◌++◌, ℕ, List, Option, None, Some, Result, Ok, Err, IfErr, OnErr, OnOk}
+use Rattle.tuple_edge.specs.declared.event.Worked.{Worked}
+use Rattle.tuple_edge.specs.declared.event.Worked.TheVariants.{Did, Idle}
 use Rattle.tuple_edge.specs.declared.item.Item.{Item}
+use Rattle.tuple_edge.specs.declared.memory.OutOfMemory.{OutOfMemory}
 use Rattle.tuple_edge.specs.declared.node.NodeId.{NodeId}
 use Rattle.tuple_edge.specs.declared.node.NodeId.TheVariants as node
 use Rattle.tuple_edge.specs.Input.{Input}
@@ -11,17 +14,24 @@ use Rattle.pair_machine.specs.Asked.{Asks}
 use Rattle.pair_machine.specs.Boundary.{egress_partition}
 use Rattle.pair_machine.specs.Contents.{BodyStands}
 use Rattle.pair_machine.specs.Counts.{flow_of, items_on}
-use Rattle.pair_machine.specs.Links.{link}
+use Rattle.pair_machine.specs.Courses.{ActFor}
 use Rattle.pair_machine.specs.Machine.{does, mark_of, messages_to}
-use Rattle.pair_machine.specs.Messages.{Act, AsksBack, AsksStop, Dies, Envelope, Makes, Message, Pulls, Takes, Works}
+use Rattle.pair_machine.specs.Messages.{Act, Envelope, Pulls}
 use Rattle.pair_machine.specs.Numbers.{Node, Partition, in_edge}
+use Rattle.pair_machine.specs.Receivers.{appended}
 use Rattle.replica_node.specs.Course.{AreTimely}
-use Rattle.flux_core.specs.CoreView.{Content, Log}
+use Rattle.node_tasks.specs.Tasks.{event_of, packet_of}
+use Rattle.node_tasks.specs.declared.task.Task.{Task}
+use Rattle.node_tasks.specs.declared.task.Task.TheVariants as task
+use Rattle.plan_nodes.specs.States.{StandsFor, contents_of, id_of, inputs_in}
+use Rattle.plan_nodes.specs.declared.state.NodeState.{NodeState}
+use Rattle.flux_core.specs.CoreView.{Log}
 use Rattle.flux_core.specs.Refusals.{IsRefusal}
-use Rattle.flux_core.specs.Stands.{ContentStands, PacketsStand}
+use Rattle.flux_core.specs.Stands.{PacketsStand}
 use Rattle.flux_core.specs.declared.error.ApplyError.{ApplyError}
-use Rattle.flux_core.specs.declared.acts.Task.{Task}
-use Rattle.flux_core.specs.declared.acts.Task.TheVariants as task
+use Rattle.flux_core.specs.declared.error.ApplyError.TheVariants as error
+use Rattle.flux_core.specs.declared.asked.Asked.{Asked}
+use Rattle.flux_core.specs.declared.asked.Asked.TheVariants as asked
 
 -- the partition of a node that merges
 abbrev pub merges_at : PlanView → List Input → NodeId → Partition
@@ -35,27 +45,53 @@ abbrev pub IsNextAt : PlanView → List Input → NodeId → ℕ → Item → Op
 IsNextAt plan rows n q i None = ⊥
 IsNextAt plan rows n q i (Some mark) = item_at (items_on plan rows (in_edge (merges_at plan rows n) q)) (mark + 1) ≡ Some i
 
--- the machine's act that a task stands for, at a node of these numbers
-abbrev pub IsActOf : PlanView → List Input → NodeId → Task → Node → Act → Type 0
-IsActOf plan rows n (task.Take from b) x a = (m : Message) × (a ≡ Takes from m) × BodyStands plan rows (link from n) b m
-IsActOf plan rows n task.Work x a = a ≡ Works
-IsActOf plan rows n task.Make x a = a ≡ Makes
-IsActOf plan rows n task.Kill x a = a ≡ Dies
-IsActOf plan rows n task.AskStop x a = a ≡ AsksStop
-IsActOf plan rows n task.AskBack x a = a ≡ AsksBack
-IsActOf plan rows n (task.Pull q i) x a = (a ≡ Pulls q) × IsNextAt plan rows n q i (mark_of q n x)
+-- the machine's act that is asked for, at a node of these numbers
+abbrev pub IsActOf : PlanView → List Input → NodeId → Asked → Node → Act → Type 0
+IsActOf plan rows n (asked.Task t) x a = ActFor (flow_of plan rows) (BodyStands plan rows) (Asks (flow_of plan rows)) n (event_of n t) (packet_of t) a
+IsActOf plan rows n (asked.Pull q i) x a = (a ≡ Pulls q) × IsNextAt plan rows n q i (mark_of q n x)
 
 -- the row of an item that is pulled has a time within the limits
-abbrev pub IsTimelyTask : Task → Type 0
-IsTimelyTask (task.Pull q i) = IsTimely i
-IsTimelyTask t = Unit {0}
+abbrev pub IsTimelyTask : Asked → Type 0
+IsTimelyTask (asked.Pull q i) = IsTimely i
+IsTimelyTask (asked.Task t) = Unit {0}
 
 -- The node did its part of the machine's step: whatever numbers it stood for, and whatever message the packet that it took stands for, it
 -- stands for the numbers after the act, and what it sent stands for the machine's messages.
-abbrev pub ActsSo : PlanView → NodeId → Task → Content → Content → Log → Type 0
-ActsSo plan n t old new sent = (rows : List Input) → IsPlan plan → AreTimely rows → (x : Node) (a : Act) → IsActOf plan rows n t x a → ContentStands plan rows n old x → Asks (flow_of plan rows) n x a
-    → (d : Node × List Envelope) × (does (flow_of plan rows) n a x ≡ Ok d) × ContentStands plan rows n new d.0 × PacketsStand plan rows n sent (λ to. messages_to to d.1)
+abbrev pub ActsSo : PlanView → Asked → NodeState → NodeState → Log → Type 0
+ActsSo plan t old new sent = (rows : List Input) → IsPlan plan → AreTimely rows → (x : Node) (a : Act) → IsActOf plan rows (id_of old) t x a → StandsFor plan rows old x → Asks (flow_of plan rows) (id_of old) x a
+    → (d : Node × List Envelope) × (does (flow_of plan rows) (id_of old) a x ≡ Ok d) × StandsFor plan rows new d.0 × PacketsStand plan rows (id_of old) sent (λ to. messages_to to d.1)
 
 -- the machine refuses the act, for this reason
-abbrev pub IsRefusedSo : PlanView → NodeId → Task → Content → ApplyError → Type 0
-IsRefusedSo plan n t old e = (rows : List Input) → IsPlan plan → (x : Node) (a : Act) → IsActOf plan rows n t x a → ContentStands plan rows n old x → IsRefusal (does (flow_of plan rows) n a x) e
+abbrev pub IsRefusedSo : PlanView → Asked → NodeState → ApplyError → Type 0
+IsRefusedSo plan t old e = (rows : List Input) → IsPlan plan → (x : Node) (a : Act) → IsActOf plan rows (id_of old) t x a → StandsFor plan rows old x → IsRefusal (does (flow_of plan rows) (id_of old) a x) e
+
+-- What came of what was asked of a node, where packets may lie in its outbox: they stay, and what it sent lies behind them.
+pub record HasAnswered (old new : NodeState) (t : Asked) (result : Result (Unit {0}) ApplyError) (before after : Log) : Type 0 where
+  pub acts : OnOk result ((plan : PlanView) → ActsSo plan t old new (appended before after))
+  pub packets : after ≡ before ++ appended before after
+  pub refused : IfErr result (λ e. (plan : PlanView) → IsRefusedSo plan t old e)
+  pub unchanged : OnErr result ((contents_of new ≡ contents_of old) × (after ≡ before))
+  pub id : id_of new ≡ id_of old
+  pub inputs : inputs_in new ≡ inputs_in old
+
+-- ---- answers
+
+-- why a node makes no more: ingress has made all inputs, and no other node has any
+abbrev pub no_inputs_at : NodeId → ApplyError
+no_inputs_at node.Ingress = error.NoMoreRows
+no_inputs_at n = error.NothingDue
+
+-- why a node that did nothing at a task gives no more: what the machine says there, but of a packet that it may not be given
+abbrev pub reason_at : NodeId → Task → ApplyError
+reason_at n (task.Take from index packet) = error.OutOfMemory
+reason_at n task.Work = error.NothingDue
+reason_at n task.Make = no_inputs_at n
+reason_at n task.Kill = error.NotRunning
+reason_at n task.AskStop = error.NotRunning
+reason_at n task.AskBack = error.NotRunning
+
+-- what came of a task at a node, as an answer of the core
+abbrev pub answer_at : NodeId → Task → Result Worked OutOfMemory → Result (Unit {0}) ApplyError
+answer_at n t (Ok Did) = Ok tt
+answer_at n t (Ok Idle) = Err (reason_at n t)
+answer_at n t (Err lack) = Err error.OutOfMemory

@@ -7,24 +7,26 @@ use Rattle.flux_consumer.specs.ConsumerView.{ConsumerView}
 use Rattle.flux_producer.specs.ProducerView.{ProducerView}
 use Rattle.ingress_egress.specs.IngressView.{IngressView, producer_at}
 use Rattle.replica_node.specs.Phases.{running_in}
-use Rattle.flux_core.specs.CoreView.{Content, ControllerIs, CoreView, EgressIs, IngressIs, Nothing, ReplicaIs}
+use Rattle.plan_nodes.specs.declared.state.NodeState.{NodeState}
+use Rattle.plan_nodes.specs.declared.state.NodeState.TheVariants as state
+use Rattle.flux_core.specs.CoreView.{CoreView, station}
 use Rattle.flux_core.specs.Pulls.{IsAhead}
 
 -- the producer of a node, where it runs; of ingress that of its source q
-abbrev pub producer_in : Content → ℕ → Option ProducerView
-producer_in (IngressIs i) q = Some (producer_at i q)
-producer_in (ReplicaIs v) q = option_map (λ r. r.producer) (running_in v.phase)
-producer_in (ControllerIs c) q = None
-producer_in (EgressIs e) q = None
-producer_in Nothing q = None
+abbrev pub producer_in : Option NodeState → ℕ → Option ProducerView
+producer_in None q = None
+producer_in (Some (state.Ingress i)) q = Some (producer_at i q)
+producer_in (Some (state.Replica v)) q = option_map (λ r. r.producer) (running_in v.phase)
+producer_in (Some (state.Control c)) q = None
+producer_in (Some (state.Egress e)) q = None
 
 -- the consumer of a node, where it runs
-abbrev pub consumer_in : Content → Option ConsumerView
-consumer_in (IngressIs i) = None
-consumer_in (ReplicaIs v) = option_map (λ r. r.consumer) (running_in v.phase)
-consumer_in (ControllerIs c) = None
-consumer_in (EgressIs e) = Some e.consumer
-consumer_in Nothing = None
+abbrev pub consumer_in : Option NodeState → Option ConsumerView
+consumer_in None = None
+consumer_in (Some (state.Ingress i)) = None
+consumer_in (Some (state.Replica v)) = option_map (λ r. r.consumer) (running_in v.phase)
+consumer_in (Some (state.Control c)) = None
+consumer_in (Some (state.Egress e)) = Some e.consumer
 
 -- of two sources, the first where it is ahead, else the second
 pub record IsOfTwo (i : IngressView) (t : ℕ) (c : ConsumerView) (q : ℕ) : Type 0 where
@@ -38,9 +40,15 @@ abbrev pub IsNextSource : IngressView → (target : ℕ) → Option ConsumerView
 IsNextSource i t None q = q + 1 ≡ length i.producers
 IsNextSource i t (Some c) q = ((length i.producers ≢ 2) × (q + 1 ≡ length i.producers)) ⊎ IsOfTwo i t c q
 
+-- so it is of a node that is ingress
+abbrev pub IsNextSourceIn : Option NodeState → (target : ℕ) → Option ConsumerView → ℕ → Type 0
+IsNextSourceIn None t c q = ⊥
+IsNextSourceIn (Some (state.Ingress i)) t c q = IsNextSource i t c q
+IsNextSourceIn (Some s) t c q = ⊥
+
 -- the in-edge of a pull's receiver on which it takes: from a replica that of the replica's partition
 abbrev pub IsSourceOf : CoreView → NodeId → (target : ℕ) → Option ConsumerView → ℕ → Type 0
-IsSourceOf core node.Ingress t c q = IsNextSource core.ingress t c q
+IsSourceOf core node.Ingress t c q = IsNextSourceIn (station core node.Ingress).content t c q
 IsSourceOf core (node.Replica s p w) t c q = q ≡ p
 IsSourceOf core (node.Control s p) t c q = q ≡ p
 IsSourceOf core node.Egress t c q = q ≡ 0

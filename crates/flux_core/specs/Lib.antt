@@ -2,7 +2,6 @@ pub mod Acts
 pub mod CoreView
 pub mod Ends
 pub mod Follows
-pub mod Lists
 pub mod Opening
 pub mod Promises
 pub mod Pulls

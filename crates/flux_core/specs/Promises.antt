@@ -17,12 +17,13 @@ use Rattle.pair_machine.specs.Sound.{IsOwed}
 use Rattle.replica_node.specs.Phases.{running_in}
 use Rattle.replica_node.specs.declared.phase.Running.{Running}
 use Rattle.replica_node.specs.ReplicaView.{ReplicaView}
-use Rattle.flux_core.specs.CoreView.{CoreView, ReplicaIs, flow_in, inputs_of, station}
+use Rattle.plan_nodes.specs.declared.state.NodeState.TheVariants as state
+use Rattle.flux_core.specs.CoreView.{CoreView, emitted_by, flow_in, inputs_of, station}
 use Rattle.flux_core.specs.Stands.{StandsFor}
 
 -- what egress emitted is a front of the plan's output: its first rows, each once and in order
 abbrev pub EmitsAFront : CoreView → Type 0
-EmitsAFront core = IsFrontOf core.egress.emitted (output core.plan (inputs_of core))
+EmitsAFront core = IsFrontOf (emitted_by core) (output core.plan (inputs_of core))
 
 -- A replica that runs has merged so many items. Its operator's entries are those after just so many items of the partition's merged list, and of
 -- each edge these are the first items, each once and in order.
@@ -33,7 +34,7 @@ pub record HasMergedInOrder (plan : PlanView) (rows : List Input) (p : Partition
 
 -- so has each replica of the plan that runs: no item of an edge was merged twice or out of order
 abbrev pub MergesInOrder : CoreView → Type 0
-MergesInOrder core = (stage part : ℕ) (which : Which) → HasNode (flow_in core) (node.Replica stage part which) → (v : ReplicaView) (r : Running) → (station core (node.Replica stage part which)).content ≡ ReplicaIs v → running_in v.phase ≡ Some r
+MergesInOrder core = (stage part : ℕ) (which : Which) → HasNode (flow_in core) (node.Replica stage part which) → (v : ReplicaView) (r : Running) → (station core (node.Replica stage part which)).content ≡ Some (state.Replica v) → running_in v.phase ≡ Some r
     → HasMergedInOrder core.plan (inputs_of core) (record { stage = stage; part = part }) r
 
 -- the buffers hold what takeover owes

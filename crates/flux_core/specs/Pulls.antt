@@ -5,8 +5,8 @@ use Rattle.ack_buffer.specs.Buffer.{item_at}
 use Rattle.flux_consumer.specs.ConsumerView.{ConsumerView}
 use Rattle.flux_producer.specs.ProducerView.{ProducerView, buffer_at}
 use Rattle.merge_order.specs.MergeView.{mark_of}
-use Rattle.flux_core.specs.declared.acts.Task.{Task}
-use Rattle.flux_core.specs.declared.acts.Task.TheVariants as task
+use Rattle.flux_core.specs.declared.asked.Asked.{Asked}
+use Rattle.flux_core.specs.declared.asked.Asked.TheVariants as asked
 use Rattle.flux_core.specs.declared.error.ApplyError.{ApplyError}
 use Rattle.flux_core.specs.declared.error.ApplyError.TheVariants as error
 
@@ -16,9 +16,9 @@ pub record IsKept (p : ProducerView) (t : ℕ) (c : ConsumerView) (q : ℕ) (i :
   pub produced : mark_of c.merge q < (buffer_at p t).produced
   pub item : item_at (buffer_at p t) (mark_of c.merge q + 1) ≡ Some i
 
--- the task is to pull that item
-abbrev pub IsPullOf : Option ProducerView → ℕ → Option ConsumerView → ℕ → Task → Type 0
-IsPullOf (Some p) t (Some c) q (task.Pull edge i) = (edge ≡ q) × (t < length p.edges) × (q < length c.merge.marks) × IsKept p t c q i
+-- it is asked to pull that item
+abbrev pub IsPullOf : Option ProducerView → ℕ → Option ConsumerView → ℕ → Asked → Type 0
+IsPullOf (Some p) t (Some c) q (asked.Pull edge i) = (edge ≡ q) × (t < length p.edges) × (q < length c.merge.marks) × IsKept p t c q i
 IsPullOf p t c q other = ⊥
 
 -- an end doesn't run, or that item isn't kept

@@ -1,12 +1,10 @@
 -- When a core stands for a state of the machine: each of its nodes stands for the node's numbers, and the packets of each link for its messages.
-use Rattle.std.specs.Prelude.{◌≡◌, Bool, true, false, List}
+use Rattle.std.specs.Prelude.{◌≡◌, Bool, true, false, List, Option, None, Some}
 use Rattle.tuple_edge.specs.declared.event.Event.{Event}
 use Rattle.tuple_edge.specs.declared.node.NodeId.{NodeId}
-use Rattle.tuple_edge.specs.declared.node.NodeId.TheVariants as node
 use Rattle.tuple_edge.specs.Input.{Input}
 use Rattle.plan_reader.specs.PlanView.{IsPlan, PlanView}
 use Rattle.pair_machine.specs.Contents.{BodyStands}
-use Rattle.pair_machine.specs.Counts.{flow_of}
 use Rattle.pair_machine.specs.Courses.{Pairwise}
 use Rattle.pair_machine.specs.Drain.{IsDrainable}
 use Rattle.pair_machine.specs.Legal.{IsLegal}
@@ -15,29 +13,25 @@ use Rattle.pair_machine.specs.Machine.{State}
 use Rattle.pair_machine.specs.Messages.{Message}
 use Rattle.pair_machine.specs.Numbers.{Node}
 use Rattle.pair_machine.specs.Sound.{IsSound}
-use Rattle.pair_control.specs.StandsFor as control
-use Rattle.ingress_egress.specs.EgressStands as egress
-use Rattle.ingress_egress.specs.IngressStands as ingress
 use Rattle.replica_node.specs.Course.{AreTimely}
-use Rattle.replica_node.specs.ReplicaView.{node_of}
-use Rattle.replica_node.specs.StandsFor as replica
-use Rattle.flux_core.specs.CoreView.{Content, ControllerIs, CoreView, EgressIs, HasLogs, IngressIs, Log, Nothing, ReplicaIs, Station, flow_in, inputs_of, station}
+use Rattle.plan_nodes.specs.NodeOrder.{nodes_of}
+use Rattle.plan_nodes.specs.States as nodes
+use Rattle.plan_nodes.specs.States.{id_of}
+use Rattle.plan_nodes.specs.declared.state.NodeState.{NodeState}
+use Rattle.flux_core.specs.CoreView.{CoreView, Log, Standing, flow_in, inputs_of, names_of, station}
 use Rattle.flux_core.specs.Sent.{bodies_to}
 
 module _ (plan : PlanView) (rows : List Input) where
-  -- a node of this name stands for numbers
-  abbrev pub ContentStands : NodeId → Content → Node → Type 0
-  ContentStands n (IngressIs i) x = (node.Ingress ≡ n) × ingress.StandsFor plan rows i x
-  ContentStands n (ReplicaIs v) x = (node_of v.role ≡ n) × replica.StandsFor plan rows v x
-  ContentStands n (ControllerIs c) x = (control.node_of c ≡ n) × control.StandsFor (flow_of plan rows) c x
-  ContentStands n (EgressIs e) x = (node.Egress ≡ n) × egress.StandsFor plan rows e x
-  ContentStands n Nothing x = ⊥
+  -- there is a node of this name, which stands for numbers
+  abbrev pub ContentStands : NodeId → Option NodeState → Node → Type 0
+  ContentStands n None x = ⊥
+  ContentStands n (Some s) x = (id_of s ≡ n) × nodes.StandsFor plan rows s x
 
   -- packets stand for the messages of their links
   abbrev pub PacketsStand : NodeId → Log → (NodeId → List Message) → Type 0
   PacketsStand n packets messages = (to : NodeId) → Pairwise (BodyStands plan rows (link n to)) (bodies_to to packets) (messages to)
 
-  pub record StationStands (n : NodeId) (at : Station) (s : State) : Type 0 where
+  pub record StationStands (n : NodeId) (at : Standing) (s : State) : Type 0 where
     pub content : ContentStands n at.content (s.nodes n)
     pub sent : PacketsStand n at.sent (λ to. s.sent (link n to))
 
@@ -65,8 +59,9 @@ abbrev pub IsKnown : Bool → CoreView → Type 0
 IsKnown true core = IsReached core
 IsKnown false core = IsGiven core
 
+-- its stations are the plan's nodes in their order
 pub record IsCore (core : CoreView) : Type 0 where
   pub plan : IsPlan core.plan
   pub times : AreTimely (inputs_of core)
-  pub logs : HasLogs core
+  pub names : names_of core.stations ≡ nodes_of core.plan
   pub known : IsKnown core.whole core

@@ -1,33 +1,52 @@
 -- What a core does at an event: it finds what the event asks of its node, the node acts, and no other node changes.
-use Rattle.std.specs.Prelude.{◌≡◌, ◌≢◌, ◌⊎◌, ◌++◌, Ok, true}
+use Rattle.std.specs.Prelude.{◌≡◌, ◌≢◌, ◌⊎◌, ◌++◌, ℕ, List, Ok, Some, slice_get, slice_set, true}
 use Rattle.tuple_edge.specs.declared.event.Event.{Event}
 use Rattle.tuple_edge.specs.declared.node.NodeId.{NodeId}
 use Rattle.pair_machine.specs.Drain.{IsDrainable}
 use Rattle.pair_machine.specs.Flow.{Flow}
 use Rattle.pair_machine.specs.Journal.{TakesNoMessage}
-use Rattle.pair_machine.specs.Links.{HasNode}
 use Rattle.pair_machine.specs.Machine.{State, act_of, at_node, step}
 use Rattle.pair_machine.specs.Messages.{Act}
 use Rattle.pair_machine.specs.Sound.{IsSound}
+use Rattle.plan_reader.specs.PlanView.{PlanView}
+use Rattle.plan_nodes.specs.States.{id_of, inputs_in}
 use Rattle.flux_core.specs.Acts.{ActsSo, IsActOf}
-use Rattle.flux_core.specs.CoreView.{CoreView, HasLogs, Log, flow_in, inputs_of, station}
+use Rattle.flux_core.specs.CoreView.{CoreView, Log, StationView, flow_in, inputs_of, names_of, standing, station}
 use Rattle.flux_core.specs.Stands.{StandsFor}
-use Rattle.flux_core.specs.declared.acts.Task.{Task}
+use Rattle.flux_core.specs.declared.asked.Asked.{Asked}
 
--- the task is what the event asks of its node: of whatever state the core stands for
-abbrev pub IsTaskOf : CoreView → Event → Task → Type 0
+-- this is what the event asks of its node, of whatever state the core stands for
+abbrev pub IsTaskOf : CoreView → Event → Asked → Type 0
 IsTaskOf core e t = (s : State) → StandsFor core s → (a : Act) × (act_of (flow_in core) s e ≡ Ok a) × IsActOf core.plan (inputs_of core) (at_node e) t (s.nodes (at_node e)) a
 
--- a node did a task, and the others stayed as they were
-pub record HasActed (n : NodeId) (t : Task) (old new : CoreView) : Type 0 where
+-- the node of a station did what was asked of it, and what it sent was noted
+pub record HasActed (t : Asked) (old new : StationView) : Type 0 where
+  pub id : id_of new.node ≡ id_of old.node
+  pub inputs : inputs_in new.node ≡ inputs_in old.node
+  pub sent : Log
+  pub noted : new.sent ≡ old.sent ++ sent
+  pub acts : (plan : PlanView) → ActsSo plan t old.node new.node sent
+
+-- so did the one at a place
+pub record ActedAt (t : Asked) (place : ℕ) (olds news : List StationView) : Type 0 where
+  pub before : StationView
+  pub after : StationView
+  pub was : slice_get olds place ≡ Some before
+  pub now : news ≡ slice_set olds place after
+  pub acted : HasActed t before after
+
+-- so did the node of a name, and the others stayed as they were
+pub record HasChanged (n : NodeId) (t : Asked) (old new : CoreView) : Type 0 where
   pub plan : new.plan ≡ old.plan
   pub whole : new.whole ≡ old.whole
-  pub inputs : inputs_of new ≡ inputs_of old
-  pub logs : HasLogs old → HasLogs new
-  pub others : (m : NodeId) → HasNode (flow_in old) m → m ≢ n → station new m ≡ station old m
-  pub sent : Log
-  pub log : (station new n).sent ≡ (station old n).sent ++ sent
-  pub acts : ActsSo old.plan n t (station old n).content (station new n).content sent
+  pub names : names_of new.stations ≡ names_of old.stations
+  pub others : (m : NodeId) → m ≢ n → station new m ≡ station old m
+  pub before : StationView
+  pub after : StationView
+  pub id : id_of before.node ≡ n
+  pub was : station old n ≡ standing (Some before)
+  pub now : station new n ≡ standing (Some after)
+  pub acted : HasActed t before after
 
 -- a state is sound
 abbrev pub HasSoundState : CoreView → Type 0
@@ -51,7 +70,7 @@ MayApply core e = (core.whole ≡ true) ⊎ (TakesNoMessage e ⊎ HasSoundState 
 -- An event was applied: it is the machine's step, from whatever state the core stood for, and every node but the event's own is as it was.
 pub record IsApplied (old new : CoreView) (e : Event) : Type 0 where
   pub steps : GoesOn old new e
-  pub others : (m : NodeId) → HasNode (flow_in old) m → m ≢ at_node e → station new m ≡ station old m
+  pub others : (m : NodeId) → m ≢ at_node e → station new m ≡ station old m
   pub plan : new.plan ≡ old.plan
   pub inputs : inputs_of new ≡ inputs_of old
   pub whole : new.whole ≡ old.whole

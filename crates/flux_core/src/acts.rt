@@ -1,239 +1,136 @@
-// What an event asks of its node, done by each kind of node.
-ghost use Rattle.flux_core.specs.Acts.{ActsSo, IsRefusedSo, IsTimelyTask};
-ghost use Rattle.flux_core.specs.CoreView.{ControllerIs, EgressIs, IngressIs, ReplicaIs, ingress_contents, replica_contents};
-ghost use Rattle.flux_core.specs.declared.acts.Task.TheVariants as task;
-ghost use Rattle.flux_core.specs.declared.error.ApplyError.TheVariants as error;
-ghost use Rattle.pair_control.specs.StandsFor as control;
-ghost use Rattle.pair_machine.specs.Receivers.{appended};
-ghost use Rattle.plan_reader.specs.PlanView.{PlanView};
-ghost use Rattle.replica_node.specs.ReplicaView.{node_of};
-ghost use Rattle.std.specs.Prelude.{◌≡◌, ◌≤◌, ◌++◌, [], IfErr, OnErr, OnOk};
+// What an event asks of its node, done by whichever it is, with an answer where the machine refuses it.
+ghost use Rattle.flux_core.specs.Acts.{HasAnswered, IsTimelyTask, answer_at, no_inputs_at, reason_at};
+ghost use Rattle.flux_core.specs.declared.asked.Asked.TheVariants as asked;
+ghost use Rattle.plan_nodes.specs.States.{HasActedBehind, IsIdle};
+ghost use Rattle.plan_nodes.specs.declared.state.NodeState.TheVariants as state;
+ghost use Rattle.std.specs.Prelude.{◌≡◌, ◌≤◌, [], Ok};
 ghost use Rattle.stream_ops.specs.Times.{IsTimely};
 ghost use Rattle.tuple_edge.specs.Limits.{most_packets};
-ghost use Rattle.tuple_edge.specs.declared.node.NodeId.TheVariants as name;
+ghost use Rattle.tuple_edge.specs.declared.event.Worked.TheVariants.{Idle};
 
+use crate::asked::Asked;
 use crate::error::ApplyError;
-use ingress_egress::{Egress, Ingress};
-use pair_control::PairControl;
-use plan_reader::Plan;
+use ingress_egress::Egress;
+use node_tasks::{Acts, Task};
+use plan_nodes::{
+    NodeState, control_acts, egress_acts, egress_may, ingress_acts, replica_acts, replica_may,
+};
 use replica_node::{Mode, Replica};
-use tuple_edge::{Body, Item, NodeId, Outbox, Worked};
+use tuple_edge::{Item, NodeId, OutOfMemory, Outbox, Worked};
 
-/// What an event asks of its node.
-#[derive(Clone, Copy, Debug, PartialEq, Eq)]
-pub enum Task {
-    /// To take a packet from a node.
-    Take { from: NodeId, body: Body },
-    /// To do the first piece of work that is due.
-    Work,
-    /// To make the next input into items.
-    Make,
-    /// To fail.
-    Kill,
-    /// To ask to be stopped.
-    AskStop,
-    /// To ask for its partner.
-    AskBack,
-    /// To take the next item of an in-edge, straight from its producer.
-    Pull { edge: u32, item: Item },
+// Why a node makes no more.
+fn no_inputs_at(node: NodeId) -> ApplyError
+    ensures { result ≡ no_inputs_at node }
+{
+    match node {
+        NodeId::Ingress => ApplyError::NoMoreRows,
+        NodeId::Replica { .. } | NodeId::Control { .. } | NodeId::Egress => ApplyError::NothingDue,
+    }
 }
 
-// Ingress takes a packet, works or makes.
-pub(crate) fn ingress_acts(
-    node: &mut Ingress,
-    plan: &Plan,
-    task: &Task,
+// Why a node that did nothing at a task gives no more.
+fn reason_at(node: NodeId, task: &Task) -> ApplyError
+    ensures { result ≡ reason_at node task.now }
+{
+    match task {
+        Task::Take { .. } => ApplyError::OutOfMemory,
+        Task::Work => ApplyError::NothingDue,
+        Task::Make => no_inputs_at(node),
+        Task::Kill | Task::AskStop | Task::AskBack => ApplyError::NotRunning,
+    }
+}
+
+// What came of a task at a node, as an answer.
+fn answer_at(node: NodeId, task: &Task, came: Result<Worked, OutOfMemory>) -> Result<(), ApplyError>
+    ensures { result ≡ answer_at node task.now came }
+{
+    match came {
+        Ok(Worked::Did) => Ok(()),
+        Ok(Worked::Idle) => Err(reason_at(node, task)),
+        Err(_) => Err(ApplyError::OutOfMemory),
+    }
+}
+
+// A node does what is asked of it, where no number would pass its limit.
+pub(crate) fn node_acts(
+    node: &mut NodeState,
+    task: &Asked,
     out: &mut Outbox,
 ) -> Result<(), ApplyError>
-    ensures acts { OnOk result (ActsSo plan.now name.Ingress task.now (IngressIs node.old) (IngressIs node.new)
-        (appended out.old.packets out.new.packets)) }
-    ensures packets { out.new.packets ≡ out.old.packets ++ appended out.old.packets out.new.packets }
-    ensures refused { IfErr result (IsRefusedSo plan.now name.Ingress task.now (IngressIs node.old)) }
-    ensures unchanged { OnErr result ((ingress_contents node.new ≡ ingress_contents node.old) × (out.new.packets ≡ out.old.packets)) }
-    ensures inputs { node.new.inputs ≡ node.old.inputs }
-{
-    match *task {
-        Task::Take { from, body } => ingress_takes(node, plan, from, &body),
-        Task::Work => ingress_works(node, out),
-        Task::Make => ingress_makes(node),
-        Task::Kill | Task::AskStop | Task::AskBack | Task::Pull { .. } => {
-            Err(ApplyError::NotRunning)
-        }
-    }
-}
-
-// Ingress takes a packet, where no number would pass its limit.
-fn ingress_takes(
-    node: &mut Ingress,
-    plan: &Plan,
-    from: NodeId,
-    body: &Body,
-) -> Result<(), ApplyError>
-    ensures acts { OnOk result (ActsSo plan.now name.Ingress (task.Take from body.now) (IngressIs node.old) (IngressIs node.new) []) }
-    ensures refused { IfErr result (λ e. e ≡ error.OutOfMemory) }
-    ensures unchanged { OnErr result (node.new ≡ node.old) }
-    ensures inputs { node.new.inputs ≡ node.old.inputs }
-{
-    if !node.admits(plan, from, body) {
-        return Err(ApplyError::OutOfMemory);
-    }
-    node.on(from, body);
-    Ok(())
-}
-
-// Ingress sends what is due.
-fn ingress_works(node: &mut Ingress, out: &mut Outbox) -> Result<(), ApplyError>
-    ensures acts { OnOk result ((plan : PlanView) → ActsSo plan name.Ingress task.Work (IngressIs node.old) (IngressIs node.new)
-        (appended out.old.packets out.new.packets)) }
-    ensures packets { out.new.packets ≡ out.old.packets ++ appended out.old.packets out.new.packets }
-    ensures refused { IfErr result (λ e. (plan : PlanView) → IsRefusedSo plan name.Ingress task.Work (IngressIs node.old) e) }
-    ensures unchanged { OnErr result ((node.new ≡ node.old) × (out.new.packets ≡ out.old.packets)) }
-    ensures inputs { node.new.inputs ≡ node.old.inputs }
-{
-    match node.work(out)? {
-        Worked::Did => Ok(()),
-        Worked::Idle => Err(ApplyError::NothingDue),
-    }
-}
-
-// Ingress makes the next input into items.
-fn ingress_makes(node: &mut Ingress) -> Result<(), ApplyError>
-    ensures acts { OnOk result ((plan : PlanView) → ActsSo plan name.Ingress task.Make (IngressIs node.old) (IngressIs node.new) []) }
-    ensures refused { IfErr result (λ e. (plan : PlanView) → IsRefusedSo plan name.Ingress task.Make (IngressIs node.old) e) }
-    ensures unchanged { OnErr result (ingress_contents node.new ≡ ingress_contents node.old) }
-    ensures inputs { node.new.inputs ≡ node.old.inputs }
-{
-    match node.make()? {
-        Worked::Did => Ok(()),
-        Worked::Idle => Err(ApplyError::NoMoreRows),
-    }
-}
-
-// A replica takes a packet, works, fails, asks or pulls.
-pub(crate) fn replica_acts(
-    node: &mut Replica,
-    plan: &Plan,
-    task: &Task,
-    out: &mut Outbox,
-) -> Result<(), ApplyError>
-    requires room { 1 ≤ out.old.spare }
+    requires room { most_packets ≤ out.old.spare }
     requires timely { IsTimelyTask task.now }
-    ensures acts { OnOk result (ActsSo plan.now (node_of node.old.role) task.now (ReplicaIs node.old) (ReplicaIs node.new)
-        (appended out.old.packets out.new.packets)) }
-    ensures packets { out.new.packets ≡ out.old.packets ++ appended out.old.packets out.new.packets }
-    ensures refused { IfErr result (IsRefusedSo plan.now (node_of node.old.role) task.now (ReplicaIs node.old)) }
-    ensures unchanged { OnErr result ((replica_contents node.new ≡ replica_contents node.old) × (out.new.packets ≡ out.old.packets)) }
-    ensures role { node.new.role ≡ node.old.role }
+    ensures { HasAnswered node.old node.new task.now result out.old.packets out.new.packets }
 {
-    match *task {
-        Task::Take { from, body } => replica_takes(node, plan, from, &body, out),
-        Task::Work => replica_works(node, out),
-        Task::Make => Err(ApplyError::NothingDue),
-        Task::Kill => replica_dies(node, out),
-        Task::AskStop => replica_asks_stop(node, out),
-        Task::AskBack => replica_asks_back(node, out),
-        Task::Pull { edge, item } => replica_pulls(node, edge, item),
+    match task {
+        Asked::Task(task) => node_does(node, task, out),
+        Asked::Pull { edge, item } => node_pulls(node, *edge, *item),
     }
 }
 
-// A replica takes a packet, where no number would pass its limit.
-fn replica_takes(
-    node: &mut Replica,
-    plan: &Plan,
-    from: NodeId,
-    body: &Body,
-    out: &mut Outbox,
-) -> Result<(), ApplyError>
-    ensures acts { OnOk result (ActsSo plan.now (node_of node.old.role) (task.Take from body.now) (ReplicaIs node.old) (ReplicaIs node.new)
-        (appended out.old.packets out.new.packets)) }
-    ensures packets { out.new.packets ≡ out.old.packets ++ appended out.old.packets out.new.packets }
-    ensures refused { IfErr result (λ e. e ≡ error.OutOfMemory) }
-    ensures unchanged { OnErr result ((node.new ≡ node.old) × (out.new.packets ≡ out.old.packets)) }
-    ensures role { node.new.role ≡ node.old.role }
+// A node does a task.
+fn node_does(node: &mut NodeState, task: &Task, out: &mut Outbox) -> Result<(), ApplyError>
+    requires room { most_packets ≤ out.old.spare }
+    ensures { HasAnswered node.old node.new (asked.Task task.now) result out.old.packets out.new.packets }
 {
-    if !node.admits(plan, from, body) {
-        return Err(ApplyError::OutOfMemory);
-    }
-    node.on(from, body, out)?;
-    Ok(())
+    let id = node.id();
+    let came = came_of(node, task, out);
+    answer_at(id, task, came)
 }
 
-// A replica works, where no number would pass its limit.
-fn replica_works(node: &mut Replica, out: &mut Outbox) -> Result<(), ApplyError>
-    ensures acts { OnOk result ((plan : PlanView) → ActsSo plan (node_of node.old.role) task.Work (ReplicaIs node.old) (ReplicaIs node.new)
-        (appended out.old.packets out.new.packets)) }
-    ensures packets { out.new.packets ≡ out.old.packets ++ appended out.old.packets out.new.packets }
-    ensures refused { IfErr result (λ e. (plan : PlanView) → IsRefusedSo plan (node_of node.old.role) task.Work (ReplicaIs node.old) e) }
-    ensures unchanged { OnErr result ((replica_contents node.new ≡ replica_contents node.old) × (out.new.packets ≡ out.old.packets)) }
-    ensures role { node.new.role ≡ node.old.role }
+// What comes of a task. Marks are reported by however little they rose.
+fn came_of(node: &mut NodeState, task: &Task, out: &mut Outbox) -> Result<Worked, OutOfMemory>
+    requires room { most_packets ≤ out.old.spare }
+    ensures acted { HasActedBehind node.old node.new task.now result out.old.packets out.new.packets }
+    ensures idle { result ≡ Ok Idle → IsIdle 1 node.old task.now }
 {
-    if !node.may_work() {
-        return Err(ApplyError::OutOfMemory);
-    }
-    match node.work(out)? {
-        Worked::Did => Ok(()),
-        Worked::Idle => Err(ApplyError::NothingDue),
+    match node {
+        NodeState::Ingress(node) => ingress_acts(node, task, out),
+        NodeState::Replica(node) => came_of_replica(node, task, out),
+        NodeState::Control(node) => control_acts(node, task, out),
+        NodeState::Egress(node) => came_of_egress(node, task, out),
     }
 }
 
-// A replica fails, unless it is gone.
-fn replica_dies(node: &mut Replica, out: &mut Outbox) -> Result<(), ApplyError>
-    requires room { 1 ≤ out.old.spare }
-    ensures acts { OnOk result ((plan : PlanView) → ActsSo plan (node_of node.old.role) task.Kill (ReplicaIs node.old) (ReplicaIs node.new)
-        (appended out.old.packets out.new.packets)) }
-    ensures packets { out.new.packets ≡ out.old.packets ++ appended out.old.packets out.new.packets }
-    ensures refused { IfErr result (λ e. (plan : PlanView) → IsRefusedSo plan (node_of node.old.role) task.Kill (ReplicaIs node.old) e) }
-    ensures unchanged { OnErr result ((node.new ≡ node.old) × (out.new.packets ≡ out.old.packets)) }
-    ensures role { node.new.role ≡ node.old.role }
+// What comes of a task at a replica: want of memory where a number would pass its limit.
+fn came_of_replica(node: &mut Replica, task: &Task, out: &mut Outbox) -> Result<Worked, OutOfMemory>
+    requires room { most_packets ≤ out.old.spare }
+    ensures acted { HasActedBehind (state.Replica node.old) (state.Replica node.new) task.now result out.old.packets out.new.packets }
+    ensures idle { result ≡ Ok Idle → IsIdle 1 (state.Replica node.old) task.now }
 {
-    if node.mode() == Mode::Gone {
-        return Err(ApplyError::NotRunning);
+    if !replica_may(node, task) {
+        return Err(OutOfMemory);
     }
-    node.kill(out);
-    Ok(())
+    replica_acts(node, task, 1, out)
 }
 
-// A replica that runs asks to be stopped.
-fn replica_asks_stop(node: &mut Replica, out: &mut Outbox) -> Result<(), ApplyError>
-    requires room { 1 ≤ out.old.spare }
-    ensures acts { OnOk result ((plan : PlanView) → ActsSo plan (node_of node.old.role) task.AskStop (ReplicaIs node.old) (ReplicaIs node.new)
-        (appended out.old.packets out.new.packets)) }
-    ensures packets { out.new.packets ≡ out.old.packets ++ appended out.old.packets out.new.packets }
-    ensures refused { IfErr result (λ e. (plan : PlanView) → IsRefusedSo plan (node_of node.old.role) task.AskStop (ReplicaIs node.old) e) }
-    ensures unchanged { OnErr result ((node.new ≡ node.old) × (out.new.packets ≡ out.old.packets)) }
-    ensures role { node.new.role ≡ node.old.role }
+// The same at egress.
+fn came_of_egress(node: &mut Egress, task: &Task, out: &mut Outbox) -> Result<Worked, OutOfMemory>
+    requires room { most_packets ≤ out.old.spare }
+    ensures acted { HasActedBehind (state.Egress node.old) (state.Egress node.new) task.now result out.old.packets out.new.packets }
+    ensures idle { result ≡ Ok Idle → IsIdle 1 (state.Egress node.old) task.now }
 {
-    if node.mode() != Mode::Running {
-        return Err(ApplyError::NotRunning);
+    if !egress_may(node, task) {
+        return Err(OutOfMemory);
     }
-    node.ask_stop(out);
-    Ok(())
+    egress_acts(node, task, out)
 }
 
-// A replica that runs asks for its partner.
-fn replica_asks_back(node: &mut Replica, out: &mut Outbox) -> Result<(), ApplyError>
-    requires room { 1 ≤ out.old.spare }
-    ensures acts { OnOk result ((plan : PlanView) → ActsSo plan (node_of node.old.role) task.AskBack (ReplicaIs node.old) (ReplicaIs node.new)
-        (appended out.old.packets out.new.packets)) }
-    ensures packets { out.new.packets ≡ out.old.packets ++ appended out.old.packets out.new.packets }
-    ensures refused { IfErr result (λ e. (plan : PlanView) → IsRefusedSo plan (node_of node.old.role) task.AskBack (ReplicaIs node.old) e) }
-    ensures unchanged { OnErr result ((node.new ≡ node.old) × (out.new.packets ≡ out.old.packets)) }
-    ensures role { node.new.role ≡ node.old.role }
+// A node takes the next item of an in-edge. It sends nothing.
+fn node_pulls(node: &mut NodeState, edge: u32, item: Item) -> Result<(), ApplyError>
+    requires { IsTimely item }
+    ensures { HasAnswered node.old node.new (asked.Pull edge item) result [] [] }
 {
-    if node.mode() != Mode::Running {
-        return Err(ApplyError::NotRunning);
+    match node {
+        NodeState::Replica(node) => replica_pulls(node, edge, item),
+        NodeState::Egress(node) => egress_pulls(node, edge, item),
+        NodeState::Ingress(_) | NodeState::Control(_) => Err(ApplyError::NotRunning),
     }
-    node.ask_back(out);
-    Ok(())
 }
 
 // A replica takes the next item of an in-edge, where it runs and no number would pass its limit.
 fn replica_pulls(node: &mut Replica, edge: u32, item: Item) -> Result<(), ApplyError>
-    requires timely { IsTimely item }
-    ensures acts { OnOk result ((plan : PlanView) → ActsSo plan (node_of node.old.role) (task.Pull edge item) (ReplicaIs node.old) (ReplicaIs node.new) []) }
-    ensures refused { IfErr result (λ e. (plan : PlanView) → IsRefusedSo plan (node_of node.old.role) (task.Pull edge item) (ReplicaIs node.old) e) }
-    ensures unchanged { OnErr result (node.new ≡ node.old) }
-    ensures role { node.new.role ≡ node.old.role }
+    requires { IsTimely item }
+    ensures { HasAnswered (state.Replica node.old) (state.Replica node.new) (asked.Pull edge item) result [] [] }
 {
     if node.mode() != Mode::Running {
         return Err(ApplyError::NotRunning);
@@ -245,110 +142,9 @@ fn replica_pulls(node: &mut Replica, edge: u32, item: Item) -> Result<(), ApplyE
     Ok(())
 }
 
-// A controller takes a packet; it has no work.
-pub(crate) fn control_acts(
-    node: &mut PairControl,
-    plan: &Plan,
-    task: &Task,
-    out: &mut Outbox,
-) -> Result<(), ApplyError>
-    requires room { most_packets ≤ out.old.spare }
-    ensures acts { OnOk result (ActsSo plan.now (control.node_of node.old) task.now (ControllerIs node.old) (ControllerIs node.new)
-        (appended out.old.packets out.new.packets)) }
-    ensures packets { out.new.packets ≡ out.old.packets ++ appended out.old.packets out.new.packets }
-    ensures refused { IfErr result (IsRefusedSo plan.now (control.node_of node.old) task.now (ControllerIs node.old)) }
-    ensures unchanged { OnErr result ((node.new ≡ node.old) × (out.new.packets ≡ out.old.packets)) }
-    ensures id { control.node_of node.new ≡ control.node_of node.old }
-{
-    match *task {
-        Task::Take { from, body } => control_takes(node, plan, from, &body, out),
-        Task::Work | Task::Make => Err(ApplyError::NothingDue),
-        Task::Kill | Task::AskStop | Task::AskBack | Task::Pull { .. } => {
-            Err(ApplyError::NotRunning)
-        }
-    }
-}
-
-// A controller takes a packet, where no number would pass its limit.
-fn control_takes(
-    node: &mut PairControl,
-    plan: &Plan,
-    from: NodeId,
-    body: &Body,
-    out: &mut Outbox,
-) -> Result<(), ApplyError>
-    requires room { most_packets ≤ out.old.spare }
-    ensures acts { OnOk result (ActsSo plan.now (control.node_of node.old) (task.Take from body.now) (ControllerIs node.old) (ControllerIs node.new)
-        (appended out.old.packets out.new.packets)) }
-    ensures packets { out.new.packets ≡ out.old.packets ++ appended out.old.packets out.new.packets }
-    ensures refused { IfErr result (λ e. e ≡ error.OutOfMemory) }
-    ensures unchanged { OnErr result ((node.new ≡ node.old) × (out.new.packets ≡ out.old.packets)) }
-    ensures id { control.node_of node.new ≡ control.node_of node.old }
-{
-    if !node.admits(plan, from, body) {
-        return Err(ApplyError::OutOfMemory);
-    }
-    node.on(from, body, out);
-    Ok(())
-}
-
-// Egress takes a packet, works or pulls.
-pub(crate) fn egress_acts(
-    node: &mut Egress,
-    plan: &Plan,
-    task: &Task,
-    out: &mut Outbox,
-) -> Result<(), ApplyError>
-    ensures acts { OnOk result (ActsSo plan.now name.Egress task.now (EgressIs node.old) (EgressIs node.new)
-        (appended out.old.packets out.new.packets)) }
-    ensures packets { out.new.packets ≡ out.old.packets ++ appended out.old.packets out.new.packets }
-    ensures refused { IfErr result (IsRefusedSo plan.now name.Egress task.now (EgressIs node.old)) }
-    ensures unchanged { OnErr result ((node.new ≡ node.old) × (out.new.packets ≡ out.old.packets)) }
-{
-    match *task {
-        Task::Take { from, body } => egress_takes(node, plan, from, &body),
-        Task::Work => egress_works(node, out),
-        Task::Make => Err(ApplyError::NothingDue),
-        Task::Pull { edge, item } => egress_pulls(node, edge, item),
-        Task::Kill | Task::AskStop | Task::AskBack => Err(ApplyError::NotRunning),
-    }
-}
-
-// Egress takes a packet, where no number would pass its limit.
-fn egress_takes(node: &mut Egress, plan: &Plan, from: NodeId, body: &Body) -> Result<(), ApplyError>
-    ensures acts { OnOk result (ActsSo plan.now name.Egress (task.Take from body.now) (EgressIs node.old) (EgressIs node.new) []) }
-    ensures refused { IfErr result (λ e. e ≡ error.OutOfMemory) }
-    ensures unchanged { OnErr result (node.new ≡ node.old) }
-{
-    if !node.admits(plan, from, body) {
-        return Err(ApplyError::OutOfMemory);
-    }
-    node.on(from, body)?;
-    Ok(())
-}
-
-// Egress works, where no number would pass its limit.
-fn egress_works(node: &mut Egress, out: &mut Outbox) -> Result<(), ApplyError>
-    ensures acts { OnOk result ((plan : PlanView) → ActsSo plan name.Egress task.Work (EgressIs node.old) (EgressIs node.new)
-        (appended out.old.packets out.new.packets)) }
-    ensures packets { out.new.packets ≡ out.old.packets ++ appended out.old.packets out.new.packets }
-    ensures refused { IfErr result (λ e. (plan : PlanView) → IsRefusedSo plan name.Egress task.Work (EgressIs node.old) e) }
-    ensures unchanged { OnErr result ((node.new ≡ node.old) × (out.new.packets ≡ out.old.packets)) }
-{
-    if !node.may_work() {
-        return Err(ApplyError::OutOfMemory);
-    }
-    match node.work(out)? {
-        Worked::Did => Ok(()),
-        Worked::Idle => Err(ApplyError::NothingDue),
-    }
-}
-
 // Egress takes the next item of an edge, where no number would pass its limit.
 fn egress_pulls(node: &mut Egress, edge: u32, item: Item) -> Result<(), ApplyError>
-    ensures acts { OnOk result ((plan : PlanView) → ActsSo plan name.Egress (task.Pull edge item) (EgressIs node.old) (EgressIs node.new) []) }
-    ensures refused { IfErr result (λ e. e ≡ error.OutOfMemory) }
-    ensures unchanged { OnErr result (node.new ≡ node.old) }
+    ensures { HasAnswered (state.Egress node.old) (state.Egress node.new) (asked.Pull edge item) result [] [] }
 {
     if edge >= node.consumer().merge().edges() || !node.may_pull(edge) {
         return Err(ApplyError::OutOfMemory);

@@ -11,10 +11,11 @@ ghost use Rattle.plan_reader.specs.Nodes.{has_link, names_event};
 ghost use Rattle.std.specs.Prelude.{◌≡◌, true, IfErr, IfOk, IsTrue, OnErr, OnOk};
 ghost use Rattle.tuple_edge.specs.declared.event.Event.TheVariants as event;
 
-use crate::acts::Task;
+use crate::asked::Asked;
 use crate::error::ApplyError;
-use crate::logs::taken_from;
 use crate::nodes::Core;
+use crate::station::{act_at, taken_at};
+use node_tasks::Task;
 use run_journal::Lined;
 use tuple_edge::{Event, LinkId, NodeId};
 
@@ -91,7 +92,7 @@ impl Core {
     }
 
     // What an event asks of its node.
-    fn task_of(&mut self, event: &Event) -> Result<Task, ApplyError>
+    fn task_of(&mut self, event: &Event) -> Result<Asked, ApplyError>
         requires named { IsTrue (names_event self.old.plan event.now) }
         ensures unchanged { self.new ≡ self.old }
         ensures asked { IfOk result (IsTaskOf self.old event.now) }
@@ -100,28 +101,29 @@ impl Core {
     {
         match *event {
             Event::Take { link, index } => self.packet_of(link, index),
-            Event::Work { .. } => Ok(Task::Work),
-            Event::Make => Ok(Task::Make),
-            Event::Kill { .. } => Ok(Task::Kill),
-            Event::AskStop { .. } => Ok(Task::AskStop),
-            Event::AskBack { .. } => Ok(Task::AskBack),
+            Event::Work { .. } => Ok(Asked::Task(Task::Work)),
+            Event::Make => Ok(Asked::Task(Task::Make)),
+            Event::Kill { .. } => Ok(Asked::Task(Task::Kill)),
+            Event::AskStop { .. } => Ok(Asked::Task(Task::AskStop)),
+            Event::AskBack { .. } => Ok(Asked::Task(Task::AskBack)),
             Event::Pull { from, to } => self.pull_of(from, to),
         }
     }
 
     // The packet at a place among those that went over a link.
-    fn packet_of(&mut self, link: LinkId, index: u64) -> Result<Task, ApplyError>
+    fn packet_of(&mut self, link: LinkId, index: u64) -> Result<Asked, ApplyError>
         requires named { IsTrue (has_link self.old.plan link) }
         ensures unchanged { self.new ≡ self.old }
         ensures asked { IfOk result (IsTaskOf self.old (event.Take link index)) }
         ensures timely { IfOk result IsTimelyTask }
         ensures refused { IfErr result (λ e. (s : State) → StandsFor self.old s → IsRefusal (act_of (flow_in self.old) s (event.Take link index)) e) }
     {
-        taken_from(&mut self.sent, &self.plan, link, index)
+        let place = self.place_of(link.from);
+        taken_at(&mut self.stations, place, link, index)
     }
 
     // The node of an event does what it asks.
-    fn act(&mut self, event: &Event, task: &Task) -> Result<(), ApplyError>
+    fn act(&mut self, event: &Event, task: &Asked) -> Result<(), ApplyError>
         requires named { IsTrue (names_event self.old.plan event.now) }
         requires may { MayApply self.old event.now }
         requires asked { IsTaskOf self.old event.now task.now }
@@ -131,13 +133,7 @@ impl Core {
         ensures unchanged { OnErr result (self.new ≡ self.old) }
         ensures core { IsCore self.new }
     {
-        match node_of(event) {
-            NodeId::Ingress => self.act_at_ingress(event, task),
-            NodeId::Replica { stage, part, which } => {
-                self.act_at_replica(stage, part, which, event, task)
-            }
-            NodeId::Control { stage, part } => self.act_at_control(stage, part, event, task),
-            NodeId::Egress => self.act_at_egress(event, task),
-        }
+        let place = self.place_of(node_of(event));
+        act_at(&mut self.stations, place, task)
     }
 }

@@ -1,27 +1,23 @@
 // The two ends of a pull.
-ghost use Rattle.flux_core.specs.CoreView.{station};
-ghost use Rattle.flux_core.specs.Ends.{IsNextSource, IsSourceOf, consumer_in, producer_in};
+ghost use Rattle.flux_core.specs.Ends.{IsNextSource, IsSourceOf};
 ghost use Rattle.flux_core.specs.CoreView.{flow_in};
 ghost use Rattle.flux_core.specs.Acts.{IsTimelyTask};
 ghost use Rattle.flux_core.specs.Refusals.{IsRefusal};
 ghost use Rattle.flux_core.specs.Stands.{IsCore, StandsFor};
 ghost use Rattle.flux_core.specs.Steps.{IsTaskOf};
 ghost use Rattle.flux_core.specs.declared.error.ApplyError.TheVariants as error;
-ghost use Rattle.flux_producer.specs.ProducerView.{contents_of};
 ghost use Rattle.pair_machine.specs.Machine.{State, act_of};
-ghost use Rattle.plan_reader.specs.Nodes.{has_edge, has_node};
+ghost use Rattle.plan_reader.specs.Nodes.{has_edge};
 ghost use Rattle.std.specs.Option.{option_map};
-ghost use Rattle.std.specs.Prelude.{◌≡◌, ◌≤◌, ◌<◌, IfErr, IfOk, IsTrue, length};
+ghost use Rattle.std.specs.Prelude.{◌≡◌, ◌≤◌, IfErr, IfOk, IsTrue, length};
 ghost use Rattle.tuple_edge.specs.Node.{part_of};
-ghost use Rattle.tuple_edge.specs.declared.node.NodeId.TheVariants as name;
 ghost use Rattle.tuple_edge.specs.declared.event.Event.TheVariants as event;
 
-use crate::acts::Task;
+use crate::asked::Asked;
 use crate::error::ApplyError;
 use crate::nodes::Core;
 use crate::pulls::{is_ahead, pull_between};
 use flux_consumer::Consumer;
-use flux_producer::Producer;
 use ingress_egress::Ingress;
 use tuple_edge::NodeId;
 
@@ -56,31 +52,6 @@ fn part_of(node: NodeId) -> u32
 }
 
 impl Core {
-    // The producer of a node, where it runs; of ingress that of a source.
-    fn producer_of(&self, node: NodeId, source: u32) -> Option<&Producer>
-        requires there { IsTrue (has_node self.now.plan node) }
-        requires few { node ≡ name.Ingress → source < length self.now.ingress.producers }
-        ensures { option_map (λ p. contents_of p.now) result ≡ producer_in (station self.now node).content source }
-    {
-        match node {
-            NodeId::Ingress => Some(self.ingress.producer(source)),
-            NodeId::Replica { stage, part, which } => self.replica(stage, part, which).producer(),
-            NodeId::Control { .. } | NodeId::Egress => None,
-        }
-    }
-
-    // The consumer of a node, where it runs.
-    fn consumer_of(&self, node: NodeId) -> Option<&Consumer>
-        requires { IsTrue (has_node self.now.plan node) }
-        ensures { option_map (λ c. c.now) result ≡ consumer_in (station self.now node).content }
-    {
-        match node {
-            NodeId::Replica { stage, part, which } => self.replica(stage, part, which).consumer(),
-            NodeId::Egress => Some(self.egress.consumer()),
-            NodeId::Ingress | NodeId::Control { .. } => None,
-        }
-    }
-
     // The source of the edge between two nodes from which the next item is pulled.
     fn source_of(
         &self,
@@ -92,22 +63,24 @@ impl Core {
         ensures refused { IfErr result (λ e. e ≡ error.OutOfMemory) }
         ensures core { IsCore self.now }
     {
+        self.known();
         match from {
-            NodeId::Ingress => source_ahead(&self.ingress, target, consumer),
+            NodeId::Ingress => source_ahead(self.ingress(), target, consumer),
             NodeId::Replica { .. } | NodeId::Control { .. } | NodeId::Egress => Ok(part_of(from)),
         }
     }
 
     // The pull of the next item of the edge between two nodes.
-    pub(crate) fn pull_of(&self, from: NodeId, to: NodeId) -> Result<Task, ApplyError>
+    pub(crate) fn pull_of(&self, from: NodeId, to: NodeId) -> Result<Asked, ApplyError>
         requires named { IsTrue (has_edge self.now.plan from to) }
         ensures asked { IfOk result (IsTaskOf self.now (event.Pull from to)) }
         ensures timely { IfOk result IsTimelyTask }
         ensures refused { IfErr result (λ e. (s : State) → StandsFor self.now s → IsRefusal (act_of (flow_in self.now) s (event.Pull from to)) e) }
     {
         let target = part_of(to);
-        let consumer = self.consumer_of(to);
+        let consumer = self.station(to).consumer();
         let source = self.source_of(from, target, consumer)?;
-        pull_between(self.producer_of(from, source), target, consumer, source)
+        let producer = self.station(from).producer(source);
+        pull_between(producer, target, consumer, source)
     }
 }

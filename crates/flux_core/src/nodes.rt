@@ -1,16 +1,20 @@
 // The core: all nodes of a plan, and all that they ever sent.
-ghost use Rattle.flux_core.specs.CoreView.{ControllerIs, ReplicaIs, ingress_contents, inputs_of, replica_contents, station};
+ghost use Rattle.flux_core.specs.CoreView.{emitted_by, found, ingress_contents, inputs_of, replica_contents, station};
 ghost use Rattle.flux_core.specs.Stands.{IsCore};
 ghost use Rattle.ingress_egress.specs.EgressView.{IsFrontOf};
 ghost use Rattle.pair_machine.specs.Output.{output};
+ghost use Rattle.plan_nodes.specs.NodeOrder.{nodes_of};
+ghost use Rattle.plan_nodes.specs.States.{id_of};
+ghost use Rattle.plan_nodes.specs.declared.state.NodeState.TheVariants as state;
 ghost use Rattle.plan_reader.specs.Nodes.{has_node, has_pair};
-ghost use Rattle.std.specs.Prelude.{◌≡◌, ◌≤◌, IsTrue, length};
+ghost use Rattle.std.specs.Prelude.{◌≡◌, ◌≤◌, ◌<◌, IsTrue, Some, length, slice_get};
 ghost use Rattle.tuple_edge.specs.declared.node.NodeId.TheVariants as node;
 
-use crate::logs::{Logs, log_of};
-use crate::places::{pair_place, replica_place};
+use crate::places::place_of;
+use crate::station::Station;
 use ingress_egress::{Egress, Ingress};
 use pair_control::PairControl;
+use plan_nodes::NodeState;
 use plan_reader::Plan;
 use replica_node::Replica;
 use std::marker::Model;
@@ -18,17 +22,13 @@ use tuple_edge::{NodeId, Outbox, Row, Which};
 
 /// All nodes of a plan, and every packet that any of them ever sent.
 ///
-/// Contracts see the nodes of each kind in the plan's order, beside each what it sent, and leave the room of
-/// edges aside. A core always stands for a state of the machine of pairs.
+/// Contracts see the nodes in the plan's order, each with what it sent, and leave the room of edges aside. A core
+/// always stands for a state of the machine of pairs.
 #[derive(Drop)]
 pub struct Core {
     pub(crate) plan: Plan,
     pub(crate) whole: bool,
-    pub(crate) ingress: Ingress,
-    pub(crate) replicas: Vec<Replica>,
-    pub(crate) controls: Vec<PairControl>,
-    pub(crate) egress: Egress,
-    pub(crate) sent: Logs,
+    pub(crate) stations: Vec<Station>,
 }
 
 impl Model for Core {
@@ -37,11 +37,9 @@ impl Model for Core {
 
     ghost Value = { CoreView };
 
-    ghost view = { λ c. core_of c.plan c.whole c.ingress c.replicas.items c.controls.items c.egress
-        c.sent.ingress c.sent.replicas.items c.sent.controls.items c.sent.egress };
+    ghost view = { λ c. core_of c.plan c.whole c.stations.items };
 
-    ghost invariant = { λ c. IsCore (core_of c.plan c.whole c.ingress c.replicas.items c.controls.items c.egress
-        c.sent.ingress c.sent.replicas.items c.sent.controls.items c.sent.egress) };
+    ghost invariant = { λ c. IsCore (core_of c.plan c.whole c.stations.items) };
 }
 
 impl Core {
@@ -60,35 +58,66 @@ impl Core {
         let _plan = &self.plan;
     }
 
+    // The place of a node of the plan.
+    pub(crate) fn place_of(&self, node: NodeId) -> usize
+        requires { IsTrue (has_node self.now.plan node) }
+        ensures place { slice_get (nodes_of self.now.plan) result ≡ Some node }
+        ensures there { result < length self.now.stations }
+    {
+        place_of(&self.plan, self.stations.len(), node)
+    }
+
+    // The station of a node of the plan.
+    pub(crate) fn station(&self, node: NodeId) -> &Station
+        requires { IsTrue (has_node self.now.plan node) }
+        ensures value { found node self.now.stations ≡ Some result.now }
+        ensures id { id_of result.now.node ≡ node }
+    {
+        &self.stations[self.place_of(node)]
+    }
+
     /// Ingress.
     pub fn ingress(&self) -> &Ingress
-        ensures { ingress_contents result.now ≡ self.now.ingress }
+        ensures { Some (state.Ingress (ingress_contents result.now)) ≡ (station self.now node.Ingress).content }
     {
-        &self.ingress
+        match &self.station(NodeId::Ingress).node {
+            NodeState::Ingress(ingress) => ingress,
+            _ => unreachable!(),
+        }
     }
 
     /// A replica of the plan.
     pub fn replica(&self, stage: u32, part: u32, which: Which) -> &Replica
         requires { IsTrue (has_pair self.now.plan stage part) }
-        ensures { ReplicaIs (replica_contents result.now) ≡ (station self.now (node.Replica stage part which)).content }
+        ensures { Some (state.Replica (replica_contents result.now)) ≡ (station self.now (node.Replica stage part which)).content }
     {
-        &self.replicas[replica_place(&self.plan, stage, part, which)]
+        match &self.station(NodeId::Replica { stage, part, which }).node {
+            NodeState::Replica(replica) => replica,
+            _ => unreachable!(),
+        }
     }
 
     /// The controller of a pair of the plan.
     pub fn control(&self, stage: u32, part: u32) -> &PairControl
         requires { IsTrue (has_pair self.now.plan stage part) }
-        ensures value { ControllerIs result.now ≡ (station self.now (node.Control stage part)).content }
+        ensures value { Some (state.Control result.now) ≡ (station self.now (node.Control stage part)).content }
         ensures edges { 1 ≤ length result.now.acked }
     {
-        &self.controls[pair_place(&self.plan, stage, part)]
+        self.known();
+        match &self.station(NodeId::Control { stage, part }).node {
+            NodeState::Control(control) => control,
+            _ => unreachable!(),
+        }
     }
 
     /// Egress.
     pub fn egress(&self) -> &Egress
-        ensures { result.now ≡ self.now.egress }
+        ensures { Some (state.Egress result.now) ≡ (station self.now node.Egress).content }
     {
-        &self.egress
+        match &self.station(NodeId::Egress).node {
+            NodeState::Egress(egress) => egress,
+            _ => unreachable!(),
+        }
     }
 
     /// What a node of the plan ever sent: each packet with its receiver, in order. Nothing is ever removed.
@@ -96,14 +125,15 @@ impl Core {
         requires { IsTrue (has_node self.now.plan node) }
         ensures { result.now.packets ≡ (station self.now node).sent }
     {
-        log_of(&self.sent, &self.plan, node)
+        &self.station(node).sent.log
     }
 
     /// The rows that egress has emitted: a front of the plan's output for the inputs, whatever happened.
     pub fn emitted(&self) -> &[Row]
-        ensures value { result.now ≡ self.now.egress.emitted }
+        ensures value { result.now ≡ emitted_by self.now }
         ensures front { IsFrontOf result.now (output self.now.plan (inputs_of self.now)) }
     {
-        self.egress.emitted()
+        self.known();
+        self.egress().emitted()
     }
 }

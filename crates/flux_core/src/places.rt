@@ -1,33 +1,42 @@
-// Where a node stands among those of its kind.
-ghost use Rattle.flux_core.specs.CoreView.{pair_place, replica_place};
-ghost use Rattle.plan_reader.specs.Nodes.{has_pair};
-ghost use Rattle.std.specs.Prelude.{◌≡◌, ◌<◌, ◌^◌, IsTrue};
+// Where a node stands among those of its plan.
+ghost use Rattle.plan_nodes.specs.NodeOrder.{nodes_of};
+ghost use Rattle.plan_reader.specs.Nodes.{has_node, has_pair};
+ghost use Rattle.std.specs.Prelude.{◌≡◌, ◌<◌, ◌+◌, ◌*◌, ◌-◌, ◌^◌, IsTrue, Some, length, map, slice_get, sum, take};
 
 use plan_reader::Plan;
-use tuple_edge::Which;
+use tuple_edge::{NodeId, Which};
 
-// The place of a pair among all pairs.
-pub(crate) fn pair_place(plan: &Plan, stage: u32, part: u32) -> usize
+// Where the nodes of a pair begin: behind ingress, and behind the three of each pair before it.
+fn pair_place(plan: &Plan, stage: u32, part: u32) -> usize
     requires { IsTrue (has_pair plan.now stage part) }
-    ensures value { result ≡ pair_place plan.now stage part }
-    ensures small { result < 2 ^ 36 }
+    ensures value { result ≡ 1 + 3 * (sum (map (λ s. s.parts) (take (stage - 1) plan.now.stages)) + part) }
+    ensures small { result < 2 ^ 40 }
 {
     let mut before = 0;
     let earlier = &plan.stages()[..stage as usize - 1];
     for one in earlier {
         before += one.parts as usize;
     }
-    before + part as usize
+    1 + 3 * (before + part as usize)
 }
 
-// The place of a replica among all replicas.
-pub(crate) fn replica_place(plan: &Plan, stage: u32, part: u32, which: Which) -> usize
-    requires { IsTrue (has_pair plan.now stage part) }
-    ensures { result ≡ replica_place plan.now stage part which }
+// The place of a node of the plan, of so many nodes.
+pub(crate) fn place_of(plan: &Plan, count: usize, node: NodeId) -> usize
+    requires there { IsTrue (has_node plan.now node) }
+    requires count { count ≡ length (nodes_of plan.now) }
+    ensures { slice_get (nodes_of plan.now) result ≡ Some node }
 {
-    let first = 2 * pair_place(plan, stage, part);
-    match which {
-        Which::A => first,
-        Which::B => first + 1,
+    match node {
+        NodeId::Ingress => 0,
+        NodeId::Replica { stage, part, which } => {
+            let first = pair_place(plan, stage, part);
+            match which {
+                Which::A => first,
+                Which::B => first + 1,
+            }
+        }
+        NodeId::Control { stage, part } => pair_place(plan, stage, part) + 2,
+        // Egress stands last.
+        NodeId::Egress => count - 1,
     }
 }

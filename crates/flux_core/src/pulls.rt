@@ -4,7 +4,7 @@ ghost use Rattle.flux_core.specs.declared.error.ApplyError.TheVariants as error;
 ghost use Rattle.std.specs.Option.{option_map};
 ghost use Rattle.std.specs.Prelude.{◌≡◌, ◌<◌, ◌↔◌, IfErr, IfOk, IsTrue, Some, length};
 
-use crate::acts::Task;
+use crate::asked::Asked;
 use crate::error::ApplyError;
 use flux_consumer::Consumer;
 use flux_producer::Producer;
@@ -15,7 +15,7 @@ pub(crate) fn pull_between(
     target: u32,
     consumer: Option<&Consumer>,
     source: u32,
-) -> Result<Task, ApplyError>
+) -> Result<Asked, ApplyError>
     ensures found { IfOk result (IsPullOf (option_map (λ p. p.now) producer.entry) target (option_map (λ c. c.now) consumer.entry) source) }
     ensures refused { IfErr result (IsNoPull (option_map (λ p. p.now) producer.entry) target (option_map (λ c. c.now) consumer.entry) source) }
 {
@@ -31,7 +31,7 @@ fn pull_along(
     target: u32,
     consumer: &Consumer,
     source: u32,
-) -> Result<Task, ApplyError>
+) -> Result<Asked, ApplyError>
     ensures found { IfOk result (IsPullOf (Some producer.now) target (Some consumer.now) source) }
     ensures refused { IfErr result (IsNoPull (Some producer.now) target (Some consumer.now) source) }
 {
@@ -51,7 +51,7 @@ fn pull_along(
     let Some(item) = buffer.get(mark + 1) else {
         unreachable!()
     };
-    Ok(Task::Pull { edge: source, item })
+    Ok(Asked::Pull { edge: source, item })
 }
 
 // Whether a producer has made more of an edge than a consumer has taken. Each has the edge, so that want of

@@ -1,16 +1,20 @@
 // All that a node ever sent.
 ghost use Rattle.flux_core.specs.Sent.{AreListed, bodies_to, body_of, listed_for};
+ghost use Rattle.flux_core.specs.Taken.{IsMissing, IsPacketOf};
 ghost use Rattle.pair_machine.specs.Machine.{nth_from_one};
 ghost use Rattle.pair_machine.specs.Numbers.{is_node};
 ghost use Rattle.std.specs.BTreeMap.{ContainsKey};
-ghost use Rattle.std.specs.Prelude.{◌≡◌, ◌<◌, ◌+◌, ◌++◌, ◌∷◌, [], if◌then◌else◌, IfOk, OnOk, OnErr, length, slice_get};
+ghost use Rattle.std.specs.Prelude.{◌≡◌, ◌<◌, ◌+◌, ◌++◌, ◌∷◌, [], if◌then◌else◌, IfErr, IfOk, OnOk, OnErr, length, slice_get};
 ghost use Rattle.tuple_edge.specs.Node.{node_cmp};
 ghost use Rattle.tuple_edge.specs.declared.node.NodeId.{NodeId as Node};
 
+use crate::asked::Asked;
+use crate::error::ApplyError;
+use node_tasks::Task;
 use std::alloc::Global;
 use std::collections::BTreeMap;
 use std::marker::Model;
-use tuple_edge::{Body, NodeId, OutOfMemory, Outbox};
+use tuple_edge::{Body, LinkId, NodeId, OutOfMemory, Outbox, Packet};
 
 /// The packets that a node ever sent, each with its receiver, in order. None is ever removed.
 #[derive(Drop)]
@@ -68,6 +72,26 @@ impl Sent {
             return Ok(None);
         }
         Ok(body_at(&self.log, &self.places, to, index as usize - 1))
+    }
+
+    // The packet at a place among those that went over a link from here, as what its receiver is asked to take.
+    pub(crate) fn taken(&mut self, link: LinkId, index: u64) -> Result<Asked, ApplyError>
+        ensures unchanged { self.new ≡ self.old }
+        ensures found { IfOk result (IsPacketOf (bodies_to link.to self.old) link index) }
+        ensures refused { IfErr result (IsMissing (bodies_to link.to self.old) link index) }
+    {
+        match self.nth_to(link.to, index)? {
+            Some(body) => Ok(Asked::Task(Task::Take {
+                from: link.from,
+                index,
+                // A core has no clocks.
+                packet: Packet { at: 0, body },
+            })),
+            None => {
+                let sent = self.count_to(link.to)?;
+                Err(ApplyError::NotSent { link, index, sent })
+            }
+        }
     }
 }
 

@@ -1,6 +1,7 @@
 -- Packets numbered by their places.
-use Rattle.flux_link.specs.Arrivals.{arrival_at, numbered, numbered_after}
-use Rattle.std.proofs.Common.{◌≡◌, ℕ, ◌+◌, List, [], ◌∷◌, ◌++◌, length, ap, sym, ◌∙◌, arith}
+use Rattle.flux_link.specs.Arrivals.{arrival_at, next_after, numbered, numbered_after}
+use Rattle.std.proofs.Common.{◌≡◌, ℕ, ◌+◌, List, [], ◌∷◌, ◌++◌, length, ap, refl, subst, sym, ◌∙◌, arith}
+use Rattle.std.specs.Prelude.{IfSome}
 use Rattle.tuple_edge.specs.declared.packet.Packet.{Packet}
 use mathlib.Core.List.{IsPrefix}
 
@@ -22,3 +23,16 @@ numbered_push packets packet place is =
 pub numbered_front : (front rest all : List Packet) → front ++ rest ≡ all → IsPrefix (numbered front) (numbered all)
 numbered_front front rest all e =
     (numbered_after (0 + length front) rest, sym (numbered_after-append 0 front rest) ∙ ap numbered e)
+
+-- the first of those that wait is given: one arrival more, at the next place
+pub numbered_next : (given waiting later all : List Packet) (packet : Packet) → waiting ≡ packet ∷ later → all ≡ given ++ packet ∷ []
+    → IfSome (next_after (length given) waiting) (λ arrival. numbered all ≡ numbered given ++ arrival ∷ [])
+numbered_next given waiting later all packet first more =
+    subst (λ l. IfSome (next_after (length given) l) (λ arrival. numbered all ≡ numbered given ++ arrival ∷ [])) (sym first)
+    (ap numbered more ∙ numbered_push given packet (length given + 1) refl)
+
+-- it stands before the others
+pub next_first : (before : ℕ) (waiting later : List Packet) (packet : Packet) → waiting ≡ packet ∷ later
+    → IfSome (next_after before waiting) (λ arrival. waiting ≡ arrival.packet ∷ later)
+next_first before waiting later packet first =
+    subst (λ l. IfSome (next_after before l) (λ arrival. l ≡ arrival.packet ∷ later)) (sym first) refl

@@ -1,6 +1,6 @@
 -- Arrivals by their places.
 use Rattle.flux_link.specs.declared.arrival.Arrival.{Arrival}
-use Rattle.std.specs.Prelude.{◌≡◌, ℕ, ◌+◌, ◌-◌, ◌≤◌, List, [], ◌∷◌, ◌++◌, length, map, IfSome, Option, Some, slice_get}
+use Rattle.std.specs.Prelude.{◌≡◌, ℕ, ◌+◌, ◌-◌, ◌≤◌, List, [], ◌∷◌, ◌++◌, length, map, IfSome, Option, None, Some, slice_get}
 use Rattle.std.proofs.Common.{ap, refl, suc}
 use Rattle.tuple_edge.specs.declared.packet.Packet.{Packet}
 
@@ -16,6 +16,11 @@ numbered_after before (packet ∷ later) = arrival_at (before + 1) packet ∷ nu
 -- packets as arrivals, each with its place from 1
 abbrev pub numbered : List Packet → List Arrival
 numbered packets = numbered_after 0 packets
+
+-- the first of packets that wait behind so many others, as an arrival
+abbrev pub next_after : ℕ → List Packet → Option Arrival
+next_after before [] = None
+next_after before (packet ∷ later) = Some (arrival_at (before + 1) packet)
 
 -- the packets of arrivals
 abbrev pub packets_of : List Arrival → List Packet

@@ -1,7 +1,7 @@
 -- What contracts see of an exact link in memory.
 use Rattle.flux_link.specs.Identity.{Identity}
 use Rattle.flux_link.specs.RingViews.{producer_identity}
-use Rattle.rtrb.specs.Ring.{sent, received, producer_capacity, IsPair}
+use Rattle.rtrb.specs.Ring.{sent, received, known_items, producer_capacity, IsPair}
 use Rattle.rtrb.specs.declared.consumer.Consumer.{Consumer}
 use Rattle.rtrb.specs.declared.producer.Producer.{Producer}
 use Rattle.std.specs.Prelude.{◌≡◌, ℕ, ◌-◌, List, ◌++◌, length, drop}
@@ -33,8 +33,8 @@ module _ {P : Type 0} where
   mem_link_view p c =
       record { given = received c; waiting = inside_of p c; room = producer_capacity p; identity = producer_identity p }
 
-  -- the two ends of one ring, out of which so many packets came: the first that went in
+  -- the two ends of one ring, out of which so many packets came: the first that went in; the others are known to be there
   pub record AreEnds (p : Producer Packet Global P) (c : Consumer Packet Global P) (count : ℕ) : Type 0 where
     pub pair : IsPair p c
     pub counted : count ≡ length (received c)
-    pub in_order : received c ++ inside_of p c ≡ sent p
+    pub in_order : received c ++ known_items c ≡ sent p

@@ -5,6 +5,7 @@ ghost use Rattle.flux_link.specs.Treating.{IsTreating};
 use crate::ready::{Ready, held_back};
 use crate::{Arrival, Inlet, RingIn, RingOut};
 use std::snapshot::Snapshot;
+use tuple_edge::Packet;
 
 /// What becomes of a packet.
 #[derive(Clone, Copy, Debug, PartialEq, Eq)]
@@ -38,7 +39,7 @@ impl<I: Inlet> LossyIn<I> {
     ghost use Rattle.flux_link.specs.Treating.{choice_after};
     ghost use Rattle.flux_link.specs.LossyInlets.{inner_of, choices_of, inner_arrivals, given_by, taken_by, steps_left, InnerKeepsAll};
     ghost use Rattle.flux_link.specs.declared.arrival.Arrival.{Arrival};
-    ghost use Rattle.std.specs.Prelude.{◌≡◌, ◌<◌, ◌≤◌, ◌+◌, ◌-◌, ◌++◌, ◌∷◌, [], length, IfSome, MatchOption, None, Some};
+    ghost use Rattle.std.specs.Prelude.{◌≡◌, ◌<◌, ◌≤◌, ◌+◌, ◌-◌, ◌++◌, ◌∷◌, [], length, IfSome, MatchOption, None, Some, slice_get};
     ghost use Rattle.std.specs.Bool.{OnTrue, OnFalse};
     ghost use mathlib.Core.List.{IsPrefix};
 
@@ -103,6 +104,7 @@ impl<I: Inlet> LossyIn<I> {
         ensures given { MatchOption result
             ((self.old.ready ≡ []) × (self.new.ready ≡ []) × (given_by self.new ≡ given_by self.old))
             (λ arrival. given_by self.new ≡ given_by self.old ++ arrival ∷ []) }
+        ensures first { result ≡ slice_get self.old.ready 0 }
     {
         self.ready.take()
     }
@@ -112,12 +114,14 @@ impl<I: Inlet> Inlet for LossyIn<I> {
     ghost use Rattle.flux_link.specs.Choices.{treated};
     ghost use Rattle.flux_link.specs.LossyInlets.{inner_of, choices_of, inner_arrivals, given_by, taken_by, AskedOn, AskedToItsEnd, InnerKeepsAll};
     ghost use Rattle.std.proofs.Common.{arith};
-    ghost use Rattle.std.specs.Prelude.{◌≡◌, ◌<◌, ◌≤◌, ◌+◌, ◌++◌, ◌∷◌, [], None, IfNone, IfSome, MatchOption};
+    ghost use Rattle.std.specs.Prelude.{◌≡◌, ◌<◌, ◌≤◌, ◌+◌, ◌++◌, ◌∷◌, [], None, Some, IfNone, IfSome, IsFalse, IsSome, IsTrue, MatchOption, slice_get};
     ghost use mathlib.Core.List.{IsPrefix};
 
     ghost given = { λ lossy. given_by lossy };
 
     ghost coming = { λ _. None };
+
+    ghost next = { λ lossy. slice_get lossy.ready 0 };
 
     ghost identity = { λ lossy. I.identity (inner_of lossy) };
 
@@ -134,6 +138,7 @@ impl<I: Inlet> Inlet for LossyIn<I> {
         ensures taken { MatchOption result (taken_by self.new ≤ taken_by self.old)
             (λ _. taken_by self.new ≤ taken_by self.old + 1) }
         ensures grows { IsPrefix (inner_arrivals self.old) (inner_arrivals self.new) }
+        ensures next { IfSome (slice_get self.old.ready 0) (λ arrival. result ≡ Some arrival) }
         // The inner inlet keeps what it has given and has still to come, where it tells that.
         ensures all { InnerKeepsAll self.old self.new }
         // It gives what the choices make of the arrivals of the inner inlet, and all of it before it gives none.
@@ -146,14 +151,70 @@ impl<I: Inlet> Inlet for LossyIn<I> {
         ensures none { IfNone result (AskedToItsEnd self.old self.new) }
         ensures spent { IfNone result (IfSome (I.coming (inner_of self.new)) (λ packets. packets ≡ [])) }
     {
-        loop {
-            if let Some(arrival) = self.take_ready() {
-                return Some(arrival);
-            }
+        if !self.look() {
+            return None;
+        }
+        let Some(arrival) = self.take_ready() else {
+            unreachable!();
+        };
+        Some(arrival)
+    }
+
+    fn look(&mut self) -> bool
+        requires fits { taken_by self.old < max_taken }
+        ensures link { I.identity (inner_of self.new) ≡ I.identity (inner_of self.old) }
+        ensures choices { choices_of self.new ≡ choices_of self.old }
+        ensures given { given_by self.new ≡ given_by self.old }
+        ensures taken { taken_by self.new ≤ taken_by self.old + 1 }
+        ensures few { IsFalse result → taken_by self.new ≤ taken_by self.old }
+        ensures grows { IsPrefix (inner_arrivals self.old) (inner_arrivals self.new) }
+        // The inner inlet keeps what it has given and has still to come, where it tells that.
+        ensures all { InnerKeepsAll self.old self.new }
+        // It took packets of the inner inlet until one is ready, and there is none only where that inlet gave none in this
+        // call, last of all: then all is given that the choices make of them.
+        ensures next { IsTrue result → IsSome (slice_get self.new.ready 0) }
+        ensures stays { IfSome (slice_get self.old.ready 0) (λ arrival. IsTrue result × (slice_get self.new.ready 0 ≡ Some arrival)) }
+        ensures some { IsTrue result → AskedOn self.old self.new }
+        ensures none { IsFalse result → AskedToItsEnd self.old self.new }
+        ensures whole { IsFalse result → given_by self.new ≡ treated (choices_of self.new) (inner_arrivals self.new) }
+        ensures spent { IsFalse result → IfSome (I.coming (inner_of self.new)) (λ packets. packets ≡ []) }
+    {
+        while self.ready.is_empty() {
             if !self.treat_next() {
-                return None;
+                return false;
             }
         }
+        true
+    }
+
+    fn first(&self) -> &Packet
+        requires { IsSome (slice_get self.now.ready 0) }
+        ensures { IfSome (slice_get self.now.ready 0) (λ arrival. result.now ≡ arrival.packet) }
+    {
+        let Some(arrival) = self.ready.first() else {
+            unreachable!();
+        };
+        &arrival.packet
+    }
+
+    fn index(&self) -> u64
+        requires next { IsSome (slice_get self.now.ready 0) }
+        ensures { IfSome (slice_get self.now.ready 0) (λ arrival. result ≡ arrival.index) }
+    {
+        let Some(arrival) = self.ready.first() else {
+            unreachable!();
+        };
+        arrival.index
+    }
+
+    fn pass(&mut self)
+        requires next { IsSome (slice_get self.old.ready 0) }
+        ensures link { I.identity (inner_of self.new) ≡ I.identity (inner_of self.old) }
+        ensures choices { choices_of self.new ≡ choices_of self.old }
+        ensures inner { inner_of self.new ≡ inner_of self.old }
+        ensures given { IfSome (slice_get self.old.ready 0) (λ arrival. given_by self.new ≡ given_by self.old ++ arrival ∷ []) }
+    {
+        self.take_ready();
     }
 
     ghost few = { λ lossy. Prim.omega (arith, lossy.sound.few) };

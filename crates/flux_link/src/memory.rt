@@ -2,7 +2,7 @@
 ghost use Rattle.flux_link.specs.Arrivals.{numbered};
 ghost use Rattle.flux_link.specs.Limits.{max_taken};
 ghost use Rattle.flux_link.specs.MemLinkView.{all_sent, free_room};
-ghost use Rattle.std.specs.Prelude.{◌≡◌, ◌<◌, ◌-◌, [], ◌∷◌, ◌++◌, length, IfOk, OnOk, OnErr, IfErr, IfNone, IfSome, IsErr, IsNone, MatchResult, Some, ◌↔◌};
+ghost use Rattle.std.specs.Prelude.{◌≡◌, ◌<◌, ◌-◌, [], ◌∷◌, ◌++◌, length, IfOk, OnOk, OnErr, IfErr, IfNone, IfSome, IsErr, IsFalse, IsNone, IsSome, IsTrue, MatchResult, Some, ◌↔◌};
 
 use crate::{Arrival, Inlet, Outlet};
 use rtrb::{Consumer, Producer, RingBuffer};
@@ -63,17 +63,21 @@ impl Outlet for MemLink {
             return Err(packet);
         }
         self.producer.push_reserved(packet);
+        // The other end knows of it from now on, so that a look finds it.
+        self.consumer.slots_beside(&mut self.producer);
         Ok(())
     }
 }
 
 impl Inlet for MemLink {
-    ghost use Rattle.flux_link.specs.Arrivals.{length-numbered_after};
+    ghost use Rattle.flux_link.specs.Arrivals.{length-numbered_after, next_after};
     ghost use Rattle.std.proofs.Common.{arith};
 
     ghost given = { λ link. numbered link.given };
 
     ghost coming = { λ link. Some link.waiting };
+
+    ghost next = { λ link. next_after (length link.given) link.waiting };
 
     ghost identity = { λ link. link.identity };
 
@@ -90,8 +94,9 @@ impl Inlet for MemLink {
         ensures place { IfSome result (λ arrival. numbered self.new.given ≡ numbered self.old.given ++ arrival ∷ []) }
         ensures unchanged { IfNone result (self.new ≡ self.old) }
         ensures empty { IsNone result ↔ (self.old.waiting ≡ []) }
+        ensures next { IfSome (next_after (length self.old.given) self.old.waiting) (λ arrival. result ≡ Some arrival) }
     {
-        if self.consumer.slots_beside(&mut self.producer) == 0 {
+        if self.consumer.cached_slots() == 0 {
             return None;
         }
         let packet = self.consumer.pop_known();
@@ -100,6 +105,46 @@ impl Inlet for MemLink {
             index: self.count,
             packet,
         })
+    }
+
+    fn look(&mut self) -> bool
+        ensures unchanged { self.new ≡ self.old }
+        ensures waits { IsTrue result ↔ (0 < length self.old.waiting) }
+        ensures next { IsTrue result → IsSome (next_after (length self.new.given) self.new.waiting) }
+        ensures stays { IfSome (next_after (length self.old.given) self.old.waiting) (λ arrival.
+            IsTrue result × (next_after (length self.new.given) self.new.waiting ≡ Some arrival)) }
+        ensures spent { IsFalse result → self.new.waiting ≡ [] }
+    {
+        self.consumer.cached_slots() > 0
+    }
+
+    fn first(&self) -> &Packet
+        requires { IsSome (next_after (length self.now.given) self.now.waiting) }
+        ensures { IfSome (next_after (length self.now.given) self.now.waiting) (λ arrival. result.now ≡ arrival.packet) }
+    {
+        self.consumer.peek_known()
+    }
+
+    fn index(&self) -> u64
+        requires fits { length self.now.given < max_taken }
+        requires next { IsSome (next_after (length self.now.given) self.now.waiting) }
+        ensures { IfSome (next_after (length self.now.given) self.now.waiting) (λ arrival. result ≡ arrival.index) }
+    {
+        self.count + 1
+    }
+
+    fn pass(&mut self)
+        requires fits { length self.old.given < max_taken }
+        requires next { IsSome (next_after (length self.old.given) self.old.waiting) }
+        ensures link { self.new.identity ≡ self.old.identity }
+        ensures place { IfSome (next_after (length self.old.given) self.old.waiting) (λ arrival.
+            numbered self.new.given ≡ numbered self.old.given ++ arrival ∷ []) }
+        ensures first { IfSome (next_after (length self.old.given) self.old.waiting) (λ arrival.
+            self.old.waiting ≡ arrival.packet ∷ self.new.waiting) }
+    {
+        let index = self.count + 1;
+        self.consumer.pop_known();
+        self.count = index;
     }
 
     ghost few = { λ link. Prim.omega (arith, length-numbered_after 0 link.given) };

@@ -1,6 +1,6 @@
 // What is ready to be given.
 ghost use Rattle.flux_link.specs.Choices.{at_own_place, left_behind};
-ghost use Rattle.std.specs.Prelude.{◌≡◌, ◌++◌, ◌∷◌, [], MatchOption, option_to_list};
+ghost use Rattle.std.specs.Prelude.{◌≡◌, ◌++◌, ◌∷◌, [], IsFalse, IsSome, IsTrue, MatchOption, Some, option_to_list, slice_get};
 
 use crate::{Arrival, Choice};
 use std::marker::Model;
@@ -47,6 +47,27 @@ impl Ready {
             again,
             behind: held,
         }
+    }
+
+    // Whether none is.
+    pub fn is_empty(&self) -> bool
+        ensures none { IsTrue result → self.now ≡ [] }
+        ensures some { IsFalse result → IsSome (slice_get self.now 0) }
+    {
+        self.once.is_none() && self.again.is_none() && self.behind.is_none()
+    }
+
+    // The first one.
+    pub fn first(&self) -> Option<&Arrival>
+        ensures { MatchOption result (self.now ≡ []) (λ arrival. slice_get self.now 0 ≡ Some arrival.now) }
+    {
+        if self.once.is_some() {
+            return self.once.as_ref();
+        }
+        if self.again.is_some() {
+            return self.again.as_ref();
+        }
+        self.behind.as_ref()
     }
 
     // The first one, which is ready no longer.

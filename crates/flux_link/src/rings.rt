@@ -71,14 +71,16 @@ impl Model for RingIn {
 }
 
 impl Inlet for RingIn {
-    ghost use Rattle.flux_link.specs.Arrivals.{length-numbered_after};
+    ghost use Rattle.flux_link.specs.Arrivals.{length-numbered_after, next_after};
     ghost use Rattle.flux_link.specs.RingViews.{GivesFirst};
     ghost use Rattle.std.proofs.Common.{arith};
-    ghost use Rattle.std.specs.Prelude.{MatchOption};
+    ghost use Rattle.std.specs.Prelude.{◌↔◌, IsTrue, MatchOption, Some};
 
     ghost given = { λ inlet. numbered inlet.given };
 
     ghost coming = { λ _. None };
+
+    ghost next = { λ inlet. next_after (length inlet.given) inlet.known_waiting };
 
     ghost identity = { λ inlet. inlet.identity };
 
@@ -97,6 +99,7 @@ impl Inlet for RingIn {
         // It is None only where this end knows of no waiting packet.
         ensures empty { IfNone result (self.new.known_waiting ≡ []) }
         ensures succeeds { 0 < length self.old.known_waiting → IsSome result }
+        ensures next { IfSome (next_after (length self.old.given) self.old.known_waiting) (λ arrival. result ≡ Some arrival) }
     {
         let packet = self.consumer.pop().ok()?;
         self.count += 1;
@@ -104,6 +107,47 @@ impl Inlet for RingIn {
             index: self.count,
             packet,
         })
+    }
+
+    fn look(&mut self) -> bool
+        requires fits { length self.old.given < max_taken }
+        ensures link { self.new.identity ≡ self.old.identity }
+        ensures given { self.new.given ≡ self.old.given }
+        ensures known { IsPrefix self.old.known_waiting self.new.known_waiting }
+        ensures looked { IsTrue result ↔ (0 < length self.new.known_waiting) }
+        ensures next { IsTrue result → IsSome (next_after (length self.new.given) self.new.known_waiting) }
+        ensures stays { IfSome (next_after (length self.old.given) self.old.known_waiting) (λ arrival.
+            IsTrue result × (next_after (length self.new.given) self.new.known_waiting ≡ Some arrival)) }
+    {
+        !self.consumer.is_empty()
+    }
+
+    fn first(&self) -> &Packet
+        requires { IsSome (next_after (length self.now.given) self.now.known_waiting) }
+        ensures { IfSome (next_after (length self.now.given) self.now.known_waiting) (λ arrival. result.now ≡ arrival.packet) }
+    {
+        self.consumer.peek_known()
+    }
+
+    fn index(&self) -> u64
+        requires fits { length self.now.given < max_taken }
+        requires next { IsSome (next_after (length self.now.given) self.now.known_waiting) }
+        ensures { IfSome (next_after (length self.now.given) self.now.known_waiting) (λ arrival. result ≡ arrival.index) }
+    {
+        self.count + 1
+    }
+
+    fn pass(&mut self)
+        requires fits { length self.old.given < max_taken }
+        requires next { IsSome (next_after (length self.old.given) self.old.known_waiting) }
+        ensures gives { IfSome (next_after (length self.old.given) self.old.known_waiting) (λ arrival. GivesFirst self.old arrival self.new) }
+        ensures place { IfSome (next_after (length self.old.given) self.old.known_waiting) (λ arrival.
+            numbered self.new.given ≡ numbered self.old.given ++ arrival ∷ []) }
+        ensures link { self.new.identity ≡ self.old.identity }
+    {
+        let index = self.count + 1;
+        self.consumer.pop_known();
+        self.count = index;
     }
 
     ghost few = { λ inlet. Prim.omega (arith, length-numbered_after 0 inlet.given) };

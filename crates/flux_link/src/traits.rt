@@ -2,7 +2,7 @@
 ghost use Rattle.flux_link.specs.Identity.{Identity};
 ghost use Rattle.flux_link.specs.Limits.{max_ahead, max_taken};
 ghost use Rattle.flux_link.specs.declared.arrival.Arrival.{Arrival};
-ghost use Rattle.std.specs.Prelude.{◌≡◌, ◌<◌, ◌≤◌, ◌+◌, ◌-◌, ℕ, List, [], ◌∷◌, ◌++◌, length, Option, Some, OnOk, OnErr, IfErr, IfSome, IfNone, MatchOption, MatchResult};
+ghost use Rattle.std.specs.Prelude.{◌≡◌, ◌<◌, ◌≤◌, ◌+◌, ◌-◌, ℕ, List, [], ◌∷◌, ◌++◌, length, Option, Some, OnOk, OnErr, IfErr, IfSome, IfNone, IsFalse, IsSome, IsTrue, MatchOption, MatchResult};
 ghost use Rattle.tuple_edge.specs.declared.packet.Packet.{Packet};
 
 use crate::Arrival;
@@ -39,6 +39,9 @@ pub trait Inlet {
     /// The packets still to come, where the inlet tells them.
     ghost coming: { Self → Option (List Packet) };
 
+    /// The next arrival, where it is known that one waits.
+    ghost next: { Self → Option Arrival };
+
     /// Which link it is, the same at both ends. Contracts alone see it, and no call changes it.
     ghost identity: { Self → Identity };
 
@@ -59,10 +62,44 @@ pub trait Inlet {
         ensures taken { MatchOption result (taken self.new ≤ taken self.old)
             (λ _. taken self.new ≤ taken self.old + 1) }
         ensures call { receives self.old result self.new }
+        // An arrival that was known to be next is given.
+        ensures next { IfSome (next self.old) (λ arrival. result ≡ Some arrival) }
         ensures unchanged { IfNone result (coming self.new ≡ coming self.old) }
         ensures coming { IfSome (coming self.old) (λ packets. MatchOption result (packets ≡ [])
             (λ arrival. (later : List Packet) × (packets ≡ arrival.packet ∷ later) × (coming self.new ≡ Some later))) };
 
-    /// So `recv` may be called wherever fewer than 2^62 arrivals were given.
+    /// Looks whether an arrival is to be had, which stays in the link: `first` and `index` tell it, and
+    /// `pass` gives it. False where none is to be had, as by `recv`. It never waits, and takes no memory.
+    fn look(&mut self) -> bool
+        requires fits { taken self.old < max_taken }
+        ensures link { identity self.new ≡ identity self.old }
+        ensures given { given self.new ≡ given self.old }
+        ensures next { IsTrue result → IsSome (next self.new) }
+        // An arrival that was known to be next stays the next one.
+        ensures stays { IfSome (next self.old) (λ arrival. IsTrue result × (next self.new ≡ Some arrival)) }
+        ensures coming { coming self.new ≡ coming self.old }
+        ensures spent { IsFalse result → IfSome (coming self.new) (λ packets. packets ≡ []) };
+
+    /// The packet that is next, which stays in the link.
+    fn first(&self) -> &Packet
+        requires { IsSome (next self.now) }
+        ensures { IfSome (next self.now) (λ arrival. result.now ≡ arrival.packet) };
+
+    /// The index of the packet that is next.
+    fn index(&self) -> u64
+        requires fits { taken self.now < max_taken }
+        requires next { IsSome (next self.now) }
+        ensures { IfSome (next self.now) (λ arrival. result ≡ arrival.index) };
+
+    /// Gives the arrival that is next, so that it is no longer in the link.
+    fn pass(&mut self)
+        requires fits { taken self.old < max_taken }
+        requires next { IsSome (next self.old) }
+        ensures link { identity self.new ≡ identity self.old }
+        ensures given { IfSome (next self.old) (λ arrival. given self.new ≡ given self.old ++ arrival ∷ []) }
+        ensures coming { IfSome (next self.old) (λ arrival. IfSome (coming self.old) (λ packets.
+            (later : List Packet) × (packets ≡ arrival.packet ∷ later) × (coming self.new ≡ Some later))) };
+
+    /// So `recv`, `look`, `index` and `pass` may be called wherever fewer than 2^62 arrivals were given.
     ghost few: { (inlet : Self) → taken inlet ≤ length (given inlet) + max_ahead };
 }

@@ -5,6 +5,6 @@ use Rattle.std.specs.Prelude.{ℕ}
 abbrev pub max_copies : ℕ
 max_copies = 3
 
--- where room is made on all edges, it is made for so many items at least
+-- `make_room` makes room for so many items at least
 abbrev pub least_room : ℕ
 least_room = 64

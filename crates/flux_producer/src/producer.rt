@@ -16,7 +16,7 @@ use std::alloc::Global;
 use std::marker::Model;
 use tuple_edge::{EdgeId, Item, NUMBER_LIMIT, OutOfMemory};
 
-// Where room is made on all edges, it is made for so many items at least.
+// `make_room` makes room for so many items at least.
 const LEAST_ROOM: u64 = 64;
 
 /// What a node sends on its out-edges. Targets and replicas count from 0, numbers of items from 1.
@@ -205,10 +205,9 @@ impl Producer {
         Ok(())
     }
 
-    /// Makes room for so many further items on every edge, whose numbers are then below 2^62. Where they
-    /// wouldn't be, it is refused as for want of memory: no memory holds that many items.
-    ///
-    /// Room is made for 64 items at least, so that most calls find it there and look at no edge.
+    /// Makes room for so many further items on every edge, and for 64 at least, so that most calls find it there and look at no
+    /// edge. Their numbers are then below 2^62; where those of all that room wouldn't be, it is refused as for want of memory: no
+    /// memory holds that many items.
     pub fn make_room(&mut self, items: u64) -> Result<(), OutOfMemory>
         ensures contents { contents_of self.new ≡ contents_of self.old }
         ensures room { OnOk result (HasRoom self.new.edges items) }

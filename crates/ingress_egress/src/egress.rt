@@ -148,12 +148,11 @@ impl Egress {
         ensures unchanged { OnErr result ((self.new ≡ self.old) × (out.new ≡ out.old)) }
         ensures some { 1 ≤ self.old.stages }
     {
-        if self.consumer.ready() {
+        if let Some(head) = self.consumer.least() {
             self.emitted.reserve(1)?;
-            if let Some(item) = self.consumer.next() {
-                let ended = emit(&mut self.emitted, item);
-                self.done = self.done || ended;
-            }
+            self.consumer.pass(&head);
+            let ended = emit(&mut self.emitted, head.item);
+            self.done = self.done || ended;
             return Ok(Worked::Did);
         }
         match self.consumer.report_due() {

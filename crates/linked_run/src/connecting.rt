@@ -6,8 +6,9 @@ ghost use Rattle.linked_run.specs.Linked.{AreDistinct, AreLinked, ids_of};
 ghost use Rattle.run_node.specs.NodeView.{NodeName};
 ghost use Rattle.std.specs.Prelude.{◌≡◌, ◌<◌, OnOk, Some, length, slice_get};
 
+use node_tasks::Acts;
 use plan_reader::Plan;
-use run_node::{Acts, Draft, Links, RunNames, Tap};
+use run_node::{Draft, Links, RunNames, Tap};
 use std::alloc::Global;
 use tuple_edge::{LinkId, OutOfMemory};
 

@@ -6,7 +6,8 @@ ghost use Rattle.std.specs.Prelude.{◌≡◌, ◌<◌, ℕ, All, length, map, s
 use crate::gate::Gate;
 use crate::worker::{Shared, work};
 use claim_board::{Board, BoardSeat};
-use run_node::{Acts, Links, Node, RunNames, Tap};
+use node_tasks::Acts;
+use run_node::{Links, Node, RunNames, Tap};
 use std::thread;
 use std::thread::Threads;
 use tuple_edge::MAX_THREADS;

@@ -12,7 +12,8 @@ use crate::gate::Gate;
 use crate::settling::settle_all;
 use crate::worker::Shared;
 use claim_board::{Board, BoardSeat};
-use run_node::{Acts, Links, Node, Part, RunNames, Tap};
+use node_tasks::Acts;
+use run_node::{Links, Node, Part, RunNames, Tap};
 use std::thread::Threads;
 
 // What is left of the nodes, in their order, and the tap of the last one that has one.

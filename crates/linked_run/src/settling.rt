@@ -6,7 +6,8 @@ ghost use Rattle.run_node.specs.Ends.{InLink};
 ghost use Rattle.run_node.specs.NodeView.{NodeView, name_of};
 ghost use Rattle.std.specs.Prelude.{◌≡◌, ◌<◌, MatchOption, None, Some, length, map, slice_get};
 
-use run_node::{Acts, Links, Node, RunNames, Tap};
+use node_tasks::Acts;
+use run_node::{Links, Node, RunNames, Tap};
 use tuple_edge::NodeId;
 
 // The place of the first node with an id.

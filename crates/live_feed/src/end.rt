@@ -2,7 +2,7 @@
 ghost use mathlib.Core.List.{IsPrefix};
 ghost use Rattle.live_feed.specs.Sides.{HasRun};
 ghost use Rattle.pair_machine.specs.Output.{output};
-ghost use Rattle.partition_runner.specs.Ran.{IsLegalLeft};
+ghost use Rattle.partition_runner.specs.Ran.{IsLegalLeft, emitted_in};
 ghost use Rattle.std.specs.Prelude.{IfOk, List, MatchResult};
 ghost use Rattle.trade_text.specs.TradesView.{inputs_in};
 ghost use Rattle.tuple_edge.specs.declared.row.Row.{Row};
@@ -24,7 +24,7 @@ pub(crate) fn end_of(
     left: Result<Left, OutOfMemory>,
 ) -> Result<Ended, OutOfMemory>
     requires { IfOk left (IsLegalLeft plan.now (inputs_in trades.now) script.now) }
-    ensures { (given : List Row) → MatchResult left (λ left. IsPrefix given left.egress.emitted) (λ _. IsPrefix given (output plan.now (inputs_in trades.now))) → HasRun plan.now (inputs_in trades.now) script.now given result }
+    ensures { (given : List Row) → MatchResult left (λ left. IsPrefix given (emitted_in left.nodes.items)) (λ _. IsPrefix given (output plan.now (inputs_in trades.now))) → HasRun plan.now (inputs_in trades.now) script.now given result }
 {
     match left {
         Ok(left) => finish_run(alloc, plan, trades, script, left),

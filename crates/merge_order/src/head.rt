@@ -8,9 +8,11 @@ use tuple_edge::Item;
 
 /// The first item that waits on the edge of a source.
 #[derive(Clone, Copy)]
-pub(crate) struct Head {
-    pub(crate) source: u32,
-    pub(crate) item: Item,
+pub struct Head {
+    /// The source, from 0.
+    pub source: u32,
+    /// The item.
+    pub item: Item,
 }
 
 /// Whether each queue has an item.

@@ -11,5 +11,6 @@ mod law;
 mod merge;
 mod queue;
 
+pub use head::Head;
 pub use law::{all_are_used, any_order_merges, edges_stay_in_order, gives_a_front};
 pub use merge::{Merge, Offer};

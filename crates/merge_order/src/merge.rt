@@ -7,7 +7,7 @@ ghost use Rattle.merge_order.specs.Merged.{items, merged, used};
 ghost use Rattle.merge_order.specs.MergeView.{ComesFirst, after_next, after_offer, all_wait, item_of, least, mark_of, offer_of, opening, starting, waiting_of};
 ghost use Rattle.merge_order.specs.StandsFor.{AllBelow, AllTaken, StandsFor};
 
-use crate::head::{all_waiting, least_head};
+use crate::head::{Head, all_waiting, least_head};
 use crate::queue::{Queue, pop_signs};
 use std::alloc::Global;
 use std::marker::Model;
@@ -154,14 +154,31 @@ impl Merge {
         self.take_offered(edge, number, item)
     }
 
-    /// What [`Merge::next`] would give; it stays where it is.
-    pub fn peek(&self) -> Option<Item>
-        ensures { result ≡ item_of (least self.now.waiting) }
+    /// The least head, where each edge has one. It stays where it is until [`Merge::pass`] takes it.
+    pub fn least(&self) -> Option<Head>
+        ensures value { result ≡ least self.now.waiting }
+        ensures known { IsSome result ↔ IsTrue (all_wait self.now.waiting) }
+        ensures first { IfSome result (ComesFirst self.now.waiting) }
+        // Over edges for which it stands.
+        ensures whole { (last : ℕ) (edges : List (List Item)) → AreEdges last edges → StandsFor last edges self.now
+            → AllTaken edges self.now → result ≡ None → self.now.count ≡ length (merged last edges) }
     {
-        match least_head(&self.waiting) {
-            None => None,
-            Some(head) => Some(head.item),
-        }
+        least_head(&self.waiting)
+    }
+
+    /// Takes the least head, which is this one, as the next item of the merged list.
+    pub fn pass(&mut self, head: &Head)
+        requires next { least self.old.waiting ≡ Some head.now }
+        requires room { self.old.count + 1 < number_limit }
+        ensures after { self.new ≡ after_next self.old }
+        ensures fewer { sum_by length self.new.waiting < sum_by length self.old.waiting }
+        // Over edges for which it stands.
+        ensures stands { (last : ℕ) (edges : List (List Item)) → AreEdges last edges → StandsFor last edges self.old
+            → StandsFor last edges self.new }
+        ensures in_order { (last : ℕ) (edges : List (List Item)) → AreEdges last edges → StandsFor last edges self.old
+            → slice_get (items (merged last edges)) self.old.count ≡ Some head.now.item }
+    {
+        self.take_head(head)
     }
 
     /// The next item of the merged list: the least head, where each edge has one.
@@ -180,7 +197,9 @@ impl Merge {
         ensures whole { (last : ℕ) (edges : List (List Item)) → AreEdges last edges → StandsFor last edges self.old
             → AllTaken edges self.old → result ≡ None → self.old.count ≡ length (merged last edges) }
     {
-        self.take_least()
+        let head = self.least()?;
+        self.pass(&head);
+        Some(head.item)
     }
 
     // Takes an item of an edge where its number follows the edge's mark.
@@ -203,20 +222,17 @@ impl Merge {
         Ok(Offer::Taken)
     }
 
-    // Takes the least head, where each edge has one, from its own edge or from each that has it.
-    fn take_least(&mut self) -> Option<Item>
-        requires room { IsTrue (all_wait self.old.waiting) → self.old.count + 1 < number_limit }
-        ensures gives { result ≡ item_of (least self.old.waiting) }
-        ensures after { self.new ≡ after_next self.old }
-        ensures some { 1 ≤ length self.old.waiting }
+    // Takes the least head, which is this one, from its own edge or from each that has it.
+    fn take_head(&mut self, head: &Head)
+        requires next { least self.old.waiting ≡ Some head.now }
+        requires room { self.old.count + 1 < number_limit }
+        ensures { self.new ≡ after_next self.old }
     {
-        let head = least_head(&self.waiting)?;
         match head.item {
             Item::Row { .. } => self.waiting[head.source as usize].pop(),
             Item::Mark { .. } | Item::End { .. } => pop_signs(&mut self.waiting, &head.item),
         }
         self.count += 1;
-        Some(head.item)
     }
 }
 

@@ -39,12 +39,10 @@ sent_more edges q p c start before after h old e =
     rw e (append_assoc before (packets_of (ack_due p q (c.acked q) (least c q))) (packets_of (acks_from (edges - (q + 1)) (q + 1) p c))
     ∙ ap (λ ms. before ++ ms) (sym (one_more edges q p c h)) ∙ old)
 
--- past the last in-edge all is sent
-pub sent_all : (edges q : ℕ) (p : Partition) (c : Controller) (start now : List (NodeId × Body)) → edges ≤ q →
+-- where none is due from an in-edge on all is sent
+pub sent_all : (edges q : ℕ) (p : Partition) (c : Controller) (start now : List (NodeId × Body)) → acks_from (edges - q) q p c ≡ [] →
     now ++ packets_of (acks_from (edges - q) q p c) ≡ start ++ packets_of (acks_from edges 0 p c) → now ≡ start ++ packets_of (acks_from edges 0 p c)
-sent_all edges q p c start now h e =
-    let none : 0 ≡ edges - q = omega arith in
-    sym (append-nil now) ∙ ap (λ n. now ++ packets_of (acks_from n q p c)) none ∙ e
+sent_all edges q p c start now none e = sym (append-nil now) ∙ ap (λ es. now ++ packets_of es) (sym none) ∙ e
 
 -- ---- numbers
 
@@ -62,12 +60,20 @@ left_more old now new edge v l e q h =
     (λ t. let s = eqb-true q edge t in absurd (omega arith))
     (λ t. l q (omega arith))
 
+-- past the last in-edge that may be due nothing changes, so all stand as the machine has them
+pub all_done : (c : ControllerView) (acked : List ℕ) (edge end : ℕ) → ((q : ℕ) → q < edge → slice_index acked q ≡ max (slice_index c.acked q) (least (numbers_of c) q)) →
+    ((q : ℕ) → edge ≤ q → slice_index acked q ≡ slice_index c.acked q) → ((q : ℕ) → end ≤ q → least (numbers_of c) q ≤ slice_index c.acked q) → end ≤ edge →
+    (q : ℕ) → slice_index acked q ≡ max (slice_index c.acked q) (least (numbers_of c) q)
+all_done c acked edge end done left behind le q =
+    if_elim (λ n. slice_index acked q ≡ max (slice_index c.acked q) (least (numbers_of c) q)) (nat_lt q edge) q q (λ t. done q (ltb-true q edge t))
+    (λ t. let past = ltb-false q edge t in let same = left q (omega arith) in let none = behind q (omega arith) in omega arith)
+
 pub least_is : (c : ControllerView) (a b : WatchedView) (known edge r : ℕ) → a ≡ c.a → b ≡ c.b → known ≡ slice_index c.acked edge →
     r ≡ least_of known a.status (slice_index a.reports edge) b.status (slice_index b.reports edge) → r ≡ least (numbers_of c) edge
 least_is c a b known edge r ea eb ek e =
     e ∙ (λ i. least_of (ek i) (ea i).status (slice_index (ea i).reports edge) (eb i).status (slice_index (eb i).reports edge))
 
-past_end : (xs : List ℕ) (q : ℕ) → length xs ≤ q → slice_index xs q ≡ 0
+pub past_end : (xs : List ℕ) (q : ℕ) → length xs ≤ q → slice_index xs q ≡ 0
 past_end [] q h = refl
 past_end (x ∷ xs) zero h = absurd (omega arith)
 past_end (x ∷ xs) (suc q) h = past_end xs q (omega arith)
@@ -101,6 +107,17 @@ numbers_done edges p c a b acked term leader ea eb et el la lb d l =
     all : (q : ℕ) → slice_index acked q ≡ max (slice_index c.acked q) (least (numbers_of c) q)
     all q = if_elim (λ n. slice_index acked q ≡ max (slice_index c.acked q) (least (numbers_of c) q)) (nat_lt q edges) q q
         (λ t. d q (ltb-true q edges t)) (λ t. l q (ltb-false q edges t) ∙ sym (least_past c q (let z = ltb-false q edges t in omega arith) (let z = ltb-false q edges t in omega arith)))
+
+pub raised_is : (k : ℕ) (a_status : Status) (a : ℕ) (b_status : Status) (b : ℕ) → max k (least_of k a_status a b_status b) ≡ raised k a_status a b_status b
+raised_is k status.Down a status.Down b = omega arith
+raised_is k status.Down a status.Up b = omega arith
+raised_is k status.Down a status.Catching b = omega arith
+raised_is k status.Up a status.Down b = omega arith
+raised_is k status.Up a status.Up b = omega arith
+raised_is k status.Up a status.Catching b = omega arith
+raised_is k status.Catching a status.Down b = omega arith
+raised_is k status.Catching a status.Up b = omega arith
+raised_is k status.Catching a status.Catching b = omega arith
 
 -- what is acknowledged never falls
 pub raised-grows : (k : ℕ) (a_status : Status) (a : ℕ) (b_status : Status) (b : ℕ) → k ≤ raised k a_status a b_status b

@@ -1,6 +1,7 @@
 pub mod Acknowledging
 pub mod Admission
 pub mod Courses
+pub mod Due
 pub mod Limits
 pub mod Receivers
 pub mod Room

@@ -1,10 +1,11 @@
 -- What contracts see of a controller, and the machine's numbers that it has.
-use Rattle.std.specs.Prelude.{◌≡◌, ◌≢◌, ◌≤◌, ◌⊎◌, ℕ, Bool, List, Option, MatchOption, length, max, slice_index}
+use Rattle.std.specs.Prelude.{◌≡◌, ◌≢◌, ◌<◌, ◌≤◌, ◌⊎◌, ℕ, Bool, List, Option, MatchOption, length, max, slice_index}
 use Rattle.tuple_edge.specs.declared.node.Which.{Which}
 use Rattle.tuple_edge.specs.declared.node.Which.TheVariants.{A, B}
 use Rattle.tuple_edge.specs.declared.status.Status.{Status}
 use Rattle.tuple_edge.specs.declared.status.Status.TheVariants as status
 use Rattle.pair_machine.specs.Consumers.{with_at}
+use Rattle.pair_machine.specs.Controllers.{least_of}
 use Rattle.pair_machine.specs.Numbers.{Controller, Partition, Watched}
 
 -- what a controller knows of one replica: its status and incarnation, what it reported of each in-edge, and whether it is to be
@@ -40,14 +41,26 @@ watched_of c w = by_which c.a c.b w
 abbrev pub IsLed : Option Which → Status → Status → Type 0
 IsLed leader a b = MatchOption leader ((a ≢ status.Up) × (b ≢ status.Up)) (λ w. by_which a b w ≡ status.Up)
 
--- What is true of each controller: it is of a stage, it has few in-edges and knows what either replica reported of each of them, and who
--- leads is up.
-pub record IsPairControl (stage : ℕ) (a b : WatchedView) (acked : List ℕ) (leader : Option Which) : Type 0 where
+-- of in-edge q at least the least report of the replicas that aren't down is acknowledged
+abbrev pub IsAcknowledged : WatchedView → WatchedView → List ℕ → ℕ → Type 0
+IsAcknowledged a b acked q =
+    least_of (slice_index acked q) a.status (slice_index a.reports q) b.status (slice_index b.reports q) ≤ slice_index acked q
+
+-- so it is of each in-edge but those from the first number up to below the end
+pub record AreAcknowledgedBut (a b : WatchedView) (acked : List ℕ) (first end : ℕ) : Type 0 where
+  pub others : (q : ℕ) → (q < first) ⊎ (end ≤ q) → IsAcknowledged a b acked q
+
+-- What is true of each controller: it is of a stage, it has few in-edges and knows what either replica reported of each of them, who
+-- leads is up, and only of the in-edges that it holds to be due more may be reported than is acknowledged.
+pub record IsPairControl (stage : ℕ) (a b : WatchedView) (acked : List ℕ) (leader : Option Which) (first_due end_due : ℕ) : Type 0 where
   pub stage_counts : 1 ≤ stage
   pub few_edges : length acked ≤ 8
   pub a_reports : length a.reports ≡ length acked
   pub b_reports : length b.reports ≡ length acked
   pub led : IsLed leader a.status b.status
+  pub due_from : first_due ≤ length acked
+  pub due_to : end_due ≤ length acked
+  pub acknowledged : AreAcknowledgedBut a b acked first_due end_due
 
 -- not both replicas are up
 abbrev pub IsOneAway : ControllerView → Type 0

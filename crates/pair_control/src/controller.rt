@@ -30,6 +30,10 @@ pub struct PairControl {
     acked: Vec<u64>,
     term: u64,
     leader: Option<Which>,
+    // Only of the in-edges from the first number up to below the end more may be reported than is
+    // acknowledged. A report adds its own edge to them, a replica that goes down adds all.
+    first_due: usize,
+    end_due: usize,
 }
 
 impl Model for PairControl {
@@ -47,12 +51,13 @@ impl Model for PairControl {
       leader = c.leader;
     } };
 
-    ghost invariant = { λ c. IsPairControl c.stage c.a c.b c.acked.items c.leader };
+    ghost invariant = { λ c. IsPairControl c.stage c.a c.b c.acked.items c.leader c.first_due c.end_due };
 }
 
 impl PairControl {
     /// The controller of a pair with so many in-edges, as it opens: both replicas are up in their first
     /// incarnation, replica A leads in term 1, and nothing is reported, acknowledged or wanted.
+    #[tactic(auto, using(crate::proofs::Due::nothing_yet))]
     pub fn new(alloc: Global, stage: u32, part: u32, edges: u32) -> Result<PairControl, OutOfMemory>
         requires stage { 1 ≤ stage }
         requires some { 1 ≤ edges }
@@ -76,6 +81,8 @@ impl PairControl {
             acked,
             term: 1,
             leader: Some(Which::A),
+            first_due: edges as usize,
+            end_due: 0,
         })
     }
 

@@ -1,5 +1,5 @@
 pub mod Timely
 pub mod Unlinked
-pub mod Sorted
+pub mod Kept
+pub mod Parts
 pub mod TapLaw
-pub mod Told

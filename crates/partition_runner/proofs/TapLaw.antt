@@ -1,11 +1,12 @@
--- A tap gave on the first rows of egress, and of the output.
-use Rattle.std.proofs.Common.{◌≡◌, ◌∙◌, inl, inr, ⊎_elim, Bool, true, false, List, [], ◌∷◌, ◌++◌, length, drop, refl, sym, ap, subst, append_assoc, true≢false}
+-- A tap gave on the first rows that egress emitted, and of the output.
+use Rattle.std.proofs.Common.{◌≡◌, ◌∙◌, ◌⊎◌, inl, inr, ⊎_elim, Bool, true, false, List, [], ◌∷◌, ◌++◌, length, drop, refl, sym, ap, subst, append_assoc, true≢false}
 use Rattle.std.specs.Prelude.{if◌then◌else◌}
 use Rattle.std.proofs.lemmas.List.{take-append-drop}
 use mathlib.Core.List.{IsPrefix}
 use Rattle.tuple_edge.specs.Input.{Input}
 use Rattle.tuple_edge.specs.declared.event.Stamped.{Stamped}
 use Rattle.tuple_edge.specs.declared.node.NodeId.{NodeId}
+use Rattle.tuple_edge.specs.declared.node.NodeId.TheVariants as node
 use Rattle.tuple_edge.specs.declared.row.Row.{Row}
 use Rattle.plan_reader.specs.PlanView.{PlanView}
 use Rattle.pair_machine.specs.CountLaws.{output_first}
@@ -18,14 +19,16 @@ use Rattle.pair_machine.specs.declared.order.Order.{Order}
 use Rattle.pair_machine.proofs.CountLaws.{in_order}
 use Rattle.pair_machine.proofs.Lists.{each_at}
 use Rattle.pair_machine.proofs.Logs.{logs_there}
-use Rattle.pair_machine.proofs.Names.{is_node-true, node_self}
-use Rattle.ingress_egress.specs.EgressView.{EgressView}
+use Rattle.pair_machine.proofs.Names.{is_node-true}
 use Rattle.plan_nodes.specs.NodeOrder.{nodes_of}
 use Rattle.linked_run.specs.Runs.{IsRun, history_in, ids_in}
 use Rattle.plan_nodes.specs.States.{StandsFor, id_of, rows_of}
 use Rattle.plan_nodes.specs.declared.state.NodeState.{NodeState}
 use Rattle.plan_nodes.specs.declared.state.NodeState.TheVariants as state
 use Rattle.plan_nodes.proofs.NodeOrder.{Apart, ids_distinct, nodes_apart}
+use Rattle.partition_runner.specs.Parts.{IsLeftOf, nodes_in}
+use Rattle.partition_runner.specs.Ran.{emitted_in}
+use Rattle.partition_runner.specs.declared.ran.Left.{Left}
 
 prefix_more : (xs ys zs : List Row) → IsPrefix xs ys → IsPrefix ys zs → IsPrefix xs zs
 prefix_more xs ys zs a b = (a.0 ++ b.0, sym (append_assoc xs a.0 b.0) ∙ (ap (λ l. l ++ b.0) a.1 ∙ b.1))
@@ -80,31 +83,31 @@ module _ (plan : PlanView) (inputs : List Input) (script : List Order) (parts : 
       prefix_more given (rows_of p.0) (output plan inputs) front
       (rows_front p.0 (q.reached.nodes (id_of p.0)) (each_at (λ (k : NodeState × List Stamped). StandsFor plan inputs k.0 (q.reached.nodes (id_of k.0))) p parts among q.stand))
 
-  -- no two parts are of one node
   among_ids : (p : NodeState × List Stamped) (ps : List (NodeState × List Stamped)) → Among p ps → Among (id_of p.0) (ids_in id_of ps)
   among_ids p [] a = a
   among_ids p (k ∷ ps) a = ⊎_elim (λ (e : p ≡ k). inl (ap (λ (x : NodeState × List Stamped). id_of x.0) e)) (λ later. inr (among_ids p ps later)) a
 
-  clash : (n : NodeId) (ns : List NodeId) → Each (λ m. is_node n m ≡ false) ns → Among n ns → ⊥
-  clash n [] e a = a
-  clash n (m ∷ ns) e a = ⊎_elim (λ (same : n ≡ m). true≢false (sym (node_self n) ∙ (ap (is_node n) same ∙ e.0))) (λ later. clash n ns e.1 later) a
+  -- another node than egress emits nothing
+  no_rows : (s : NodeState) → (id_of s ≡ node.Egress → ⊥) → rows_of s ≡ []
+  no_rows (state.Ingress i) other = refl
+  no_rows (state.Replica r) other = refl
+  no_rows (state.Control c) other = refl
+  no_rows (state.Egress e) other = absurd (other refl)
 
-  same_part : (ps : List (NodeState × List Stamped)) (p q : NodeState × List Stamped) → Apart (ids_in id_of ps) → Among p ps → Among q ps → id_of p.0 ≡ id_of q.0 → p ≡ q
-  same_part [] p q apart a b e = absurd a
-  same_part (k ∷ ps) p q apart a b e = ⊎_elim
-      (λ (i : p ≡ k). ⊎_elim (λ (j : q ≡ k). i ∙ sym j)
-      (λ (j : Among q ps). absurd (clash (id_of k.0) (ids_in id_of ps) apart.0 (subst (λ n. Among n (ids_in id_of ps)) (sym (sym (ap (λ (x : NodeState × List Stamped). id_of x.0) i) ∙ e)) (among_ids q ps j)))) b)
-      (λ (i : Among p ps). ⊎_elim
-      (λ (j : q ≡ k). absurd (clash (id_of k.0) (ids_in id_of ps) apart.0 (subst (λ n. Among n (ids_in id_of ps)) (e ∙ ap (λ (x : NodeState × List Stamped). id_of x.0) j) (among_ids p ps i))))
-      (λ (j : Among q ps). same_part ps p q apart.1 i j e) b) a
+  nothing_given : (given rows : List Row) (s : NodeState) → IsPrefix given (rows_of s) → (id_of s ≡ node.Egress → ⊥) → IsPrefix given rows
+  nothing_given given rows s front other = of_nothing given rows (subst (IsPrefix given) (no_rows s other) front)
 
-  pub tap_of_egress : (given : List Row) (p : NodeState × List Stamped) → Among p parts → IsPrefix given (rows_of p.0) → (e : EgressView) (h : List Stamped) → Among (state.Egress e, h) parts → IsPrefix given e.emitted
-  tap_of_egress given p among front e h there = go p.0 refl front
+  -- what begins the rows of one of these nodes, of which no two have one name, begins those of egress
+  tap_of_nodes : (given : List Row) (p : NodeState × List Stamped) (ps : List (NodeState × List Stamped)) → Apart (ids_in id_of ps) → Among p ps → IsPrefix given (rows_of p.0) → IsPrefix given (emitted_in (nodes_in ps))
+  tap_of_nodes given p [] apart among front = absurd among
+  tap_of_nodes given p (k ∷ ps) apart among front = go (is_node (id_of k.0) node.Egress) refl among (λ later. tap_of_nodes given p ps apart.1 later front)
     where
-      go : (s : NodeState) → p.0 ≡ s → IsPrefix given (rows_of s) → IsPrefix given e.emitted
-      go (state.Ingress i) is f = of_nothing given e.emitted f
-      go (state.Replica v) is f = of_nothing given e.emitted f
-      go (state.Control c) is f = of_nothing given e.emitted f
-      go (state.Egress x) is f =
-          let same : p ≡ (state.Egress e, h) = same_part parts p (state.Egress e, h) parts_apart among there (ap id_of is) in
-          subst (λ (k : NodeState × List Stamped). IsPrefix given (rows_of k.0)) same front
+      go : (b : Bool) → is_node (id_of k.0) node.Egress ≡ b → (p ≡ k) ⊎ Among p ps → (Among p ps → IsPrefix given (emitted_in (nodes_in ps))) → IsPrefix given (if b then rows_of k.0 else emitted_in (nodes_in ps))
+      go true e (inl same) rest = subst (λ (x : NodeState × List Stamped). IsPrefix given (rows_of x.0)) same front
+      go true e (inr later) rest = nothing_given given (rows_of k.0) p.0 front (λ is. true≢false (sym (ap (is_node (id_of k.0)) is ∙ e) ∙ each_at (λ m. is_node (id_of k.0) m ≡ false) (id_of p.0) (ids_in id_of ps) (among_ids p ps later) apart.0))
+      go false e (inl same) rest = nothing_given given (emitted_in (nodes_in ps)) p.0 front
+          (λ is. true≢false (sym (ap (λ n. is_node n node.Egress) (sym (ap (λ (x : NodeState × List Stamped). id_of x.0) same) ∙ is)) ∙ e))
+      go false e (inr later) rest = rest later
+
+  pub tap_of_left : (given : List Row) (p : NodeState × List Stamped) → Among p parts → IsPrefix given (rows_of p.0) → (left : Left) → IsLeftOf parts left → IsPrefix given (emitted_in left.nodes.items)
+  tap_of_left given p among front left of_parts = subst (λ ns. IsPrefix given (emitted_in ns)) (sym of_parts.nodes) (tap_of_nodes given p parts parts_apart among front)

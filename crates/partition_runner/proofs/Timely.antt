@@ -2,7 +2,7 @@
 use Rattle.std.proofs.lemmas.List.Elements.{All-weaker}
 use Rattle.tuple_edge.specs.declared.row.Row.{Row}
 use Rattle.stream_ops.specs.Times.{IsTime}
-use Rattle.run_node.specs.Timely.{AreTimely}
+use Rattle.node_tasks.specs.Timely.{AreTimely}
 use Rattle.trade_text.specs.TradesView.{IsInputRow, IsTrades, TradesView, inputs_in}
 use Rattle.trade_text.proofs.Sources.{each_row}
 

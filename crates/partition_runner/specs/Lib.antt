@@ -1,4 +1,4 @@
 pub mod Ran
 pub mod Drafts
 pub mod Ready
-pub mod Sorted
+pub mod Parts

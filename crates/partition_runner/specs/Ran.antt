@@ -5,6 +5,7 @@ use Rattle.tuple_edge.specs.declared.event.History.{History}
 use Rattle.tuple_edge.specs.declared.event.Stamped.{Stamped}
 use Rattle.tuple_edge.specs.declared.node.NodeId.{NodeId}
 use Rattle.tuple_edge.specs.declared.node.NodeId.TheVariants as node
+use Rattle.tuple_edge.specs.declared.row.Row.{Row}
 use Rattle.event_log.specs.Views.{LogView, named_histories, named_logs}
 use Rattle.plan_reader.specs.PlanView.{PlanView}
 use Rattle.pair_machine.specs.Counts.{flow_of}
@@ -15,30 +16,16 @@ use Rattle.pair_machine.specs.Machine.{State}
 use Rattle.pair_machine.specs.Numbers.{is_node}
 use Rattle.pair_machine.specs.Scripts.{AreWithin}
 use Rattle.pair_machine.specs.declared.order.Order.{Order}
-use Rattle.ingress_egress.specs.EgressStands as egress
-use Rattle.ingress_egress.specs.EgressView.{EgressView}
-use Rattle.ingress_egress.specs.IngressStands as ingress
-use Rattle.ingress_egress.specs.IngressView.{IngressView}
-use Rattle.pair_control.specs.ControllerView.{ControllerView}
-use Rattle.pair_control.specs.StandsFor as control
-use Rattle.replica_node.specs.ReplicaView.{ReplicaView, node_of}
-use Rattle.replica_node.specs.StandsFor as replica
-use Rattle.plan_nodes.specs.NodeOrder.{controls_of, nodes_of, replicas_of}
+use Rattle.plan_nodes.specs.NodeOrder.{nodes_of}
+use Rattle.plan_nodes.specs.States.{StandsFor, id_of, rows_of}
+use Rattle.plan_nodes.specs.declared.state.NodeState.{NodeState}
 use Rattle.partition_runner.specs.declared.ran.Left.{Left}
 use Rattle.partition_runner.specs.declared.ran.Ran.{Ran}
 
--- the nodes that a run leaves
-pub record NodesLeft : Type 0 where
-  pub ingress : IngressView
-  pub replicas : List ReplicaView
-  pub controls : List ControllerView
-  pub egress : EgressView
-
-abbrev pub nodes_left : Left → NodesLeft
-nodes_left left = record { ingress = left.ingress; replicas = left.replicas.items; controls = left.controls.items; egress = left.egress }
-
-abbrev pub nodes_ran : Ran → NodesLeft
-nodes_ran ran = record { ingress = ran.ingress; replicas = ran.replicas.items; controls = ran.controls.items; egress = ran.egress }
+-- the rows that egress emitted, as it is among these nodes
+abbrev pub emitted_in : List NodeState → List Row
+emitted_in [] = []
+emitted_in (n ∷ nodes) = if is_node (id_of n) node.Egress then rows_of n else emitted_in nodes
 
 -- the history of a node among some, each with its node; of a node that has none there, nothing happened
 abbrev pub history_among : {H : Type 0} → (H → NodeId) → (H → List Stamped) → List H → NodeId → List Stamped
@@ -51,39 +38,35 @@ history_in_logs logs = history_among (λ (l : LogView). l.node) (λ (l : LogView
 
 -- the same run, with the history of each node as a list
 pub record IsToldOf (left : Left) (ran : Ran) : Type 0 where
-  pub nodes : nodes_ran ran ≡ nodes_left left
+  pub nodes : ran.nodes.items ≡ left.nodes.items
   pub histories : named_histories ran.histories.items ≡ named_logs left.logs.items
 
 module _ (plan : PlanView) (inputs : List Input) (script : List Order) where
   -- each of the nodes stands for its numbers in a state of the machine
-  pub record AllStand (left : NodesLeft) (s : State) : Type 0 where
-    pub ingress : ingress.StandsFor plan inputs left.ingress (s.nodes node.Ingress)
-    pub replicas : Each (λ r. replica.StandsFor plan inputs r (s.nodes (node_of r.role))) left.replicas
-    pub controls : Each (λ c. control.StandsFor (flow_of plan inputs) c (s.nodes (control.node_of c))) left.controls
-    pub egress : egress.StandsFor plan inputs left.egress (s.nodes node.Egress)
+  abbrev pub AllStand : List NodeState → State → Type 0
+  AllStand nodes s = Each (λ n. StandsFor plan inputs n (s.nodes (id_of n))) nodes
 
   -- These events, from the opening on, are legal and within the script, and each node stands for its numbers in the state that they reach.
-  pub record ReachesNodes (left : NodesLeft) (log : List Logged) : Type 0 where
+  pub record ReachesNodes (nodes : List NodeState) (log : List Logged) : Type 0 where
     pub reached : State
     pub legal : IsLegal (flow_of plan inputs) (logged_events log) reached
     pub within : AreWithin (flow_of plan inputs) script (logged_events log)
-    pub stand : AllStand left reached
+    pub stand : AllStand nodes reached
 
-  -- What a run promises of its nodes, and of what happened at each, however that is kept. There is one history for each node of the plan, in
-  -- the order of nodes, with rising clocks, and the replicas and controllers are the plan's in that order. All events in the order of their
-  -- clocks are legal and within the script, and each node stands for its numbers in the state that they reach.
-  pub record IsLegalWith {H : Type 0} (node_in : H → NodeId) (entries_in : H → List Stamped) (left : NodesLeft) (kept : List H) : Type 0 where
+  -- What a run promises of its nodes, and of what happened at each, however that is kept. The nodes are those of the plan in their order, and
+  -- there is one history for each, with rising clocks. All events in the order of their clocks are legal and within the script, and each node
+  -- stands for its numbers in the state that they reach.
+  pub record IsLegalWith {H : Type 0} (node_in : H → NodeId) (entries_in : H → List Stamped) (nodes : List NodeState) (kept : List H) : Type 0 where
     pub histories : map node_in kept ≡ nodes_of plan
     pub distinct : AreDistinct (map node_in kept)
     pub rising : Each (λ h. AreRising (entries_in h)) kept
-    pub replicas : map (λ r. node_of r.role) left.replicas ≡ replicas_of plan
-    pub controls : map control.node_of left.controls ≡ controls_of plan
-    pub joint : (log : List Logged) → IsLog (history_among node_in entries_in kept) log → ReachesNodes left log
+    pub nodes_are : map id_of nodes ≡ nodes_of plan
+    pub joint : (log : List Logged) → IsLog (history_among node_in entries_in kept) log → ReachesNodes nodes log
 
   -- what is promised of a run whose histories are logs
   abbrev pub IsLegalLeft : Left → Type 0
-  IsLegalLeft left = IsLegalWith (λ (l : LogView). l.node) (λ (l : LogView). l.entries) (nodes_left left) left.logs.items
+  IsLegalLeft left = IsLegalWith (λ (l : LogView). l.node) (λ (l : LogView). l.entries) left.nodes.items left.logs.items
 
   -- what is promised of a run whose histories are lists
   abbrev pub IsLegalRun : Ran → Type 0
-  IsLegalRun ran = IsLegalWith (λ (h : History). h.node) (λ (h : History). h.entries.items) (nodes_ran ran) ran.histories.items
+  IsLegalRun ran = IsLegalWith (λ (h : History). h.node) (λ (h : History). h.entries.items) ran.nodes.items ran.histories.items

@@ -10,8 +10,8 @@ use Rattle.linked_run.specs.Linked.{AreLinked, ids_of}
 use Rattle.plan_nodes.specs.NodeOrder.{nodes_of}
 use Rattle.run_node.specs.NodeView.{NodeName}
 use Rattle.linked_run.specs.Runs.{any_tapped}
-use Rattle.partition_runner.specs.Sorted.{AreSorted}
-use Rattle.partition_runner.specs.declared.sorting.Sorted.{Sorted}
+use Rattle.partition_runner.specs.Parts.{IsLeftOf}
+use Rattle.partition_runner.specs.declared.ran.Left.{Left}
 
 -- these are the plan's nodes in their order, each in-link is another one's link to it, and one has a tap
 pub record AreNodesOf (plan : PlanView) (names : List NodeName) : Type 0 where
@@ -25,8 +25,8 @@ pub record HaveTheirLinks (plan : PlanView) (names : List NodeName) : Type 0 whe
   pub leads : Each (λ m. LeadsToAll plan m (nodes_of plan)) names
 
 -- all nodes of a plan, by their names, are on a board with its seats, and there is room for what is left of so many nodes: a list
--- of this length and capacity, and one for each kind
-pub record IsReady {T : Type 0} (name : T → NodeName) (plan : PlanView) (board : Board T) (given : List (BoardSeat T)) (places held capacity : ℕ) (kinds : Sorted) : Type 0 where
+-- of this length and capacity, and one of nodes and of logs
+pub record IsReady {T : Type 0} (name : T → NodeName) (plan : PlanView) (board : Board T) (given : List (BoardSeat T)) (places held capacity : ℕ) (left : Left) : Type 0 where
   pub some : 0 < places
   pub opened : length (opening_of board) ≡ places
   pub seats : AreAll board given
@@ -34,4 +34,4 @@ pub record IsReady {T : Type 0} (name : T → NodeName) (plan : PlanView) (board
   pub nodes : AreNodesOf plan (map name (opening_of board))
   pub empty : held ≡ 0
   pub room : places ≤ capacity
-  pub sorted : AreSorted [] kinds
+  pub left_room : IsLeftOf [] left

@@ -1,9 +1,9 @@
 //! The runner: the nodes of a plan, linked, and turned by workers on threads under a failure script.
 //!
 //! Each worker takes one node after another off a board, gives it a turn and puts it back. Whatever the workers, the links
-//! and the script did, a run that finds memory gives one history for each node of the plan, with rising clocks; all events
-//! in the order of their clocks are legal and within the script, and each node stands for its numbers in the state that
-//! they reach. A tap beside egress gave on a front of its rows; where there was no memory, a front of the plan's output.
+//! and the script did, a run that finds memory gives the nodes of the plan in their order, and one history for each, with
+//! rising clocks; all events in the order of their clocks are legal and within the script, and each node stands for its
+//! numbers in the state that they reach. A tap beside egress gave on a front of its rows; where there was no memory, a front of the plan's output.
 //! How far a run comes is not promised.
 //!
 //! It stands on `plan_nodes` for the nodes of a plan, on `linked_run`, which links nodes and turns them on a `claim_board`, on
@@ -16,7 +16,6 @@ mod ran;
 mod ready;
 mod rings;
 mod runs;
-mod sorting;
 
 pub use linked_run::{FreeGate, Gate};
 pub use lossy_rings::LossyRings;

@@ -4,7 +4,7 @@ ghost use Rattle.partition_runner.specs.Drafts.{all_unlinked, unlinked};
 ghost use Rattle.partition_runner.specs.Ready.{AreNodesOf, HaveTheirLinks};
 ghost use Rattle.plan_reader.specs.Nodes.{has_node};
 ghost use Rattle.plan_reader.specs.PlanView.{IsPlan};
-ghost use Rattle.run_node.specs.Timely.{AreTimely};
+ghost use Rattle.node_tasks.specs.Timely.{AreTimely};
 ghost use Rattle.run_node.specs.NodeView.{name_of};
 ghost use Rattle.plan_nodes.specs.States.{id_of};
 ghost use Rattle.std.specs.Prelude.{◌≡◌, ◌≤◌, [], true, IfOk, IfSome, IsTrue, is_some, map, vec_capacity, vec_len};

@@ -2,13 +2,13 @@
 ghost use Rattle.pair_machine.specs.Lists.{Each};
 ghost use Rattle.plan_nodes.specs.NodeOrder.{nodes_of};
 ghost use Rattle.linked_run.specs.Runs.{IsRun, TapOfSome, parts_in};
-ghost use Rattle.partition_runner.specs.Sorted.{AreSorted};
+ghost use Rattle.partition_runner.specs.Parts.{IsLeftOf};
 ghost use Rattle.plan_nodes.specs.States.{StandsFor, id_of, rows_of};
 ghost use Rattle.std.specs.Prelude.{◌≡◌, ◌≤◌, ◌<◌, [], IfOk, Some, vec_capacity, vec_len};
 ghost use Rattle.trade_text.specs.TradesView.{inputs_in};
 
 use crate::making::make_nodes;
-use crate::sorting::Sorted;
+use crate::ran::Left;
 use claim_board::{Board, BoardSeat};
 use failure_script::Script;
 use linked_run::{Gate, Shared, run_linked};
@@ -23,22 +23,22 @@ use std::thread::Threads;
 use trade_text::Trades;
 use tuple_edge::OutOfMemory;
 
-// Room for what is left of the nodes of a plan: in their order, and kind by kind.
+// Room for what is left of the nodes of a plan: as it comes off the board, and as nodes and logs.
 #[derive(Drop)]
 struct Room {
     parts: Vec<Part<NodeState>>,
-    sorted: Sorted,
+    left: Left,
 }
 
 impl Room {
     // Room for so many nodes.
     fn new(alloc: Global, nodes: usize) -> Result<Room, OutOfMemory>
         ensures parts { IfOk result (λ room. (vec_len room.parts ≡ 0) × (nodes ≤ vec_capacity room.parts)) }
-        ensures sorted { IfOk result (λ room. AreSorted [] room.sorted) }
+        ensures left { IfOk result (λ room. IsLeftOf [] room.left) }
     {
         let parts = Vec::with_capacity(alloc, nodes)?;
-        let sorted = Sorted::with_room(alloc, nodes)?;
-        Ok(Room { parts, sorted })
+        let left = Left::with_room(alloc, nodes)?;
+        Ok(Room { parts, left })
     }
 }
 
@@ -63,7 +63,7 @@ impl<N: RunNames, M: Links, T: Tap> Model for Ready<N, M, T> {
 
     ghost view = { λ r. map (name_of id_of) (opening_of r.board) };
 
-    ghost invariant = { λ r. IsReady (name_of id_of) N.plan r.board r.seats.items r.places (vec_len r.room.parts) (vec_capacity r.room.parts) r.room.sorted };
+    ghost invariant = { λ r. IsReady (name_of id_of) N.plan r.board r.seats.items r.places (vec_len r.room.parts) (vec_capacity r.room.parts) r.room.left };
 }
 
 /// Makes the nodes, their links and the board for so many workers.
@@ -94,12 +94,12 @@ pub(crate) fn make_ready<N: RunNames, M: Links, T: Tap + Send>(
     })
 }
 
-/// What a run that has ended leaves: its nodes with their histories, in the order of nodes, room for them kind
-/// by kind, the tap, and whether a worker found no memory.
+/// What a run that has ended leaves: its nodes with their histories, in the order of nodes, room for them as nodes
+/// and logs, the tap, and whether a worker found no memory.
 #[derive(Drop)]
 pub(crate) struct Ended<T: Tap> {
     pub(crate) parts: Vec<Part<NodeState>>,
-    pub(crate) room: Sorted,
+    pub(crate) room: Left,
     pub(crate) tap: T,
     pub(crate) failed: bool,
 }
@@ -121,7 +121,7 @@ pub(crate) fn run_ready<N: RunNames, M: Links, T: Tap + Send, R: Threads + Sync,
     ensures run { IsRun id_of StandsFor N.plan N.inputs N.script (nodes_of N.plan) (parts_in result.parts.items) }
     ensures tap { TapOfSome T.given rows_of (Some result.tap) (parts_in result.parts.items) }
     ensures named { Each (λ p. p.history.node ≡ id_of p.state) result.parts.items }
-    ensures room { AreSorted [] result.room }
+    ensures room { IsLeftOf [] result.room }
 {
     // This call's clause says that a plan is within the limits.
     let _stages = plan.stages();
@@ -131,7 +131,7 @@ pub(crate) fn run_ready<N: RunNames, M: Links, T: Tap + Send, R: Threads + Sync,
         places,
         room,
     } = ready;
-    let Room { parts, sorted } = room;
+    let Room { parts, left } = room;
     let shared = Shared {
         plan,
         script,
@@ -144,7 +144,7 @@ pub(crate) fn run_ready<N: RunNames, M: Links, T: Tap + Send, R: Threads + Sync,
     let failed = shared.failed.load(SeqCst);
     Ended {
         parts,
-        room: sorted,
+        room: left,
         tap,
         failed,
     }

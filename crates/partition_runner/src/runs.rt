@@ -1,7 +1,7 @@
 // Runs: over rings, over any links, and with a tap beside egress.
 ghost use mathlib.Core.List.{IsPrefix};
 ghost use Rattle.pair_machine.specs.Output.{output};
-ghost use Rattle.partition_runner.specs.Ran.{IsLegalLeft, IsLegalRun};
+ghost use Rattle.partition_runner.specs.Ran.{IsLegalLeft, IsLegalRun, emitted_in};
 ghost use Rattle.std.specs.Prelude.{◌≡◌, ◌≤◌, [], IfOk, MatchResult};
 ghost use Rattle.trade_text.specs.TradesView.{inputs_in};
 ghost use Rattle.tuple_edge.specs.Limits.{max_threads};
@@ -9,7 +9,6 @@ ghost use Rattle.tuple_edge.specs.Limits.{max_threads};
 use crate::ran::{Left, Ran};
 use crate::ready::{Ended, Ready, make_ready, run_ready};
 use crate::rings::Rings;
-use crate::sorting::left_of;
 use failure_script::Script;
 use linked_run::Gate;
 use plan_reader::Plan;
@@ -62,7 +61,7 @@ fn run_named<N: RunNames, M: Links, T: Tap + Send, R: Threads + Sync, G: Gate>(
     requires plan { plan.now ≡ N.plan }
     requires script { script.now ≡ N.script }
     ensures run { IfOk result.0 (IsLegalLeft N.plan N.inputs N.script) }
-    ensures tap { MatchResult result.0 (λ left. IsPrefix (T.given result.1) left.egress.emitted) (λ _. IsPrefix (T.given result.1) (output N.plan N.inputs)) }
+    ensures tap { MatchResult result.0 (λ left. IsPrefix (T.given result.1) (emitted_in left.nodes.items)) (λ _. IsPrefix (T.given result.1) (output N.plan N.inputs)) }
 {
     let Ended {
         parts,
@@ -73,7 +72,7 @@ fn run_named<N: RunNames, M: Links, T: Tap + Send, R: Threads + Sync, G: Gate>(
     if failed {
         return (Err(OutOfMemory), tap);
     }
-    let left = left_of::<N>(room, parts);
+    let left = room.filled(parts);
     (left, tap)
 }
 
@@ -97,7 +96,7 @@ pub fn run_tapped<R: Threads + Sync, G: Gate, N: RunNames, T: Tap + Send>(
     requires trades { inputs_in trades.now ≡ N.inputs }
     requires script { script.now ≡ N.script }
     ensures run { IfOk result.0 (IsLegalLeft plan.now (inputs_in trades.now) script.now) }
-    ensures tap { MatchResult result.0 (λ left. IsPrefix (T.given result.1) left.egress.emitted) (λ _. IsPrefix (T.given result.1) (output plan.now (inputs_in trades.now))) }
+    ensures tap { MatchResult result.0 (λ left. IsPrefix (T.given result.1) (emitted_in left.nodes.items)) (λ _. IsPrefix (T.given result.1) (output plan.now (inputs_in trades.now))) }
 {
     // The trades are those of the names that it was made ready under.
     let _rows = trades.rows();

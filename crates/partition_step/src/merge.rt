@@ -1,6 +1,6 @@
 // The step: the next merged item, the operator's answer to it, and what is produced for it.
 ghost use Rattle.flux_producer.specs.ProducerView.{contents_of};
-ghost use Rattle.merge_order.specs.MergeView.{item_of, least};
+ghost use Rattle.merge_order.specs.MergeView.{least};
 ghost use Rattle.op_spec.specs.Times.{IsTimely};
 ghost use Rattle.partition_step.specs.Answering.{HasParts, targets_of};
 ghost use Rattle.partition_step.specs.Merging.{Merges};
@@ -12,6 +12,7 @@ use crate::Task;
 use crate::answer::{emit_answer, make_room};
 use flux_consumer::Consumer;
 use flux_producer::Producer;
+use merge_order::Head;
 use stream_ops::{OpSpec, OpState};
 use tuple_edge::{Item, OutOfMemory, Row};
 
@@ -27,8 +28,8 @@ fn answer_room(op: &OpSpec, state: &OpState, item: &Item) -> u64
     }
 }
 
-/// Merges the next item, which is this one, and produces what answers it. All room is made first: after
-/// want of memory only the room of the edges, and of `rows`, may have changed. `rows` is where the
+/// Merges the next item, which is that of this head, and produces what answers it. All room is made first:
+/// after want of memory only the room of the edges, and of `rows`, may have changed. `rows` is where the
 /// operator's answer is put; nothing of what was in it is used.
 pub fn merge_next(
     consumer: &mut Consumer,
@@ -36,26 +37,27 @@ pub fn merge_next(
     producer: &mut Producer,
     task: &Task,
     rows: &mut Vec<Row>,
-    item: Item,
+    head: Head,
 ) -> Result<(), OutOfMemory>
-    requires next { item_of (least consumer.old.merge.waiting) ≡ Some item }
+    requires next { least consumer.old.merge.waiting ≡ Some head }
     requires fits { consumer.old.merge.count + 1 < number_limit }
-    requires timely { IsTimely item }
+    requires timely { IsTimely head.item }
     requires op { state.old.spec ≡ task.now.op }
     requires parts { HasParts task.now.next }
     requires targets { length producer.old.edges ≡ targets_of task.now.next }
-    ensures merges { OnOk result (Merges task.now.next item
+    ensures merges { OnOk result (Merges task.now.next head.item
         (record { consumer = consumer.old; state = state.old; producer = producer.old })
         (record { consumer = consumer.new; state = state.new; producer = producer.new })) }
     ensures consumer { OnErr result (consumer.new ≡ consumer.old) }
     ensures state { OnErr result (state.new ≡ state.old) }
     ensures producer { OnErr result (contents_of producer.new ≡ contents_of producer.old) }
 {
+    let item = head.item;
     let room = answer_room(&task.op, state, &item).saturating_add(1);
     make_room(producer, room)?;
     rows.clear();
     state.step(item, rows)?;
-    let _merged = consumer.next();
+    consumer.pass(&head);
     emit_answer(producer, &task.next, item, rows);
     Ok(())
 }

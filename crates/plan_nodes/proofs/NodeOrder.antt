@@ -259,7 +259,7 @@ stages_more k (x ∷ ss) s =
 pub stage_next : (s n : ℕ) → stage_nodes s (n + 1) ≡ stage_nodes s n ++ pair_nodes s n
 stage_next s n = let one : n + 1 ≡ suc n = omega arith in ap (stage_nodes s) one
 
-length_take : (ss : List Stage) (i : ℕ) → i ≤ length ss → length (take i ss) ≡ i
+pub length_take : (ss : List Stage) (i : ℕ) → i ≤ length ss → length (take i ss) ≡ i
 length_take [] zero l = refl
 length_take [] (suc i) l = absurd (omega arith)
 length_take (s ∷ ss) zero l = refl
@@ -269,6 +269,12 @@ take_one : (ss : List Stage) (i : ℕ) (d : Stage) → i < length ss → take (s
 take_one [] i d l = absurd (omega arith)
 take_one (s ∷ ss) zero d l = refl
 take_one (s ∷ ss) (suc i) d l = ap (λ xs. s ∷ xs) (take_one ss i d (omega arith))
+
+-- the first so many elements and the next one
+pub take_next_of : (ss : List Stage) (i : ℕ) (s : Stage) → slice_get ss i ≡ Some s → take (suc i) ss ≡ take i ss ++ s ∷ []
+take_next_of [] i s at = let z : ⊥ = cc at in absurd z
+take_next_of (x ∷ ss) zero s at = let e : x ≡ s = cc at in ap (λ y. y ∷ []) e
+take_next_of (x ∷ ss) (suc i) s at = ap (λ xs. x ∷ xs) (take_next_of ss i s at)
 
 pub next_stage : (ids ids_after : List NodeId) (ss : List Stage) (place : ℕ) (d : Stage) → place < length ss → ids ≡ node.Ingress ∷ stages_nodes 1 (take place ss) →
     ids_after ≡ ids ++ stage_nodes (place + 1) (get_or ss place d).parts → ids_after ≡ node.Ingress ∷ stages_nodes 1 (take (place + 1) ss)

@@ -6,6 +6,10 @@ use Rattle.tuple_edge.specs.declared.node.NodeId.TheVariants as node
 use Rattle.tuple_edge.specs.declared.node.Which.TheVariants.{A, B}
 use Rattle.plan_reader.specs.PlanView.{PlanView}
 use Rattle.plan_reader.specs.declared.stage.Stage.{Stage}
+use Rattle.std.specs.List.{flat_map}
+use Rattle.pair_machine.specs.Drain.{pairs_up_to}
+use Rattle.pair_machine.specs.Flow.{Flow}
+use Rattle.pair_machine.specs.Numbers.{Partition, control_at, replica_at}
 
 abbrev pub pair_nodes : ℕ → ℕ → List NodeId
 pair_nodes stage part = node.Replica stage part A ∷ node.Replica stage part B ∷ node.Control stage part ∷ []
@@ -26,6 +30,16 @@ nodes_before_egress plan = node.Ingress ∷ stages_nodes 1 plan.stages
 
 abbrev pub nodes_of : PlanView → List NodeId
 nodes_of plan = nodes_before_egress plan ++ node.Egress ∷ []
+
+-- ---- in the machine's words
+
+-- the nodes of a partition's pair
+abbrev pub nodes_at : Partition → List NodeId
+nodes_at p = replica_at p A ∷ replica_at p B ∷ control_at p ∷ []
+
+-- the nodes of a plan with these numbers
+abbrev pub nodes_in : Flow → List NodeId
+nodes_in f = node.Ingress ∷ flat_map nodes_at (pairs_up_to f f.stages) ++ node.Egress ∷ []
 
 -- ---- of one kind
 

@@ -1,9 +1,8 @@
 -- A node's own part, of any of the four kinds: its name, the plans that it is of, the numbers that it stands for, and what it may do.
-use Rattle.std.specs.Prelude.{◌≡◌, ◌≢◌, ◌≤◌, ◌<◌, ◌-◌, ℕ, Bool, false, List, [], ◌++◌, Option, None, Some, Result, Ok, OnErr, length}
-use mathlib.Core.List.{IsPrefix}
+use Rattle.std.specs.Prelude.{◌≡◌, ◌≤◌, ◌<◌, ◌-◌, ℕ, Bool, false, List, [], ◌++◌, Option, None, Some, Result, Ok, Err, OnErr, length, replicate}
 use Rattle.tuple_edge.specs.Input.{Input}
 use Rattle.tuple_edge.specs.declared.event.Worked.{Worked}
-use Rattle.tuple_edge.specs.declared.event.Worked.TheVariants.{Did, Idle}
+use Rattle.tuple_edge.specs.declared.event.Worked.TheVariants.{Did}
 use Rattle.tuple_edge.specs.declared.item.Item.{Item}
 use Rattle.tuple_edge.specs.declared.node.NodeId.{NodeId}
 use Rattle.tuple_edge.specs.declared.node.NodeId.TheVariants as node
@@ -13,28 +12,28 @@ use Rattle.tuple_edge.specs.declared.row.Row.{Row}
 use Rattle.tuple_edge.specs.declared.memory.OutOfMemory.{OutOfMemory}
 use Rattle.merge_order.specs.MergeView.{item_of, least}
 use Rattle.flux_producer.specs.ProducerView.{ProducerView, buffer_at}
-use Rattle.plan_reader.specs.PlanView.{PlanView}
+use Rattle.plan_reader.specs.PlanView.{IsPlan, PlanView}
 use Rattle.pair_machine.specs.Counts.{flow_of}
-use Rattle.pair_machine.specs.Machine.{at_node}
+use Rattle.pair_machine.specs.Machine.{does}
+use Rattle.pair_machine.specs.Messages.{Act, AsksBack, AsksStop, Dies, Makes, NoMoreRows, NotRunning, NothingDue, Refusal, Works}
 use Rattle.pair_machine.specs.Numbers.{Node}
-use Rattle.pair_machine.specs.Receivers.{GoOverLinks, appended}
+use Rattle.pair_machine.specs.Receivers.{appended}
 use Rattle.ingress_egress.specs.EgressStands as egress
 use Rattle.ingress_egress.specs.EgressView.{EgressView, MayWork}
 use Rattle.ingress_egress.specs.IngressStands as ingress
-use Rattle.ingress_egress.specs.IngressView.{IngressView, producer_at}
+use Rattle.ingress_egress.specs.IngressView.{IngressView, contents_in as ingress_contents, producer_at}
 use Rattle.pair_control.specs.Admitted as control_admitted
 use Rattle.pair_control.specs.ControllerView.{ControllerView}
 use Rattle.pair_control.specs.StandsFor as control
 use Rattle.replica_node.specs.Admitted as replica_admitted
-use Rattle.replica_node.specs.Phases.{mode_in}
 use Rattle.replica_node.specs.ReplicaView.{ReplicaView, node_of}
 use Rattle.replica_node.specs.Rules as rules
+use Rattle.replica_node.specs.Rules.{contents_in as replica_contents}
 use Rattle.replica_node.specs.StandsFor as replica
-use Rattle.replica_node.specs.declared.phase.Mode.TheVariants as mode
-use Rattle.tuple_edge.specs.Limits.{most_packets}
-use Rattle.run_node.specs.Tasks.{DoesStep, event_of}
-use Rattle.run_node.specs.declared.acts.Task.{Task}
-use Rattle.run_node.specs.declared.acts.Task.TheVariants as task
+use Rattle.node_tasks.specs.Acted.{HasActed}
+use Rattle.node_tasks.specs.Steps.{DoesMake, StepByStep}
+use Rattle.node_tasks.specs.declared.task.Task.{Task}
+use Rattle.node_tasks.specs.declared.task.Task.TheVariants as task
 use Rattle.plan_nodes.specs.declared.state.NodeState.{NodeState}
 use Rattle.plan_nodes.specs.declared.state.NodeState.TheVariants as state
 
@@ -59,12 +58,30 @@ StandsFor plan inputs (state.Replica r) x = replica.StandsFor plan inputs r x
 StandsFor plan inputs (state.Control c) x = control.StandsFor (flow_of plan inputs) c x
 StandsFor plan inputs (state.Egress e) x = egress.StandsFor plan inputs e x
 
+-- another stands for all numbers for which one stands, under each plan and its inputs
+abbrev pub StandsLike : NodeState → NodeState → Type 0
+StandsLike old new = (plan : PlanView) (inputs : List Input) (x : Node) → StandsFor plan inputs old x → StandsFor plan inputs new x
+
 -- the rows that it emitted: only egress emits rows
 abbrev pub rows_of : NodeState → List Row
 rows_of (state.Ingress i) = []
 rows_of (state.Replica r) = []
 rows_of (state.Control c) = []
 rows_of (state.Egress e) = e.emitted
+
+-- the inputs that it makes into items: only ingress has any
+abbrev pub inputs_in : NodeState → List Input
+inputs_in (state.Ingress i) = i.inputs
+inputs_in (state.Replica r) = []
+inputs_in (state.Control c) = []
+inputs_in (state.Egress e) = []
+
+-- it, with the room of its edges left aside
+abbrev pub contents_of : NodeState → NodeState
+contents_of (state.Ingress i) = state.Ingress (ingress_contents i)
+contents_of (state.Replica r) = state.Replica (replica_contents r)
+contents_of (state.Control c) = state.Control c
+contents_of (state.Egress e) = state.Egress e
 
 -- whether it has merged the end of its input: only egress is asked
 abbrev pub has_merged_end : NodeState → Bool
@@ -87,6 +104,10 @@ WantsRows plan (state.Replica r) = ⊥
 WantsRows plan (state.Control c) = ⊥
 WantsRows plan (state.Egress e) = ⊥
 
+-- so many makes, one after another, before each of which rows were wanted under this plan; they send nothing
+abbrev pub HasMade : PlanView → NodeState → NodeState → ℕ → Type 0
+HasMade plan old new count = StepByStep (DoesMake id_of IsOfPlan StandsFor (WantsRows plan)) old new (replicate count [])
+
 -- ---- what it may do
 
 abbrev pub IngressMay : IngressView → Task → Type 0
@@ -98,10 +119,7 @@ IngressMay i t = ⊥
 abbrev pub ReplicaMay : ReplicaView → Task → Type 0
 ReplicaMay r (task.Take from index packet) = replica_admitted.IsAdmitted r from packet.body
 ReplicaMay r task.Work = replica_admitted.MayWorkIn r.phase
-ReplicaMay r task.Make = ⊥
-ReplicaMay r task.Kill = mode_in r.phase ≢ mode.Gone
-ReplicaMay r task.AskStop = mode_in r.phase ≡ mode.Running
-ReplicaMay r task.AskBack = mode_in r.phase ≡ mode.Running
+ReplicaMay r t = Unit {0}
 
 abbrev pub ControlMay : ControllerView → Task → Type 0
 ControlMay c (task.Take from index packet) = control_admitted.IsAdmitted c from packet.body
@@ -110,7 +128,7 @@ ControlMay c t = ⊥
 abbrev pub EgressMay : EgressView → Task → Type 0
 EgressMay e (task.Take from index packet) = egress.IsAdmitted e from packet.body
 EgressMay e task.Work = MayWork e
-EgressMay e t = ⊥
+EgressMay e t = Unit {0}
 
 abbrev pub MayDo : NodeState → Task → Type 0
 MayDo (state.Ingress i) t = IngressMay i t
@@ -120,22 +138,46 @@ MayDo (state.Egress e) t = EgressMay e t
 
 -- ---- what it does
 
--- what came of a task: a step of the machine, or nothing
-pub record HasActed (old new : NodeState) (t : Task) (result : Result Worked OutOfMemory) (packets : List (NodeId × Body)) : Type 0 where
-  pub here : result ≡ Ok Did → at_node (event_of (id_of old) t) ≡ id_of old
-  pub step : result ≡ Ok Did → DoesStep id_of StandsFor t old new packets
-  pub few : result ≡ Ok Did → length packets ≤ most_packets
-  pub linked : result ≡ Ok Did → (plan : PlanView) → IsOfPlan plan old → GoOverLinks plan (id_of old) packets
-  pub idle : result ≡ Ok Idle → (new ≡ old) × (packets ≡ [])
-  pub unsent : OnErr result (packets ≡ [])
-  pub unchanged : OnErr result ((plan : PlanView) (inputs : List Input) (x : Node) → StandsFor plan inputs old x → StandsFor plan inputs new x)
-  pub id : id_of new ≡ id_of old
-  pub of_plan : (plan : PlanView) → IsOfPlan plan old → IsOfPlan plan new
-  pub rows : IsPrefix (rows_of old) (rows_of new)
+-- What came of a task, as the trait says. Where memory lacked only the room of its edges may differ, and the inputs stay.
+pub record HasDone (old new : NodeState) (t : Task) (result : Result Worked OutOfMemory) (packets : List (NodeId × Body)) : Type 0 where
+  pub acted : HasActed id_of IsOfPlan StandsFor rows_of old new t result packets
+  pub contents : OnErr result (contents_of new ≡ contents_of old)
+  pub inputs : inputs_in new ≡ inputs_in old
 
--- what came of a packet that this node sent, under whatever index: it was taken, or left where it may not be given
-abbrev pub HasTaken : NodeState → NodeState → NodeId → Packet → Result Worked OutOfMemory → List (NodeId × Body) → Type 0
-HasTaken old new from packet result packets = (index : ℕ) → HasActed old new (task.Take from index packet) result packets
+-- What came of a task where packets may lie in the outbox already: they stay, and what the node sent lies behind them.
+pub record HasActedBehind (old new : NodeState) (t : Task) (result : Result Worked OutOfMemory) (before after : List (NodeId × Body)) : Type 0 where
+  pub done : HasDone old new t result (appended before after)
+  pub packets : after ≡ before ++ appended before after
+
+-- The same of a packet that a node sent to this one, under whatever index: it was taken, or left where it may not be given.
+pub record HasTaken (old new : NodeState) (from : NodeId) (packet : Packet) (result : Result Worked OutOfMemory) (before after : List (NodeId × Body)) : Type 0 where
+  pub done : (index : ℕ) → HasDone old new (task.Take from index packet) result (appended before after)
+  pub packets : after ≡ before ++ appended before after
+
+-- ---- where it did nothing
+
+-- it may not be given this packet, under whatever index it was sent
+abbrev pub MayNotTake : NodeState → NodeId → Packet → Type 0
+MayNotTake s from packet = (index : ℕ) → MayDo s (task.Take from index packet) → ⊥
+
+-- the machine refuses an act of a node, whatever numbers it stands for, for this reason
+abbrev pub Refuses : NodeState → Act → Refusal → Type 0
+Refuses s a reason = (plan : PlanView) (inputs : List Input) → IsPlan plan → (x : Node) → StandsFor plan inputs s x → does (flow_of plan inputs) (id_of s) a x ≡ Err reason
+
+-- why the machine refuses to make of a node: ingress made all inputs, and no other node has any
+abbrev pub no_inputs_at : NodeId → Refusal
+no_inputs_at node.Ingress = NoMoreRows
+no_inputs_at n = NothingDue
+
+-- Where a node did nothing: a packet is one that it may not be given, and any other task the machine refuses too, but for work where marks were
+-- left for later.
+abbrev pub IsIdle : ℕ → NodeState → Task → Type 0
+IsIdle rise s (task.Take from index packet) = MayDo s (task.Take from index packet) → ⊥
+IsIdle rise s task.Work = rise ≤ 1 → Refuses s Works NothingDue
+IsIdle rise s task.Make = Refuses s Makes (no_inputs_at (id_of s))
+IsIdle rise s task.Kill = Refuses s Dies NotRunning
+IsIdle rise s task.AskStop = Refuses s AsksStop NotRunning
+IsIdle rise s task.AskBack = Refuses s AsksBack NotRunning
 
 -- ---- pieces of work
 
@@ -153,6 +195,6 @@ packets_of_work (state.Egress e) = acks_unless_merged (item_of (least e.consumer
 
 -- What came of a piece of work: a step of the machine, whose packets were appended and are as many as such a piece sends; or nothing.
 pub record HasWorkedOnce (old new : NodeState) (result : Result Worked OutOfMemory) (before after : List (NodeId × Body)) : Type 0 where
-  pub acted : HasActed old new task.Work result (appended before after)
+  pub done : HasDone old new task.Work result (appended before after)
   pub packets : after ≡ before ++ appended before after
   pub as_many : result ≡ Ok Did → length (appended before after) ≡ packets_of_work old

@@ -1,6 +1,9 @@
 // The nodes of a plan, in their order.
-ghost use Rattle.plan_nodes.specs.NodeOrder.{nodes_before_egress, pair_nodes, stage_nodes};
-ghost use Rattle.std.specs.Prelude.{◌≡◌, ◌++◌, ◌∷◌, [], IfOk, OnOk};
+ghost use Rattle.plan_nodes.specs.NodeOrder.{nodes_before_egress, nodes_in, nodes_of, pair_nodes, stage_nodes};
+ghost use Rattle.pair_machine.specs.Counts.{flow_of};
+ghost use Rattle.plan_reader.specs.Nodes.{has_node};
+ghost use Rattle.std.specs.Prelude.{◌≡◌, ◌++◌, ◌∷◌, [], All, IfOk, IsTrue, List, OnOk};
+ghost use Rattle.tuple_edge.specs.Input.{Input};
 
 use plan_reader::Plan;
 use std::alloc::Global;
@@ -16,6 +19,17 @@ pub fn nodes_before_egress(alloc: Global, plan: &Plan) -> Result<Vec<NodeId>, Ou
     for place in 0..stages.len() {
         push_stage(&mut ids, place as u32 + 1, stages[place].parts)?;
     }
+    Ok(ids)
+}
+
+/// All nodes of a plan, in their order.
+pub fn nodes_of(alloc: Global, plan: &Plan) -> Result<Vec<NodeId>, OutOfMemory>
+    ensures value { IfOk result (λ ids. ids.items ≡ nodes_of plan.now) }
+    ensures machine { IfOk result (λ ids. (inputs : List Input) → ids.items ≡ nodes_in (flow_of plan.now inputs)) }
+    ensures there { IfOk result (λ ids. All (λ n. IsTrue (has_node plan.now n)) ids.items) }
+{
+    let mut ids = nodes_before_egress(alloc, plan)?;
+    ids.push(NodeId::Egress)?;
     Ok(ids)
 }
 

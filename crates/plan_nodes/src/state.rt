@@ -4,20 +4,20 @@ ghost use Rattle.pair_machine.specs.Numbers.{Node};
 ghost use Rattle.pair_machine.specs.Scripts.{HasMerged};
 ghost use Rattle.plan_reader.specs.PlanView.{PlanView};
 ghost use Rattle.replica_node.specs.StandsFor as replica;
-ghost use Rattle.plan_nodes.specs.States.{ControlMay, EachHoldsFew, EgressMay, HasActed, HoldsFew, IngressMay, IsOfPlan, MayDo, ReplicaMay, StandsFor, WantsRows, has_merged_end, id_of, rows_of};
+ghost use Rattle.plan_nodes.specs.States.{HasActedBehind, IsIdle, IsOfPlan, MayDo, StandsFor, WantsRows, has_merged_end, id_of, rows_of};
 ghost use Rattle.tuple_edge.specs.Limits.{most_packets};
-ghost use Rattle.plan_nodes.specs.declared.state.NodeState.TheVariants as state;
-ghost use Rattle.std.specs.Prelude.{◌≡◌, ◌≤◌, ◌↔◌, [], IfSome, IsTrue, List};
+ghost use Rattle.std.specs.Prelude.{◌≡◌, ◌≤◌, IfSome, List, Ok};
 ghost use Rattle.tuple_edge.specs.Input.{Input};
+ghost use Rattle.tuple_edge.specs.declared.event.Worked.TheVariants.{Idle};
 
-use crate::taking::{control_takes, egress_takes, ingress_takes, replica_takes};
-use crate::working::{egress_works, ingress_works, replica_works};
-use flux_producer::Producer;
+use crate::acts::{control_acts, egress_acts, ingress_acts, replica_acts};
+use crate::making::ingress_makes;
+use crate::may::{control_may, egress_may, ingress_may, replica_may};
 use ingress_egress::{Egress, Ingress};
+use node_tasks::{Acts, Steps, Task};
 use pair_control::PairControl;
 use plan_reader::Plan;
 use replica_node::{Mode, Replica};
-use run_node::{Acts, Steps, Task};
 use tuple_edge::{MOST_PACKETS, NodeId, OutOfMemory, Outbox, Packet, Row, Worked};
 
 /// A node's own part: what it is, without its links and its history.
@@ -31,6 +31,30 @@ pub enum NodeState {
     Control(PairControl),
     /// Where the rows go out.
     Egress(Egress),
+}
+
+impl NodeState {
+    /// Does what it is asked: the machine's step, whose packets lie behind those that the outbox has. Idle where there is
+    /// nothing to do, as the machine says too, but for a packet that it may not be given, and for work that is nothing but to
+    /// report marks of which none rose by `rise` since it was told.
+    pub fn do_task(
+        &mut self,
+        task: &Task,
+        rise: u64,
+        out: &mut Outbox,
+    ) -> Result<Worked, OutOfMemory>
+        requires may { MayDo self.old task.now }
+        requires room { most_packets ≤ out.old.spare }
+        ensures acted { HasActedBehind self.old self.new task.now result out.old.packets out.new.packets }
+        ensures idle { result ≡ Ok Idle → IsIdle rise self.old task.now }
+    {
+        match self {
+            NodeState::Ingress(node) => ingress_acts(node, task, out),
+            NodeState::Replica(node) => replica_acts(node, task, rise, out),
+            NodeState::Control(node) => control_acts(node, task, out),
+            NodeState::Egress(node) => egress_acts(node, task, out),
+        }
+    }
 }
 
 impl Acts for NodeState {
@@ -67,12 +91,7 @@ impl Acts for NodeState {
     }
 
     fn act(&mut self, task: &Task, rise: u64, out: &mut Outbox) -> Result<Worked, OutOfMemory> {
-        match self {
-            NodeState::Ingress(node) => ingress_acts(node, task, out),
-            NodeState::Replica(node) => replica_acts(node, task, rise, out),
-            NodeState::Control(node) => control_acts(node, task, out),
-            NodeState::Egress(node) => egress_acts(node, task, out),
-        }
+        self.do_task(task, rise, out)
     }
 
     fn take(
@@ -103,6 +122,13 @@ impl Acts for NodeState {
         Ok(Steps { count: most, each })
     }
 
+    fn make(&mut self, most: usize, plan: &Plan) -> Result<usize, OutOfMemory> {
+        match self {
+            NodeState::Ingress(node) => ingress_makes(node, most, plan),
+            NodeState::Replica(_) | NodeState::Control(_) | NodeState::Egress(_) => Ok(0),
+        }
+    }
+
     fn merged(&self) -> Option<u64> {
         match self {
             NodeState::Replica(node) => merged_by(node),
@@ -117,135 +143,11 @@ impl Acts for NodeState {
         }
     }
 
-    fn wants_rows(&self, plan: &Plan) -> bool {
-        match self {
-            NodeState::Ingress(node) => holds_few(node, plan.hold()),
-            NodeState::Replica(_) | NodeState::Control(_) | NodeState::Egress(_) => false,
-        }
-    }
-
     fn emitted(&self) -> &[Row] {
         match self {
             NodeState::Egress(node) => node.emitted(),
             NodeState::Ingress(_) | NodeState::Replica(_) | NodeState::Control(_) => &[],
         }
-    }
-}
-
-// Whether ingress may do it.
-fn ingress_may(node: &Ingress, task: &Task) -> bool
-    ensures { IsTrue result → IngressMay node.now task.now }
-{
-    match task {
-        Task::Take { from, packet, .. } => node.may_take(*from, &packet.body),
-        Task::Work | Task::Make => true,
-        Task::Kill | Task::AskStop | Task::AskBack => false,
-    }
-}
-
-// Whether a replica may do it.
-fn replica_may(node: &Replica, task: &Task) -> bool
-    ensures { IsTrue result → ReplicaMay node.now task.now }
-{
-    match task {
-        Task::Take { from, packet, .. } => node.may_take(*from, &packet.body),
-        Task::Work => node.may_work(),
-        Task::Make => false,
-        Task::Kill | Task::AskStop | Task::AskBack => node.mode() == Mode::Running,
-    }
-}
-
-// Whether a controller may do it.
-fn control_may(node: &PairControl, task: &Task) -> bool
-    ensures { IsTrue result → ControlMay node.now task.now }
-{
-    match task {
-        Task::Take { from, packet, .. } => node.may_take(*from, &packet.body),
-        Task::Work | Task::Make | Task::Kill | Task::AskStop | Task::AskBack => false,
-    }
-}
-
-// Whether egress may do it.
-fn egress_may(node: &Egress, task: &Task) -> bool
-    ensures { IsTrue result → EgressMay node.now task.now }
-{
-    match task {
-        Task::Take { from, packet, .. } => node.may_take(*from, &packet.body),
-        Task::Work => node.may_work(),
-        Task::Make | Task::Kill | Task::AskStop | Task::AskBack => false,
-    }
-}
-
-// Ingress takes a packet, works or makes.
-fn ingress_acts(node: &mut Ingress, task: &Task, out: &mut Outbox) -> Result<Worked, OutOfMemory>
-    requires empty { out.old.packets ≡ [] }
-    ensures { HasActed (state.Ingress node.old) (state.Ingress node.new) task.now result out.new.packets }
-{
-    match task {
-        Task::Take { from, packet, .. } => ingress_takes(node, *from, packet),
-        Task::Work => ingress_works(node, out),
-        Task::Make => node.make(),
-        Task::Kill | Task::AskStop | Task::AskBack => Ok(Worked::Idle),
-    }
-}
-
-// A replica takes a packet, works, fails or asks.
-fn replica_acts(
-    node: &mut Replica,
-    task: &Task,
-    rise: u64,
-    out: &mut Outbox,
-) -> Result<Worked, OutOfMemory>
-    requires may { ReplicaMay node.old task.now }
-    requires empty { out.old.packets ≡ [] }
-    requires room { most_packets ≤ out.old.spare }
-    ensures { HasActed (state.Replica node.old) (state.Replica node.new) task.now result out.new.packets }
-{
-    match task {
-        Task::Take { from, packet, .. } => replica_takes(node, *from, packet, out),
-        Task::Work => replica_works(node, rise, out),
-        Task::Make => Ok(Worked::Idle),
-        Task::Kill => {
-            node.kill(out);
-            Ok(Worked::Did)
-        }
-        Task::AskStop => {
-            node.ask_stop(out);
-            Ok(Worked::Did)
-        }
-        Task::AskBack => {
-            node.ask_back(out);
-            Ok(Worked::Did)
-        }
-    }
-}
-
-// A controller takes a packet; it has no work.
-fn control_acts(
-    node: &mut PairControl,
-    task: &Task,
-    out: &mut Outbox,
-) -> Result<Worked, OutOfMemory>
-    requires empty { out.old.packets ≡ [] }
-    requires room { most_packets ≤ out.old.spare }
-    ensures { HasActed (state.Control node.old) (state.Control node.new) task.now result out.new.packets }
-{
-    match task {
-        Task::Take { from, packet, .. } => control_takes(node, *from, packet, out),
-        Task::Work | Task::Make | Task::Kill | Task::AskStop | Task::AskBack => Ok(Worked::Idle),
-    }
-}
-
-// Egress takes a packet or works.
-fn egress_acts(node: &mut Egress, task: &Task, out: &mut Outbox) -> Result<Worked, OutOfMemory>
-    requires may { EgressMay node.old task.now }
-    requires empty { out.old.packets ≡ [] }
-    ensures { HasActed (state.Egress node.old) (state.Egress node.new) task.now result out.new.packets }
-{
-    match task {
-        Task::Take { from, packet, .. } => egress_takes(node, *from, packet),
-        Task::Work => egress_works(node, out),
-        Task::Make | Task::Kill | Task::AskStop | Task::AskBack => Ok(Worked::Idle),
     }
 }
 
@@ -258,29 +160,4 @@ fn merged_by(node: &Replica) -> Option<u64>
     } else {
         None
     }
-}
-
-// Whether each edge of ingress holds fewer items than this.
-fn holds_few(node: &Ingress, hold: u64) -> bool
-    ensures { IsTrue result ↔ EachHoldsFew hold node.now }
-{
-    for source in 0..node.sources() {
-        if !edges_hold_few(node.producer(source), hold) {
-            return false;
-        }
-    }
-    true
-}
-
-// Whether each edge of a producer holds fewer items than this.
-fn edges_hold_few(producer: &Producer, hold: u64) -> bool
-    ensures { IsTrue result ↔ HoldsFew hold producer.now }
-{
-    for target in 0..producer.edges() {
-        let buffer = producer.buffer(target);
-        if buffer.produced().saturating_sub(buffer.low()) >= hold {
-            return false;
-        }
-    }
-    true
 }

@@ -1,8 +1,9 @@
 // One call takes a packet, by reference, where the node may be given it. Else nothing is done.
-ghost use Rattle.plan_nodes.specs.States.{HasTaken};
+ghost use Rattle.plan_nodes.specs.States.{HasTaken, MayNotTake};
 ghost use Rattle.plan_nodes.specs.declared.state.NodeState.TheVariants as state;
+ghost use Rattle.tuple_edge.specs.declared.event.Worked.TheVariants.{Idle};
 ghost use Rattle.tuple_edge.specs.Limits.{most_packets};
-ghost use Rattle.std.specs.Prelude.{◌≡◌, ◌≤◌, []};
+ghost use Rattle.std.specs.Prelude.{◌≡◌, ◌≤◌, [], Ok};
 
 use crate::NodeState;
 use ingress_egress::{Egress, Ingress};
@@ -18,9 +19,9 @@ impl NodeState {
         packet: &Packet,
         out: &mut Outbox,
     ) -> Result<Worked, OutOfMemory>
-        requires empty { out.old.packets ≡ [] }
         requires room { most_packets ≤ out.old.spare }
-        ensures { HasTaken self.old self.new from packet.now result out.new.packets }
+        ensures taken { HasTaken self.old self.new from packet.now result out.old.packets out.new.packets }
+        ensures left { result ≡ Ok Idle → MayNotTake self.old from packet.now }
     {
         match self {
             NodeState::Ingress(node) => ingress_takes(node, from, packet),
@@ -32,12 +33,14 @@ impl NodeState {
 }
 
 // Ingress takes an acknowledgement or a want. It sends nothing.
+#[tactic(auto, using(crate::proofs::Acting::not_taken, crate::proofs::Acting::take_failed))]
 pub(crate) fn ingress_takes(
     node: &mut Ingress,
     from: NodeId,
     packet: &Packet,
 ) -> Result<Worked, OutOfMemory>
-    ensures { HasTaken (state.Ingress node.old) (state.Ingress node.new) from packet.now result [] }
+    ensures taken { HasTaken (state.Ingress node.old) (state.Ingress node.new) from packet.now result [] [] }
+    ensures left { result ≡ Ok Idle → MayNotTake (state.Ingress node.old) from packet.now }
 {
     if !node.may_take(from, &packet.body) {
         return Ok(Worked::Idle);
@@ -47,14 +50,15 @@ pub(crate) fn ingress_takes(
 }
 
 // A replica takes an item, an acknowledgement, a want, a part of a move or a word of its controller.
+#[tactic(auto, using(crate::proofs::Acting::not_taken, crate::proofs::Acting::take_failed))]
 pub(crate) fn replica_takes(
     node: &mut Replica,
     from: NodeId,
     packet: &Packet,
     out: &mut Outbox,
 ) -> Result<Worked, OutOfMemory>
-    requires empty { out.old.packets ≡ [] }
-    ensures { HasTaken (state.Replica node.old) (state.Replica node.new) from packet.now result out.new.packets }
+    ensures taken { HasTaken (state.Replica node.old) (state.Replica node.new) from packet.now result out.old.packets out.new.packets }
+    ensures left { result ≡ Ok Idle → MayNotTake (state.Replica node.old) from packet.now }
 {
     if !node.may_take(from, &packet.body) {
         return Ok(Worked::Idle);
@@ -64,15 +68,16 @@ pub(crate) fn replica_takes(
 }
 
 // A controller takes what its replicas tell it.
+#[tactic(auto, using(crate::proofs::Acting::not_taken, crate::proofs::Acting::take_failed))]
 pub(crate) fn control_takes(
     node: &mut PairControl,
     from: NodeId,
     packet: &Packet,
     out: &mut Outbox,
 ) -> Result<Worked, OutOfMemory>
-    requires empty { out.old.packets ≡ [] }
     requires room { most_packets ≤ out.old.spare }
-    ensures { HasTaken (state.Control node.old) (state.Control node.new) from packet.now result out.new.packets }
+    ensures taken { HasTaken (state.Control node.old) (state.Control node.new) from packet.now result out.old.packets out.new.packets }
+    ensures left { result ≡ Ok Idle → MayNotTake (state.Control node.old) from packet.now }
 {
     if !node.may_take(from, &packet.body) {
         return Ok(Worked::Idle);
@@ -82,12 +87,14 @@ pub(crate) fn control_takes(
 }
 
 // Egress takes an item. It sends nothing.
+#[tactic(auto, using(crate::proofs::Acting::not_taken, crate::proofs::Acting::take_failed))]
 pub(crate) fn egress_takes(
     node: &mut Egress,
     from: NodeId,
     packet: &Packet,
 ) -> Result<Worked, OutOfMemory>
-    ensures { HasTaken (state.Egress node.old) (state.Egress node.new) from packet.now result [] }
+    ensures taken { HasTaken (state.Egress node.old) (state.Egress node.new) from packet.now result [] [] }
+    ensures left { result ≡ Ok Idle → MayNotTake (state.Egress node.old) from packet.now }
 {
     if !node.may_take(from, &packet.body) {
         return Ok(Worked::Idle);

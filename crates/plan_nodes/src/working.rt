@@ -1,10 +1,12 @@
 // One piece of a node's work, and how many packets it sends, which is known before it is done.
 ghost use Rattle.merge_order.specs.MergeView.{item_of, least};
-ghost use Rattle.plan_nodes.specs.States.{EgressMay, HasWorkedOnce, MayDo, ReplicaMay, acks_unless_merged, packets_of_work};
+ghost use Rattle.pair_machine.specs.Messages.{NothingDue, Works};
+ghost use Rattle.plan_nodes.specs.States.{EgressMay, HasWorkedOnce, MayDo, Refuses, ReplicaMay, acks_unless_merged, packets_of_work};
 ghost use Rattle.plan_nodes.specs.declared.state.NodeState.TheVariants as state;
 ghost use Rattle.replica_node.specs.Rules as rules;
-ghost use Rattle.run_node.specs.declared.acts.Task.TheVariants as task;
-ghost use Rattle.std.specs.Prelude.{◌≡◌, ◌≤◌, is_some};
+ghost use Rattle.node_tasks.specs.declared.task.Task.TheVariants as task;
+ghost use Rattle.std.specs.Prelude.{◌≡◌, ◌≤◌, Ok, is_some};
+ghost use Rattle.tuple_edge.specs.declared.event.Worked.TheVariants.{Idle};
 
 use crate::NodeState;
 use flux_consumer::Consumer;
@@ -13,7 +15,7 @@ use replica_node::Replica;
 use tuple_edge::{OutOfMemory, Outbox, Worked};
 
 impl NodeState {
-    // How many packets the next piece of work sends, where there is one. A controller has none.
+    // How many packets the next piece of work sends, where there is one. A controller has no work, and 1 is said of it.
     pub(crate) fn packets_of_work(&self) -> usize
         ensures value { result ≡ packets_of_work self.now }
         ensures few { result ≤ 2 }
@@ -71,7 +73,8 @@ fn has_next(consumer: &Consumer) -> bool
 
 // Ingress sends what is due.
 pub(crate) fn ingress_works(node: &mut Ingress, out: &mut Outbox) -> Result<Worked, OutOfMemory>
-    ensures { HasWorkedOnce (state.Ingress node.old) (state.Ingress node.new) result out.old.packets out.new.packets }
+    ensures worked { HasWorkedOnce (state.Ingress node.old) (state.Ingress node.new) result out.old.packets out.new.packets }
+    ensures idle { result ≡ Ok Idle → Refuses (state.Ingress node.old) Works NothingDue }
 {
     node.work(out)
 }
@@ -83,7 +86,8 @@ pub(crate) fn replica_works(
     out: &mut Outbox,
 ) -> Result<Worked, OutOfMemory>
     requires may { ReplicaMay node.old task.Work }
-    ensures { HasWorkedOnce (state.Replica node.old) (state.Replica node.new) result out.old.packets out.new.packets }
+    ensures worked { HasWorkedOnce (state.Replica node.old) (state.Replica node.new) result out.old.packets out.new.packets }
+    ensures idle { result ≡ Ok Idle → rise ≤ 1 → Refuses (state.Replica node.old) Works NothingDue }
 {
     node.work_or_wait(rise, out)
 }
@@ -91,7 +95,8 @@ pub(crate) fn replica_works(
 // Egress merges, or acknowledges.
 pub(crate) fn egress_works(node: &mut Egress, out: &mut Outbox) -> Result<Worked, OutOfMemory>
     requires may { EgressMay node.old task.Work }
-    ensures { HasWorkedOnce (state.Egress node.old) (state.Egress node.new) result out.old.packets out.new.packets }
+    ensures worked { HasWorkedOnce (state.Egress node.old) (state.Egress node.new) result out.old.packets out.new.packets }
+    ensures idle { result ≡ Ok Idle → Refuses (state.Egress node.old) Works NothingDue }
 {
     node.work(out)
 }

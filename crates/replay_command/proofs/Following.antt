@@ -13,10 +13,11 @@ use Rattle.pair_machine.specs.Machine.{State, egress_in, follow, opening, step}
 use Rattle.pair_machine.specs.Messages.{NoMoreRows, NotHeld, NotRunning, NotSent, NothingDue, Refusal}
 use Rattle.pair_machine.proofs.MachineLaws.{plan_opens_sound}
 use Rattle.run_journal.specs.declared.lined.Lined.{Lined}
-use Rattle.flux_core.specs.CoreView.{CoreView, flow_in, inputs_of}
+use Rattle.flux_core.specs.CoreView.{CoreView, emitted_by, flow_in, inputs_of}
 use Rattle.flux_core.specs.Follows.{IsFollowed, IsStopped, events_of}
 use Rattle.flux_core.specs.Refusals.{IsRefusal}
 use Rattle.flux_core.specs.Stands.{StandsFor}
+use Rattle.flux_core.proofs.Placed.{emitted_so}
 use Rattle.flux_core.specs.declared.apply.Stopped.{Stopped}
 use Rattle.flux_core.specs.declared.error.ApplyError.{ApplyError}
 use Rattle.flux_core.specs.declared.error.ApplyError.TheVariants as error
@@ -74,13 +75,13 @@ module _ (plan : PlanView) (inputs : List Input) (symbols : List (List ℕ)) (na
   same_flow = λ j. flow_of (old_plan j) (old_inputs j)
 
   -- the text of the state that it reached
-  pub replays_whole : IsFollowed old new (events_of lines) → (text : List ℕ) → ((s : State) → StandsFor new s → text ≡ state_text (flow_in new) s symbols new.egress.emitted) → replays name feed lines ≡ Writes text
+  pub replays_whole : IsFollowed old new (events_of lines) → (text : List ℕ) → ((s : State) → StandsFor new s → text ≡ state_text (flow_in new) s symbols (emitted_by new)) → replays name feed lines ≡ Writes text
   replays_whole h text is =
       let z = h.goes opening opens (plan_opens_sound old.plan (inputs_of old) limits) in
       let reached = subst (λ f. follow f (events_of lines) (Ok opening) ≡ Ok z.0) same_flow z.1 in
       let new_plan : new.plan ≡ plan = h.plan ∙ old_plan in
       let new_inputs : inputs_of new ≡ inputs = h.inputs ∙ old_inputs in
-      let emitted : new.egress.emitted ≡ output_first new.plan (inputs_of new) (egress_in (z.0.nodes node.Egress)).count = (z.3 node.Egress (tt, tt)).content.1.emitted in
+      let emitted : emitted_by new ≡ output_first new.plan (inputs_of new) (egress_in (z.0.nodes node.Egress)).count = emitted_so new z.0 z.3 in
       let text_is : text ≡ text_in feed z.0 =
       is z.0 z.3 ∙ ap (state_text (flow_in new) z.0 symbols) emitted
       ∙ (λ j. state_text (flow_of (new_plan j) (new_inputs j)) z.0 symbols (output_first (new_plan j) (new_inputs j) (egress_in (z.0.nodes node.Egress)).count)) in

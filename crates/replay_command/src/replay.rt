@@ -6,7 +6,7 @@ ghost use Rattle.command_course.specs.Steps.{IsRefusedBy, OnlyReads, StopsOf};
 ghost use Rattle.command_course.specs.Lines.{line_of};
 ghost use Rattle.text_words.specs.Messages.{at_line};
 ghost use Rattle.replay_command.specs.Replaying.{error_text};
-ghost use Rattle.flux_core.specs.CoreView.{flow_in, inputs_of};
+ghost use Rattle.flux_core.specs.CoreView.{emitted_by, flow_in, inputs_of};
 ghost use Rattle.flux_core.specs.Follows.{AreNamed};
 ghost use Rattle.flux_core.specs.Stands.{StandsFor};
 ghost use Rattle.pair_machine.specs.Machine.{State, opening};
@@ -107,7 +107,7 @@ fn refusal(alloc: Global, name: &str, stopped: Stopped) -> Result<Vec<u8>, Stop>
 // The text of the state that a core stands for, where want of memory is why the command stops.
 fn written(alloc: Global, core: &Core, trades: &Trades) -> Result<Vec<u8>, Stop>
     ensures text { IfOk result (λ text. (s : State) → StandsFor core.now s
-        → text.items ≡ state_text (flow_in core.now) s trades.now.symbols core.now.egress.emitted) }
+        → text.items ≡ state_text (flow_in core.now) s trades.now.symbols (emitted_by core.now)) }
     ensures want { IfErr result (λ stop. stop ≡ Stop.OutOfMemory) }
 {
     let text = write_state(core, alloc, trades)?;

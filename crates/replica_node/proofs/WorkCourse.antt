@@ -85,12 +85,12 @@ waited_worked (Ok worked.Did) rise P sure = λ did. sure tt
 waited_worked (Ok worked.Idle) rise P sure = λ did. let z : ⊥ = cc in absurd z
 waited_worked (Err e) rise P sure = tt
 
-pub waited_done : (r : Result Worked OutOfMemory) (old new : ReplicaView) (sent : List (NodeId × Body))
+pub waited_done : (r : Result Worked OutOfMemory) (rise : ℕ) (old new : ReplicaView) (sent : List (NodeId × Body))
     → ((plan : PlanView) (rows : List Input) → IsPlan plan → IsOfPlan plan old.role → (r : Running) (x : RunningNumbers) → IsRunning old.role r → MergesSo plan rows old.role r x)
-    → IsReplica old → IfOk r (λ w. w ≡ worked.Did → IsWorkOf old new sent w) → IfOk r (λ w. w ≡ worked.Did → (plan : PlanView) (rows : List Input) → IsPlan plan → IsWorked plan rows old new sent w)
-waited_done (Ok w) old new sent merges sound work = λ did plan rows is_plan.
-    work_course plan rows is_plan old new sent w (λ x r of_plan running. merges plan rows is_plan of_plan r x running) sound (work did)
-waited_done (Err e) old new sent merges sound work = tt
+    → IsReplica old → IfOk r (λ w. IsSure rise w → IsWorkOf old new sent w) → IfOk r (λ w. IsSure rise w → (plan : PlanView) (rows : List Input) → IsPlan plan → IsWorked plan rows old new sent w)
+waited_done (Ok w) rise old new sent merges sound work = λ sure plan rows is_plan.
+    work_course plan rows is_plan old new sent w (λ x r of_plan running. merges plan rows is_plan of_plan r x running) sound (work sure)
+waited_done (Err e) rise old new sent merges sound work = tt
 
 -- what waited sent nothing
 pub waited_linked : (r : Result Worked OutOfMemory) (old new : ReplicaView) (before after : OutboxView) → IsReplica old → IfOk r (λ w. w ≡ worked.Did → IsWorkOf old new (appended before.packets after.packets) w)

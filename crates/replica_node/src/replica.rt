@@ -152,7 +152,7 @@ impl Replica {
             → GoOverLinks plan (node_of self.old.role) (appended out.old.packets out.new.packets) }
         ensures role { self.new.role ≡ self.old.role }
         // For the machine's laws, in each plan.
-        ensures course { IfOk result (λ w. w ≡ Did → (plan : PlanView) (rows : List Input) → IsPlan plan
+        ensures course { IfOk result (λ w. IsSure rise w → (plan : PlanView) (rows : List Input) → IsPlan plan
             → IsWorked plan rows self.old self.new (appended out.old.packets out.new.packets) w) }
     {
         self.do_first(rise, out)

@@ -1,7 +1,7 @@
 // The work of a replica that runs: it merges, gives its state to its partner, sends and reports.
 ghost use Rattle.flux_consumer.specs.ConsumerView.{report_of, told_of};
 ghost use Rattle.flux_producer.specs.Due.{due_of};
-ghost use Rattle.merge_order.specs.MergeView.{item_of, least, mark_of};
+ghost use Rattle.merge_order.specs.MergeView.{least, mark_of};
 ghost use Rattle.pair_machine.specs.Receivers.{appended};
 ghost use Rattle.replica_node.specs.Admitted.{MayWorkIn};
 ghost use Rattle.partition_step.specs.Answering.{HasParts};
@@ -20,6 +20,7 @@ use crate::phase::{Phase, Running};
 use crate::role::Role;
 use flux_consumer::Consumer;
 use flux_producer::Due;
+use merge_order::Head;
 use node_edges::which_at;
 use partition_step::merge_next;
 use state_mover::Moved;
@@ -71,23 +72,23 @@ impl Running {
         ensures idle { IfOk result (λ did. did ≡ worked.Idle → (self.new ≡ self.old) × (out.new ≡ out.old)) }
         ensures unchanged { OnErr result ((contents_in_running self.new ≡ contents_in_running self.old) × (out.new.packets ≡ out.old.packets)) }
     {
-        match self.consumer.peek() {
+        match self.consumer.least() {
             None => self.move_or_send(role, rise, out),
-            Some(item) => {
-                self.merge(role, rows, item)?;
+            Some(head) => {
+                self.merge(role, rows, head)?;
                 Ok(Worked::Did)
             }
         }
     }
 
-    // Merges the next item, which is this one, and produces what answers it.
-    fn merge(&mut self, role: &Role, rows: &mut Vec<Row>, item: Item) -> Result<(), OutOfMemory>
-        requires next { item_of (least self.old.consumer.merge.waiting) ≡ Some item }
+    // Merges the next item, which is that of this head, and produces what answers it.
+    fn merge(&mut self, role: &Role, rows: &mut Vec<Row>, head: Head) -> Result<(), OutOfMemory>
+        requires next { least self.old.consumer.merge.waiting ≡ Some head }
         requires fits { self.old.consumer.merge.count + 1 < number_limit }
-        requires timely { IsTimely item }
+        requires timely { IsTimely head.item }
         requires parts { HasParts role.now.next }
         requires running { IsRunning role.now self.old }
-        ensures merges { OnOk result (Merges role.now item self.old self.new) }
+        ensures merges { OnOk result (Merges role.now head.item self.old self.new) }
         ensures unchanged { OnErr result (contents_in_running self.new ≡ contents_in_running self.old) }
     {
         merge_next(
@@ -96,7 +97,7 @@ impl Running {
             &mut self.producer,
             &role.task(),
             rows,
-            item,
+            head,
         )
     }
 

@@ -30,17 +30,17 @@ use Rattle.pair_machine.specs.Scripts.{DoesNotRepeat, HappenOnce, IsAllowedAt}
 use Rattle.pair_machine.specs.Within.{IsWithinScript, history_events}
 use Rattle.pair_machine.specs.declared.order.Order.{Order}
 use Rattle.pair_machine.proofs.CourseKept.{one_more, one_more_met}
-use Rattle.run_node.specs.Timely.{AreTimely}
+use Rattle.node_tasks.specs.Timely.{AreTimely}
 use Rattle.pair_machine.proofs.Lists.{each_all, each_append, each_map}
-use Rattle.run_node.specs.declared.acts.Task.{Task}
-use Rattle.run_node.specs.declared.acts.Task.TheVariants as task
+use Rattle.node_tasks.specs.declared.task.Task.{Task}
+use Rattle.node_tasks.specs.declared.task.Task.TheVariants as task
 use Rattle.run_node.specs.declared.fired.Fired.{Fired}
-use Rattle.run_node.specs.declared.kept.Kept.{Kept}
 use Rattle.run_node.specs.Ends.{InLink, OutLink, emitted_to, leads_to}
-use Rattle.run_node.specs.Fits.{Fit}
+use Rattle.run_node.specs.Fits.{CameFor, Fit}
 use Rattle.run_node.specs.Sends.{with_all_sent}
-use Rattle.run_node.specs.SoundNode.{IsNoRecall, IsNoStop, IsNoted, IsSoundNode, KeptCame, TapFits}
-use Rattle.run_node.specs.Tasks.{CameFor, DoesStep, clock_of, event_of, fired_after, is_recall, is_stop, packet_of, repeats}
+use Rattle.run_node.specs.SoundNode.{IsNoRecall, IsNoStop, IsNoted, IsSoundNode, TapFits}
+use Rattle.node_tasks.specs.Tasks.{DoesStep, clock_of, event_of, packet_of}
+use Rattle.run_node.specs.Fired.{fired_after, is_recall, is_stop, repeats}
 use Rattle.run_node.proofs.SentPackets.{emitted-with_all_sent, leads-with_all_sent}
 
 stamped_to : (clock : ℕ) (to : NodeId) (xs : List (NodeId × Body)) → Each (λ p. p.at ≡ clock) (packets_to clock to xs)
@@ -177,13 +177,13 @@ noted_more fired me t hs h same n = record {
 -- ---- one event
 
 module _ {A : Type 0} (id : A → NodeId) (of_plan : PlanView → A → Type 0) (stands : PlanView → List Input → A → Node → Type 0) (plan : PlanView) (inputs : List Input) (script : List Order)
-    (state : A) (ins : List InLink) (outs : List OutLink) (kept : Option Kept) (clock : ℕ) (fired : Fired) (history : List Stamped)
-    (s : IsSoundNode id of_plan stands plan inputs script state ins outs kept clock fired history) where
+    (state : A) (ins : List InLink) (outs : List OutLink) (clock : ℕ) (fired : Fired) (history : List Stamped)
+    (s : IsSoundNode id of_plan stands plan inputs script state ins outs clock fired history) where
   pub sound_after : (t : Task) (new : A) (packets : List (NodeId × Body)) (c : ℕ) →
       ((arrived : Arrivals) → Fit arrived ins → CameFor arrived t) → clock < c → clock_of t < c → c < 2 ^ 62 → repeats fired t ≡ false →
       id new ≡ id state → of_plan plan new → at_node (event_of (id state) t) ≡ id state → DoesStep id stands t state new packets → GoOverLinks plan (id state) packets →
       ((x : Node) → stands plan inputs state x → IsAllowedAt script (event_of (id state) t) x) →
-      IsSoundNode id of_plan stands plan inputs script new ins (with_all_sent c packets outs) kept c (fired_after fired t) (history ++ record { clock = c; event = event_of (id state) t } ∷ [])
+      IsSoundNode id of_plan stands plan inputs script new ins (with_all_sent c packets outs) c (fired_after fired t) (history ++ record { clock = c; event = event_of (id state) t } ∷ [])
   sound_after t new packets c came later after small fresh same named here does over allowed =
       let f = flow_of plan inputs in
       let S = BodyStands plan inputs in
@@ -216,7 +216,6 @@ module _ {A : Type 0} (id : A → NodeId) (of_plan : PlanView → A → Type 0) 
         past = each_append (λ (g : Stamped). g.clock ≤ c) history (h ∷ []) (each_map (λ (g : Stamped). g.clock < c) (λ (g : Stamped). g.clock ≤ c) (λ g k. omega arith) history before) (omega arith, tt);
         rises = rises_more history h s.rises before;
         noted = noted_more fired me t history h refl s.noted;
-        kept_came = s.kept_came;
         course = λ arrived fit. record {
           course = subst (λ (n : NodeId). IsTrueNode f S (Asks f) n (stands plan inputs new) arrived (emitted_to (with_all_sent c packets outs)) (history ++ h ∷ [])) (sym same)
               (subst (λ (out : NodeId → List Packet). IsTrueNode f S (Asks f) me (stands plan inputs new) arrived out (history ++ h ∷ [])) (λ i to. emitted to i) (course arrived fit));
@@ -229,7 +228,7 @@ module _ {A : Type 0} (id : A → NodeId) (of_plan : PlanView → A → Type 0) 
       }
 
   -- it stands for the same numbers after no event
-  still_there : (new : A) → id new ≡ id state → of_plan plan new → ((x : Node) → stands plan inputs state x → stands plan inputs new x) → IsSoundNode id of_plan stands plan inputs script new ins outs kept clock fired history
+  still_there : (new : A) → id new ≡ id state → of_plan plan new → ((x : Node) → stands plan inputs state x → stands plan inputs new x) → IsSoundNode id of_plan stands plan inputs script new ins outs clock fired history
   still_there new same named stays = record {
     planned = s.planned;
     timely = s.timely;
@@ -240,7 +239,6 @@ module _ {A : Type 0} (id : A → NodeId) (of_plan : PlanView → A → Type 0) 
     past = s.past;
     rises = s.rises;
     noted = s.noted;
-    kept_came = s.kept_came;
     course = λ arrived fit. record {
       course = subst (λ (n : NodeId). IsTrueNode (flow_of plan inputs) (BodyStands plan inputs) (Asks (flow_of plan inputs)) n (stands plan inputs new) arrived (emitted_to outs) history) (sym same) (record {
         kept = (s.course arrived fit).course.kept;
@@ -255,15 +253,14 @@ module _ {A : Type 0} (id : A → NodeId) (of_plan : PlanView → A → Type 0) 
       stays_at (Err e) h = h
 
   pub sound_still : (new : A) (outs_after : List OutLink) (history_after : List Stamped) → outs_after ≡ outs → history_after ≡ history → id new ≡ id state → of_plan plan new → ((x : Node) → stands plan inputs state x → stands plan inputs new x) →
-      IsSoundNode id of_plan stands plan inputs script new ins outs_after kept clock fired history_after
+      IsSoundNode id of_plan stands plan inputs script new ins outs_after clock fired history_after
   sound_still new outs_after history_after same_outs same_history same named stays =
-      subst (λ l. IsSoundNode id of_plan stands plan inputs script new ins l kept clock fired history_after) (sym same_outs)
-      (subst (λ h. IsSoundNode id of_plan stands plan inputs script new ins outs kept clock fired h) (sym same_history) (still_there new same named stays))
+      subst (λ l. IsSoundNode id of_plan stands plan inputs script new ins l clock fired history_after) (sym same_outs)
+      (subst (λ h. IsSoundNode id of_plan stands plan inputs script new ins outs clock fired h) (sym same_history) (still_there new same named stays))
 
-  -- more came, and fits, and so does what is kept then
-  pub sound_received : (ins_after : List InLink) (kept_after : Option Kept) → ((arrived : Arrivals) → Fit arrived ins_after → Fit arrived ins) →
-      ((arrived : Arrivals) → Fit arrived ins_after → KeptCame arrived kept_after) → IsSoundNode id of_plan stands plan inputs script state ins_after outs kept_after clock fired history
-  sound_received ins_after kept_after fits came = record {
+  -- more came, and fits
+  pub sound_received : (ins_after : List InLink) → ((arrived : Arrivals) → Fit arrived ins_after → Fit arrived ins) → IsSoundNode id of_plan stands plan inputs script state ins_after outs clock fired history
+  sound_received ins_after fits = record {
     planned = s.planned;
     timely = s.timely;
     named = s.named;
@@ -273,7 +270,6 @@ module _ {A : Type 0} (id : A → NodeId) (of_plan : PlanView → A → Type 0) 
     past = s.past;
     rises = s.rises;
     noted = s.noted;
-    kept_came = came;
     course = λ arrived fit. s.course arrived (fits arrived fit);
   }
 
@@ -308,7 +304,7 @@ module _ (f : Flow) (S : LinkId → Body → Message → Type 0) (Asks : NodeId 
 pub sound_new : {A : Type 0} (id : A → NodeId) (of_plan : PlanView → A → Type 0) (stands : PlanView → List Input → A → Node → Type 0) (plan : PlanView) (inputs : List Input) (script : List Order) (state : A) (ins : List InLink) (outs : List OutLink) (fired : Fired) →
     IsPlan plan → AreTimely inputs → of_plan plan state → HasNode (flow_of plan inputs) (id state) → stands plan inputs state (new_node (id state)) →
     ((to : NodeId) → IsTrue (has_link plan (link (id state) to)) → leads_to outs to ≡ true) → Each (λ l. l.emitted ≡ []) outs →
-    IsSoundNode id of_plan stands plan inputs script state ins outs None 0 fired []
+    IsSoundNode id of_plan stands plan inputs script state ins outs 0 fired []
 sound_new id of_plan stands plan inputs script state ins outs fired planned timely named there opening linked fresh = record {
   planned = planned;
   timely = timely;
@@ -319,7 +315,6 @@ sound_new id of_plan stands plan inputs script state ins outs fired planned time
   past = tt;
   rises = tt;
   noted = record { stopped = λ e. tt; recalled = λ e. tt };
-  kept_came = λ arrived fit. tt;
   course = λ arrived fit. record {
     course = subst (λ (sent : NodeId → List Packet). IsTrueNode (flow_of plan inputs) (BodyStands plan inputs) (Asks (flow_of plan inputs)) (id state) (stands plan inputs state) arrived sent [])
         (λ i to. sym (none_emitted outs to fresh) i) (fresh_true (flow_of plan inputs) (BodyStands plan inputs) (Asks (flow_of plan inputs)) (id state) (stands plan inputs state) arrived opening);

@@ -1,6 +1,6 @@
 -- Lists by their places.
-use Rattle.std.proofs.Common.{◌≡◌, ◌+◌, ◌<◌, ℕ, zero, suc, List, [], ◌∷◌, ◌++◌, length, get_or, set, take, drop, refl, ap, subst, arith}
-use Rattle.std.specs.Prelude.{Some, map, slice_get}
+use Rattle.std.proofs.Common.{◌≡◌, ◌+◌, ◌<◌, ℕ, zero, suc, List, [], ◌∷◌, ◌++◌, length, get_or, set, take, drop, refl, ap, ◌∙◌, subst, arith}
+use Rattle.std.specs.Prelude.{Some, map, slice_get, slice_set}
 use Rattle.pair_machine.specs.Lists.{Each}
 
 module _ {X Y : Type 0} (f : X → Y) where
@@ -49,17 +49,6 @@ module _ {X : Type 0} where
   pub each_take_one : (P : X → Type 0) (xs : List X) (i : ℕ) (d : X) → i < length xs → Each P (take i xs) → P (get_or xs i d) → Each P (take (i + 1) xs)
   each_take_one P xs i d lt h k = let one : suc i ≡ i + 1 = omega arith in subst (λ j. Each P (take j xs)) one (each_take_more P xs i d lt h k)
 
-  -- what held of each before an element was replaced, where the new one had it less easily
-  pub each_unset : (P : X → Type 0) (xs : List X) (i : ℕ) (new d : X) → (P new → P (get_or xs i d)) → Each P (set xs i new) → Each P xs
-  each_unset P [] i new d g h = tt
-  each_unset P (x ∷ xs) zero new d g h = (g h.0, h.1)
-  each_unset P (x ∷ xs) (suc i) new d g h = (h.0, each_unset P xs i new d g h.1)
-
-  pub each_set_at : (P : X → Type 0) (xs : List X) (i : ℕ) (new : X) → i < length xs → Each P (set xs i new) → P new
-  each_set_at P [] i new lt h = absurd (omega arith)
-  each_set_at P (x ∷ xs) zero new lt h = h.0
-  each_set_at P (x ∷ xs) (suc i) new lt h = each_set_at P xs i new (omega arith) h.1
-
   pub each_last : (P : X → Type 0) (xs : List X) (x : X) → Each P (xs ++ x ∷ []) → P x
   each_last P [] x h = h.0
   each_last P (y ∷ xs) x h = each_last P xs x h.1
@@ -101,3 +90,47 @@ module _ {X : Type 0} where
       go [] n lt h k = absurd (omega arith)
       go (y ∷ ys) zero lt h k = (k y refl, tt)
       go (y ∷ ys) (suc n) lt h k = (h.0, go ys n (omega arith) h.1 k)
+
+  -- the same by what stands there: `Some` at the place tells that the place is one of the list
+  pub each_unset_by : (P : X → Type 0) (xs : List X) (i : ℕ) (x new : X) → slice_get xs i ≡ Some x → (P new → P x) → Each P (slice_set xs i new) → Each P xs
+  each_unset_by P [] i x new e g h = tt
+  each_unset_by P (y ∷ ys) zero x new e g h = let same : x ≡ y = cc e in (subst P same (g h.0), h.1)
+  each_unset_by P (y ∷ ys) (suc i) x new e g h = (h.0, each_unset_by P ys i x new e g h.1)
+
+  pub each_set_by : (P : X → Type 0) (xs : List X) (i : ℕ) (x new : X) → slice_get xs i ≡ Some x → Each P (slice_set xs i new) → P new
+  each_set_by P [] i x new e h = cc
+  each_set_by P (y ∷ ys) zero x new e h = h.0
+  each_set_by P (y ∷ ys) (suc i) x new e h = each_set_by P ys i x new e h.1
+
+  -- what was put at a place stands there
+  pub set_there : (xs : List X) (i : ℕ) (new x : X) → slice_get (slice_set xs i new) i ≡ Some x → new ≡ x
+  set_there [] i new x e = cc
+  set_there (y ∷ ys) zero new x e = cc e
+  set_there (y ∷ ys) (suc i) new x e = set_there ys i new x e
+
+  pub within_set : (xs : List X) (i : ℕ) (new : X) → i < length xs → i < length (slice_set xs i new)
+  within_set [] i new lt = absurd (omega arith)
+  within_set (y ∷ ys) zero new lt = omega arith
+  within_set (y ∷ ys) (suc i) new lt = let rest = within_set ys i new (omega arith) in omega arith
+
+module _ {X Y : Type 0} (f : X → Y) where
+  pub map_set_by : (xs : List X) (i : ℕ) (x new : X) → slice_get xs i ≡ Some x → f new ≡ f x → map f (slice_set xs i new) ≡ map f xs
+  map_set_by [] i x new e same = refl
+  map_set_by (y ∷ ys) zero x new e same = let here : x ≡ y = cc e in ap (λ z. z ∷ map f ys) (same ∙ ap f here)
+  map_set_by (y ∷ ys) (suc i) x new e same = ap (λ zs. f y ∷ zs) (map_set_by ys i x new e same)
+
+  -- what stands at a place, and what is put there
+  pub map_get : (xs : List X) (i : ℕ) (x : X) → slice_get xs i ≡ Some x → slice_get (map f xs) i ≡ Some (f x)
+  map_get [] i x e = cc
+  map_get (y ∷ ys) zero x e = let here : y ≡ x = cc e in ap (λ z. Some (f z)) here
+  map_get (y ∷ ys) (suc i) x e = map_get ys i x e
+
+  pub map_set : (xs : List X) (i : ℕ) (new : X) → map f (slice_set xs i new) ≡ slice_set (map f xs) i (f new)
+  map_set [] i new = refl
+  map_set (y ∷ ys) zero new = refl
+  map_set (y ∷ ys) (suc i) new = ap (λ zs. f y ∷ zs) (map_set ys i new)
+
+  pub within_map : (xs : List X) (i : ℕ) → i < length (map f xs) → i < length xs
+  within_map [] i lt = absurd (omega arith)
+  within_map (y ∷ ys) zero lt = omega arith
+  within_map (y ∷ ys) (suc i) lt = let rest = within_map ys i (omega arith) in omega arith

@@ -12,7 +12,7 @@ use Rattle.pair_machine.proofs.Names.{is_node-true, node_self}
 use Rattle.run_node.specs.Ends.{OutEndView, OutLink, emitted_to, leads_to, links_of}
 use Rattle.run_node.specs.NodeView.{out_names}
 use Rattle.run_node.specs.Sends.{with_all_sent, with_sent, with_steps_sent}
-use Rattle.run_node.specs.Steps.{pieces}
+use Rattle.node_tasks.specs.Steps.{pieces}
 use Rattle.run_node.proofs.Places.{get_there}
 
 abbrev one_if : Bool → Packet → List Packet

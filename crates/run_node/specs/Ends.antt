@@ -1,5 +1,5 @@
 -- What contracts see of a node's ends of links.
-use Rattle.std.specs.Prelude.{◌≤◌, ℕ, List, [], ◌∷◌, map, if◌then◌else◌, Bool, false, ◌||◌}
+use Rattle.std.specs.Prelude.{◌≤◌, ℕ, List, [], ◌∷◌, Option, map, if◌then◌else◌, Bool, false, ◌||◌}
 use Rattle.flux_link.specs.Identity.{Identity}
 use Rattle.flux_link.specs.declared.arrival.Arrival.{Arrival}
 use Rattle.pair_machine.specs.Lists.{Each}
@@ -28,6 +28,14 @@ pub record OutEndView : Type 0 where
 pub record OutsView : Type 0 where
   pub links : List OutLink
   pub room : ℕ
+
+-- the end of a link on which a node receives: the link, and the next arrival, where it is known that one waits
+pub record InEndView : Type 0 where
+  pub link : InLink
+  pub next : Option Arrival
+
+abbrev pub links_in : List InEndView → List InLink
+links_in ins = map (λ e. e.link) ins
 
 abbrev pub links_of : List OutEndView → List OutLink
 links_of outs = map (λ e. e.link) outs

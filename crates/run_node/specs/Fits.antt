@@ -1,40 +1,50 @@
 -- Which packets came to a node under which index.
-use Rattle.std.specs.Prelude.{◌≡◌, ℕ, List, [], ◌∷◌, ◌++◌, Option, None, Some, slice_get, slice_set}
+use Rattle.std.specs.Prelude.{◌≡◌, ◌<◌, ◌^◌, ℕ, List, [], ◌∷◌, ◌++◌, IsSome, Some, length, slice_get, slice_set}
 use Rattle.flux_link.specs.declared.arrival.Arrival.{Arrival}
 use Rattle.pair_machine.specs.Courses.{Arrivals}
 use Rattle.pair_machine.specs.Lists.{Each}
 use Rattle.tuple_edge.specs.declared.event.Event.{Event}
 use Rattle.tuple_edge.specs.declared.event.Stamped.{Stamped}
 use Rattle.tuple_edge.specs.declared.node.NodeId.{NodeId}
-use Rattle.event_log.specs.Views.{works_after}
-use Rattle.run_node.specs.Ends.{InLink}
-use Rattle.run_node.specs.declared.kept.Kept.{Kept}
+use Rattle.event_log.specs.Views.{makes_after, works_after}
+use Rattle.node_tasks.specs.declared.task.Task.{Task}
+use Rattle.node_tasks.specs.declared.task.Task.TheVariants as task
+use Rattle.run_node.specs.Ends.{InEndView, InLink}
 
 -- of a node's packets, this one is what came from a node under its index
 abbrev pub Came : Arrivals → NodeId → Arrival → Type 0
 Came arrived from a = arrived from a.index ≡ Some a.packet
 
+-- the packet that is to be taken came under its index
+abbrev pub CameFor : Arrivals → Task → Type 0
+CameFor arrived (task.Take from index packet) = arrived from index ≡ Some packet
+CameFor arrived t = Unit {0}
+
 -- all that links gave is what came under its index
 abbrev pub Fit : Arrivals → List InLink → Type 0
 Fit arrived ins = Each (λ l. Each (Came arrived l.from) l.given) ins
 
+-- an arrival, and the node from which it came
+pub record Taken : Type 0 where
+  pub from : NodeId
+  pub arrival : Arrival
+
 -- a link gave a further arrival, this one, and no other link gave any
-pub record HasCome (k : Kept) (before after : List InLink) : Type 0 where
+pub record HasCome (k : Taken) (before after : List InLink) : Type 0 where
   pub place : ℕ
   pub link : InLink
   pub there : slice_get before place ≡ Some link
   pub from : k.from ≡ link.from
   pub gave : after ≡ slice_set before place (record link { given = link.given ++ k.arrival ∷ [] })
 
--- the next arrival that a link gave, if any did
-abbrev pub IsReceived : List InLink → List InLink → Option Kept → Type 0
-IsReceived before after None = after ≡ before
-IsReceived before after (Some k) = HasCome k before after
+-- an arrival is known to wait at this end, which may give it
+abbrev pub HasNext : InEndView → Type 0
+HasNext e = IsSome e.next × (length e.link.given < 2 ^ 62)
 
--- what a node has at hand: the arrival that it kept, and else the next one that a link gave
-abbrev pub IsAtHand : Option Kept → List InLink → List InLink → Option Kept → Type 0
-IsAtHand (Some kept) before after hand = (hand ≡ Some kept) × (after ≡ before)
-IsAtHand None before after hand = IsReceived before after hand
+-- so it is at the end at this place
+pub record IsWaiting (ins : List InEndView) (place : ℕ) : Type 0 where
+  pub within : place < length ins
+  pub next : (e : InEndView) → slice_get ins place ≡ Some e → HasNext e
 
 -- a history has one event more, this one
 pub record HasHappened (e : Event) (before after : List Stamped) : Type 0 where
@@ -45,3 +55,8 @@ pub record HasHappened (e : Event) (before after : List Stamped) : Type 0 where
 pub record HasWorked (node : NodeId) (times : ℕ) (before after : List Stamped) : Type 0 where
   pub clock : ℕ
   pub added : after ≡ before ++ works_after node clock times
+
+-- so many makes, likewise
+pub record HasMade (times : ℕ) (before after : List Stamped) : Type 0 where
+  pub clock : ℕ
+  pub added : after ≡ before ++ makes_after clock times

@@ -1,12 +1,10 @@
 pub mod Ends
 pub mod Sends
 pub mod Fits
-pub mod Tasks
-pub mod Steps
+pub mod Fired
 pub mod Takes
 pub mod NodeView
 pub mod FirstLinks
 pub mod SoundNode
-pub mod Timely
 pub mod Fresh
 pub mod Portions

@@ -3,15 +3,13 @@ use Rattle.std.specs.Prelude.{Bool, List, Option, is_some, map}
 use Rattle.flux_link.specs.Identity.{Identity}
 use Rattle.tuple_edge.specs.declared.event.Stamped.{Stamped}
 use Rattle.tuple_edge.specs.declared.node.NodeId.{NodeId}
-use Rattle.run_node.specs.declared.kept.Kept.{Kept}
 use Rattle.run_node.specs.Ends.{InLink, OutLink}
 
--- a node: its own part, its links, the arrival that it keeps, its history, and its tap
+-- a node: its own part, its links, its history, and its tap
 pub record NodeView (A T : Type 0) : Type 0 where
   pub state : A
   pub ins : List InLink
   pub outs : List OutLink
-  pub kept : Option Kept
   pub history : List Stamped
   pub tap : Option T
 

@@ -21,17 +21,11 @@ use Rattle.pair_machine.specs.Lists.{Each}
 use Rattle.pair_machine.specs.Numbers.{Node}
 use Rattle.pair_machine.specs.Within.{IsWithinScript}
 use Rattle.pair_machine.specs.declared.order.Order.{Order}
-use Rattle.run_node.specs.Timely.{AreTimely}
+use Rattle.node_tasks.specs.Timely.{AreTimely}
 use Rattle.run_node.specs.Ends.{InLink, OutLink, emitted_to, leads_to}
-use Rattle.run_node.specs.Fits.{Came, Fit}
+use Rattle.run_node.specs.Fits.{Fit}
 use Rattle.run_node.specs.NodeView.{NodeView}
 use Rattle.run_node.specs.declared.fired.Fired.{Fired}
-use Rattle.run_node.specs.declared.kept.Kept.{Kept}
-
--- what is kept came under its index
-abbrev pub KeptCame : Arrivals → Option Kept → Type 0
-KeptCame arrived None = Unit {0}
-KeptCame arrived (Some k) = Came arrived k.from k.arrival
 
 -- a node's tap gave on the first of the rows that it emitted
 abbrev pub TapFits : {A T : Type 0} → (T → List Row) → (A → List Row) → Option T → A → Type 0
@@ -67,7 +61,7 @@ pub record IsCourse {A : Type 0} (id : A → NodeId) (stands : PlanView → List
 
 -- what is true of a node of a plan with this part and these links
 pub record IsSoundNode {A : Type 0} (id : A → NodeId) (of_plan : PlanView → A → Type 0) (stands : PlanView → List Input → A → Node → Type 0) (plan : PlanView) (inputs : List Input) (script : List Order)
-    (state : A) (ins : List InLink) (outs : List OutLink) (kept : Option Kept) (clock : ℕ) (fired : Fired) (history : List Stamped) : Type 0 where
+    (state : A) (ins : List InLink) (outs : List OutLink) (clock : ℕ) (fired : Fired) (history : List Stamped) : Type 0 where
   -- the plan and the inputs are within their limits
   pub planned : IsPlan plan
   pub timely : AreTimely inputs
@@ -81,7 +75,6 @@ pub record IsSoundNode {A : Type 0} (id : A → NodeId) (of_plan : PlanView → 
   pub rises : AreRising history
   pub noted : IsNoted fired history
   -- whatever packets came under their indexes, as far as all that links gave fits
-  pub kept_came : (arrived : Arrivals) → Fit arrived ins → KeptCame arrived kept
   pub course : (arrived : Arrivals) → Fit arrived ins → IsCourse id stands plan inputs script state outs history arrived
 
 -- what is true of a node's course, whatever packets came under their indexes, as far as all that links gave fits
@@ -92,10 +85,10 @@ IsTrueView id stands plan inputs script v = (arrived : Arrivals) → Fit arrived
 
 -- what is true of a node between its events
 pub record IsNode {A T : Type 0} (given : T → List Row) (rows : A → List Row) (id : A → NodeId) (of_plan : PlanView → A → Type 0) (stands : PlanView → List Input → A → Node → Type 0) (plan : PlanView) (inputs : List Input) (script : List Order)
-    (state : A) (ins : List InLink) (outs : List OutLink) (kept : Option Kept) (clock : ℕ) (fired : Fired) (history : LogView) (outbox : OutboxView) (tap : Option T) : Type 0 where
+    (state : A) (ins : List InLink) (outs : List OutLink) (clock : ℕ) (fired : Fired) (history : LogView) (outbox : OutboxView) (tap : Option T) : Type 0 where
   -- nothing is left to be sent
   pub unsent : outbox.packets ≡ []
   pub gave : TapFits given rows tap state
-  pub sound : IsSoundNode id of_plan stands plan inputs script state ins outs kept clock fired history.entries
+  pub sound : IsSoundNode id of_plan stands plan inputs script state ins outs clock fired history.entries
   -- the history is its own
   pub own : history.node ≡ id state

@@ -4,14 +4,13 @@ ghost use Rattle.pair_machine.specs.Links.{HasNode, link};
 ghost use Rattle.pair_machine.specs.Machine.{new_node};
 ghost use Rattle.plan_reader.specs.Nodes.{has_link};
 ghost use Rattle.plan_reader.specs.PlanView.{IsPlan};
-ghost use Rattle.run_node.specs.Timely.{AreTimely};
+ghost use Rattle.node_tasks.specs.Timely.{AreTimely};
 ghost use Rattle.run_node.specs.FirstLinks.{identity_to};
 ghost use Rattle.run_node.specs.NodeView.{name_of};
 ghost use Rattle.run_node.specs.SoundNode.{TapFits};
 ghost use Rattle.std.specs.Prelude.{◌≡◌, ◌++◌, ◌∷◌, [], IsSome, IsTrue, OnOk, is_some};
 ghost use Rattle.tuple_edge.specs.declared.node.NodeId.{NodeId};
 
-use crate::acts::Acts;
 use crate::in_end::InEnd;
 use crate::links::Links;
 use crate::names::RunNames;
@@ -19,6 +18,7 @@ use crate::node::Node;
 use crate::out_end::OutEnd;
 use crate::sending::place_to;
 use crate::tap::Tap;
+use node_tasks::Acts;
 use std::alloc::Global;
 use std::marker::{Model, PhantomData};
 use tuple_edge::{NodeId, OutOfMemory};
@@ -34,14 +34,14 @@ pub struct Draft<N: RunNames, A: Acts, M: Links, T: Tap> {
 }
 
 impl<N: RunNames, A: Acts, M: Links, T: Tap> Model for Draft<N, A, M, T> {
-    ghost use Rattle.run_node.specs.Ends.{links_of};
+    ghost use Rattle.run_node.specs.Ends.{links_in, links_of};
     ghost use Rattle.run_node.specs.Fresh.{IsFresh};
     ghost use Rattle.run_node.specs.NodeView.{NodeName, in_names, out_names};
     ghost use Rattle.std.specs.Prelude.{is_some};
 
     ghost Value = { NodeName };
 
-    ghost view = { λ d. record { id = A.id d.state; ins = in_names d.ins.items; outs = out_names (links_of d.outs.items); tapped = is_some d.tap } };
+    ghost view = { λ d. record { id = A.id d.state; ins = in_names (links_in d.ins.items); outs = out_names (links_of d.outs.items); tapped = is_some d.tap } };
 
     ghost invariant = { λ d. IsFresh T.given A.id A.of_plan A.stands A.rows N.plan N.inputs d.state (links_of d.outs.items) d.tap };
 }

@@ -1,8 +1,8 @@
 // What the orders of a script have made a node do.
-ghost use Rattle.run_node.specs.Tasks.{fired_after, is_recall, is_stop, repeats};
+ghost use Rattle.run_node.specs.Fired.{fired_after, is_recall, is_stop, repeats};
 ghost use Rattle.std.specs.Prelude.{◌≡◌, false};
 
-use crate::acts::Task;
+use node_tasks::Task;
 
 /// What a script's orders have made a node do: each of it happens once in a run.
 #[derive(Clone, Copy, Debug, PartialEq, Eq)]
@@ -46,30 +46,28 @@ impl Fired {
         ensures { result ≡ fired_after self.now task.now }
     {
         Fired {
-            stopped: self.stopped || task.is_stop(),
-            recalled: self.recalled || task.is_recall(),
+            stopped: self.stopped || is_stop(task),
+            recalled: self.recalled || is_recall(task),
         }
     }
 }
 
-impl Task {
-    // Whether it stops the node, or asks for that.
-    fn is_stop(&self) -> bool
-        ensures { result ≡ is_stop self.now }
-    {
-        match self {
-            Task::Kill | Task::AskStop => true,
-            Task::Take { .. } | Task::Work | Task::Make | Task::AskBack => false,
-        }
+// Whether a task stops the node, or asks for that.
+fn is_stop(task: &Task) -> bool
+    ensures { result ≡ is_stop task.now }
+{
+    match task {
+        Task::Kill | Task::AskStop => true,
+        Task::Take { .. } | Task::Work | Task::Make | Task::AskBack => false,
     }
+}
 
-    // Whether it asks for the partner.
-    fn is_recall(&self) -> bool
-        ensures { result ≡ is_recall self.now }
-    {
-        match self {
-            Task::AskBack => true,
-            Task::Take { .. } | Task::Work | Task::Make | Task::Kill | Task::AskStop => false,
-        }
+// Whether a task asks for the partner.
+fn is_recall(task: &Task) -> bool
+    ensures { result ≡ is_recall task.now }
+{
+    match task {
+        Task::AskBack => true,
+        Task::Take { .. } | Task::Work | Task::Make | Task::Kill | Task::AskStop => false,
     }
 }

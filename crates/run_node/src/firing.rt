@@ -4,20 +4,20 @@ ghost use Rattle.pair_machine.specs.Numbers.{Node as NodeNumbers};
 ghost use Rattle.pair_machine.specs.Scripts.{HasMerged, IsAllowedAt};
 ghost use Rattle.run_node.specs.NodeView.{name_of};
 ghost use Rattle.run_node.specs.Portions.{NoneComesDue};
-ghost use Rattle.run_node.specs.Tasks.{event_of, packet_of};
+ghost use Rattle.node_tasks.specs.Tasks.{event_of, packet_of};
 ghost use Rattle.std.specs.Prelude.{◌≡◌, ◌≤◌, ◌<◌, ◌+◌, None, IsTrue};
 
-use crate::acts::{Acts, Task};
 use crate::links::Links;
 use crate::names::RunNames;
 use crate::node::Node;
 use crate::tap::Tap;
 use failure_script::Script;
+use node_tasks::{Acts, Task};
 use tuple_edge::{NodeId, OutOfMemory};
 
 // How many pieces of work, at most so many, a replica that has merged this many items may do one after another in one call. Each
-// merges one item at most. Where an order would become due among them it is one piece, so that no such run goes past the count of
-// an order.
+// merges one item at most. Where an order would become due among them it is one piece, so that no call goes past the count of an
+// order.
 fn most_at_once(script: &Script, node: NodeId, merged: u64, most: u64) -> u64
     requires { 1 ≤ most }
     ensures some { 1 ≤ result }

@@ -1,5 +1,4 @@
-//! A node of a run: its own part, the ends of its links with what waits there, the arrival that it keeps, its clock and its
-//! history.
+//! A node of a run: its own part, the ends of its links with what waits there, its clock and its history.
 //!
 //! A [`Draft`] is a node as it opens, which gets its links one after another; then it is a [`Node`]. A node is turned. In one
 //! call it takes arrivals, or does pieces of work, one after another, each an event of its own, and one method does whatever
@@ -7,17 +6,15 @@
 //! script, and it stands for the numbers after it; its name stays. With a node in one hand and the sender of one of its
 //! in-links in the other, `settle` shows that what the node took there was sent to it.
 //!
-//! What a node is and does of itself is left to [`Acts`]: no crate of the nodes stands below this one. It stands on
+//! What a node is and does of itself is left to the trait `Acts` (`node_tasks`): no crate of the nodes stands below this one. It stands on
 //! `flux_link` for the ends of links, on `event_log`, which keeps its history, on `failure_script` for orders, and on the laws
 //! of `pair_machine` for histories. Of `claim_board` it takes only that a node has a name there.
 #![tactic(auto)]
 
-mod acts;
 mod draft;
 mod fired;
 mod firing;
 mod in_end;
-mod kept;
 mod links;
 mod named;
 mod names;
@@ -33,7 +30,6 @@ mod settling;
 mod tap;
 mod turn;
 
-pub use acts::{Acts, Steps, Task};
 pub use draft::Draft;
 pub use fired::Fired;
 pub use links::Links;

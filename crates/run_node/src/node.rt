@@ -1,6 +1,5 @@
 // A node of a run.
 ghost use Rattle.pair_machine.specs.Counts.{flow_of};
-ghost use Rattle.pair_machine.specs.Courses.{Arrivals};
 ghost use Rattle.pair_machine.specs.Links.{HasNode, link};
 ghost use Rattle.pair_machine.specs.Lists.{Each};
 ghost use Rattle.pair_machine.specs.Machine.{new_node};
@@ -9,33 +8,31 @@ ghost use Rattle.pair_machine.specs.Numbers.{Node as NodeNumbers};
 ghost use Rattle.pair_machine.specs.Scripts.{IsAllowedAt};
 ghost use Rattle.plan_reader.specs.Nodes.{has_link};
 ghost use Rattle.plan_reader.specs.PlanView.{IsPlan};
-ghost use Rattle.run_node.specs.Timely.{AreTimely};
-ghost use Rattle.run_node.specs.Ends.{leads_to, links_of};
-ghost use Rattle.run_node.specs.Fits.{Came, Fit, HasHappened, HasWorked, IsAtHand};
+ghost use Rattle.node_tasks.specs.Timely.{AreTimely};
+ghost use Rattle.run_node.specs.Ends.{leads_to, links_in, links_of};
+ghost use Rattle.run_node.specs.Fits.{HasHappened, HasMade, HasWorked, Taken};
 ghost use Rattle.run_node.specs.NodeView.{name_of};
 ghost use Rattle.run_node.specs.Sends.{with_all_sent};
 ghost use Rattle.run_node.specs.SoundNode.{IsTrueView, TapFits};
 ghost use Rattle.run_node.specs.Takes.{HasTaken, Takes, TakesNothing};
-ghost use Rattle.run_node.specs.Tasks.{CameFor, event_of};
+ghost use Rattle.node_tasks.specs.Tasks.{event_of, packet_of};
 ghost use Rattle.tuple_edge.specs.Limits.{most_packets};
-ghost use Rattle.std.specs.Prelude.{◌≡◌, ◌≢◌, ◌≤◌, ◌++◌, ◌∷◌, [], ℕ, true, IfOk, IfSome, IsTrue, None, Ok, OnErr, OnOk, Some, length};
-ghost use Rattle.tuple_edge.specs.declared.event.Event.TheVariants as event;
+ghost use Rattle.std.specs.Prelude.{◌≡◌, ◌≢◌, ◌≤◌, ◌++◌, ◌∷◌, [], ℕ, None, true, IfOk, IsTrue, Ok, OnErr, OnOk, length};
 ghost use Rattle.tuple_edge.specs.declared.node.NodeId.{NodeId};
 
-use crate::acts::{Acts, Task};
 use crate::fired::Fired;
 use crate::in_end::InEnd;
-use crate::kept::Kept;
 use crate::links::Links;
 use crate::names::RunNames;
 use crate::out_end::OutEnd;
 use crate::outs::Outs;
 use crate::part::Part;
-use crate::receiving::receive;
+use crate::receiving::{end_at, pass_at, waiting_at};
 use crate::round::Round;
 use crate::tap::Tap;
 use event_log::Log;
 use flux_link::Outlet;
+use node_tasks::{Acts, Task};
 use plan_reader::Plan;
 use std::alloc::Global;
 use std::marker::{Model, PhantomData};
@@ -74,17 +71,11 @@ fn note(history: &mut Log, task: &Task, clock: u64)
     ensures node { history.new.node ≡ history.old.node }
     ensures entries { history.new.entries ≡ history.old.entries ++ record { clock = clock; event = event_of history.old.node task.now } ∷ [] }
 {
-    match *task {
-        Task::Take { from, index, .. } => history.take(from, index, clock),
-        Task::Work => history.work(clock),
-        Task::Make | Task::Kill | Task::AskStop | Task::AskBack => {
-            let event = task.event_at(history.node());
-            history.push_reserved(Stamped { clock, event });
-        },
-    }
+    let event = task.event_at(history.node());
+    history.push_reserved(Stamped { clock, event });
 }
 
-// Sends what an event has to send, with its clock, and gives it up.
+// Sends what an event has to send, with its clock, and empties the outbox.
 fn send_event<O: Outlet + Drop>(outs: &mut Outs<O>, outbox: &mut Outbox, clock: u64)
     requires { length outbox.old.packets ≤ outs.old.room }
     ensures links { outs.new.links ≡ with_all_sent clock outbox.old.packets outs.old.links }
@@ -94,13 +85,12 @@ fn send_event<O: Outlet + Drop>(outs: &mut Outs<O>, outbox: &mut Outbox, clock: 
     outs.flush();
 }
 
-/// A node with its links, the arrival that it keeps, its clock and its history.
+/// A node with its links, its clock and its history.
 #[derive(Drop)]
 pub struct Node<N: RunNames, A: Acts, M: Links, T: Tap> {
     pub(crate) state: A,
     pub(crate) ins: Vec<InEnd<M::In>>,
     pub(crate) outs: Outs<M::Out>,
-    pub(crate) kept: Option<Kept>,
     // Empty between events.
     outbox: Outbox,
     clock: u64,
@@ -116,6 +106,7 @@ pub struct Node<N: RunNames, A: Acts, M: Links, T: Tap> {
 }
 
 impl<N: RunNames, A: Acts, M: Links, T: Tap> Model for Node<N, A, M, T> {
+    ghost use Rattle.run_node.specs.Ends.{links_in};
     ghost use Rattle.run_node.specs.NodeView.{NodeView};
     ghost use Rattle.run_node.specs.SoundNode.{IsNode};
 
@@ -123,15 +114,14 @@ impl<N: RunNames, A: Acts, M: Links, T: Tap> Model for Node<N, A, M, T> {
 
     ghost view = { λ n. record {
       state = n.state;
-      ins = n.ins.items;
+      ins = links_in n.ins.items;
       outs = n.outs.links;
-      kept = n.kept;
       history = n.history.entries;
       tap = n.tap;
     } };
 
     ghost invariant = { λ n. IsNode T.given A.rows A.id A.of_plan A.stands N.plan N.inputs N.script
-        n.state n.ins.items n.outs.links n.kept n.clock n.fired n.history n.outbox n.tap };
+        n.state (links_in n.ins.items) n.outs.links n.clock n.fired n.history n.outbox n.tap };
 }
 
 impl<N: RunNames, A: Acts, M: Links, T: Tap> Node<N, A, M, T> {
@@ -151,14 +141,13 @@ impl<N: RunNames, A: Acts, M: Links, T: Tap> Node<N, A, M, T> {
         requires linked { (to : NodeId) → IsTrue (has_link N.plan (link (A.id state) to)) → leads_to (links_of outs.items) to ≡ true }
         requires fresh { Each (λ l. l.emitted ≡ []) (links_of outs.items) }
         requires tap { TapFits T.given A.rows tap state }
-        ensures { result ≡ record { state = state; ins = ins.items; outs = links_of outs.items; kept = None; history = []; tap = tap } }
+        ensures { result ≡ record { state = state; ins = links_in ins.items; outs = links_of outs.items; history = []; tap = tap } }
     {
         let history = Log::new(alloc, state.id());
         Node {
             state,
             ins,
             outs: Outs::new(outs),
-            kept: None,
             outbox: Outbox::new(alloc),
             clock: 0,
             history,
@@ -182,7 +171,6 @@ impl<N: RunNames, A: Acts, M: Links, T: Tap> Node<N, A, M, T> {
             state,
             ins: _,
             outs: _,
-            kept: _,
             outbox: _,
             clock: _,
             history,
@@ -195,16 +183,15 @@ impl<N: RunNames, A: Acts, M: Links, T: Tap> Node<N, A, M, T> {
         (Part { state, history }, tap)
     }
 
-    // One event, if it is one: its room first, then what it does, and then what it sends.
+    // One event that is neither a take nor work nor a make, if it is one: its room first, then what it does, and then what it sends.
     pub(crate) fn event(&mut self, task: &Task) -> Result<bool, OutOfMemory>
-        requires came { (arrived : Arrivals) → Fit arrived self.old.ins → CameFor arrived task.now }
+        requires untaken { packet_of task.now ≡ None }
         requires allowed { (x : NodeNumbers) → A.stands N.plan N.inputs self.old.state x → IsAllowedAt N.script (event_of (A.id self.old.state) task.now) x }
         ensures happens { result ≡ Ok true → HasHappened (event_of (A.id self.old.state) task.now) self.old.history self.new.history }
         ensures name { name_of A.id self.new ≡ name_of A.id self.old }
         ensures ins { self.new.ins ≡ self.old.ins }
-        ensures kept { self.new.kept ≡ self.old.kept }
     {
-        let clock = self.clock.max(task.clock());
+        let clock = self.clock;
         if clock >= LAST_CLOCK || self.fired.repeats(task) || !self.state.may(task) {
             return Ok(false);
         }
@@ -220,83 +207,38 @@ impl<N: RunNames, A: Acts, M: Links, T: Tap> Node<N, A, M, T> {
         Ok(true)
     }
 
-    // The arrival that was kept, and else the next one. None is kept then.
-    fn fetch(&mut self) -> Option<Kept>
-        ensures name { name_of A.id self.new ≡ name_of A.id self.old }
-        ensures kept { self.new.kept ≡ None }
-        ensures hand { IsAtHand self.old.kept self.old.ins self.new.ins result }
-        ensures history { self.new.history ≡ self.old.history }
-        ensures came { IfSome result (λ k. (arrived : Arrivals) → Fit arrived self.new.ins → Came arrived k.from k.arrival) }
+    // Takes the next packet of a link, if there is one and it may be taken: one event, its room first, then what it does, and
+    // then what it sends. The packet is read where it lies, and what isn't taken stays in its link.
+    fn take_next(&mut self) -> Result<bool, OutOfMemory>
+        ensures takes { result ≡ Ok true → (taken : Taken) × Takes A.id self.old self.new taken }
+        ensures stays { result ≢ Ok true → TakesNothing A.id self.old self.new }
     {
-        if let Some(kept) = self.kept {
-            self.kept = None;
-            return Some(kept);
-        }
-        receive(&mut self.ins, &mut self.round)
-    }
-
-    // Keeps an arrival that came to it.
-    fn keep(&mut self, next: Kept)
-        requires { (arrived : Arrivals) → Fit arrived self.old.ins → Came arrived next.from next.arrival }
-        ensures { self.new ≡ record self.old { kept = Some next } }
-    {
-        self.kept = Some(next);
-    }
-
-    // Takes an arrival that came to it, if it may be taken: one event, its room first, then what it does, and then what it
-    // sends.
-    fn take_arrival(&mut self, next: &Kept) -> Result<bool, OutOfMemory>
-        requires { (arrived : Arrivals) → Fit arrived self.old.ins → Came arrived next.now.from next.now.arrival }
-        ensures happens { result ≡ Ok true → HasHappened (event.Take (link next.now.from (A.id self.old.state)) next.now.arrival.index) self.old.history self.new.history }
-        ensures history { result ≢ Ok true → self.new.history ≡ self.old.history }
-        ensures name { name_of A.id self.new ≡ name_of A.id self.old }
-        ensures ins { self.new.ins ≡ self.old.ins }
-        ensures kept { self.new.kept ≡ self.old.kept }
-    {
-        let latest = self.clock.max(next.arrival.packet.at);
+        let Some(place) = waiting_at(&mut self.ins, &mut self.round) else {
+            return Ok(false);
+        };
+        let end = end_at(&self.ins, place);
+        let packet = end.first();
+        let latest = self.clock.max(packet.at);
         if latest >= LAST_CLOCK {
             return Ok(false);
         }
         reserve_event(&mut self.history, &mut self.outs, &mut self.outbox)?;
-        let from = next.from;
-        let index = next.arrival.index;
-        match self
-            .state
-            .take(from, index, &next.arrival.packet, &mut self.outbox)?
-        {
+        let from = end.from();
+        let index = end.index();
+        match self.state.take(from, index, packet, &mut self.outbox)? {
             Worked::Idle => return Ok(false),
             Worked::Did => {}
         }
+        pass_at(&mut self.ins, place);
         self.clock = latest + 1;
         self.history.take(from, index, self.clock);
         send_event(&mut self.outs, &mut self.outbox, self.clock);
         Ok(true)
     }
 
-    // Takes the arrival at hand, if there is one and it may be taken. What isn't taken is kept.
-    fn take_next(&mut self) -> Result<bool, OutOfMemory>
-        ensures takes { result ≡ Ok true → (taken : Kept) × Takes A.id self.old self.new taken }
-        ensures stays { result ≢ Ok true → TakesNothing A.id self.old self.new }
-    {
-        let Some(next) = self.fetch() else {
-            return Ok(false);
-        };
-        match self.take_arrival(&next) {
-            Ok(true) => Ok(true),
-            Ok(false) => {
-                self.keep(next);
-                Ok(false)
-            },
-            Err(error) => {
-                self.keep(next);
-                Err(error)
-            },
-        }
-    }
-
-    // Takes arrivals one after another, at most so many: the one that is kept, and then what its links give. Each is an event
-    // of its own, with its clock, and what one sends goes before the next. It ends where nothing is at hand, and where what is
-    // at hand may not be taken or memory is wanting for it, which then is kept. Gives how many it took.
+    // Takes packets one after another, at most so many. Each is an event of its own, with its clock, and what one sends goes
+    // before the next. It ends where nothing is at hand, and where the next packet may not be taken or memory is wanting for
+    // it. Gives how many it took.
     pub(crate) fn take(&mut self, most: u64) -> Result<u64, OutOfMemory>
         ensures takes { IfOk result (λ count. HasTaken A.id count self.old self.new) }
         ensures failed { OnErr result ((count : ℕ) × HasTaken A.id count self.old self.new) }
@@ -319,7 +261,6 @@ impl<N: RunNames, A: Acts, M: Links, T: Tap> Node<N, A, M, T> {
         ensures few { IfOk result (λ count. count ≤ most) }
         ensures name { name_of A.id self.new ≡ name_of A.id self.old }
         ensures ins { self.new.ins ≡ self.old.ins }
-        ensures kept { self.new.kept ≡ self.old.kept }
     {
         let clock = self.clock;
         if clock >= LAST_CLOCK || self.outs.some_wait() {
@@ -337,14 +278,28 @@ impl<N: RunNames, A: Acts, M: Links, T: Tap> Node<N, A, M, T> {
         Ok(count)
     }
 
-    // One row, if one is to be made.
-    pub(crate) fn make(&mut self, plan: &Plan) -> Result<bool, OutOfMemory>
-        ensures { name_of A.id self.new ≡ name_of A.id self.old }
+    // Makes inputs into items, one after another and at most so many, while each edge of ingress holds fewer items than the plan
+    // says: the room of the history first, and then what they do. Each of them is an event of its own, with its clock, and sends
+    // nothing. They are no more than the history has room for, so that memory is asked for as for one event. Gives how many they
+    // were.
+    pub(crate) fn make(&mut self, most: u64, plan: &Plan) -> Result<u64, OutOfMemory>
+        ensures made { IfOk result (λ count. HasMade count self.old.history self.new.history) }
+        ensures few { IfOk result (λ count. count ≤ most) }
+        ensures name { name_of A.id self.new ≡ name_of A.id self.old }
+        ensures ins { self.new.ins ≡ self.old.ins }
     {
-        if !self.state.wants_rows(plan) {
-            return Ok(false);
+        let clock = self.clock;
+        if clock >= LAST_CLOCK {
+            return Ok(0);
         }
-        self.event(&Task::Make)
+        self.history.reserve(1)?;
+        let most = most.min(LAST_CLOCK - clock) as usize;
+        let most = most.min(self.history.spare());
+        let times = self.state.make(most, plan)?;
+        let count = times as u64;
+        self.clock = clock + count;
+        self.history.make_times(clock, times);
+        Ok(count)
     }
 
     // Offers its tap, if it has one, all rows that it emitted.

@@ -1,14 +1,14 @@
 // All ends of links on which a node sends.
 ghost use Rattle.run_node.specs.Ends.{links_of};
 ghost use Rattle.run_node.specs.Sends.{with_all_sent, with_steps_sent};
-ghost use Rattle.run_node.specs.Steps.{pieces};
+ghost use Rattle.node_tasks.specs.Steps.{pieces};
 ghost use Rattle.std.specs.Prelude.{◌≡◌, ◌≤◌, ◌<◌, ◌+◌, ◌*◌, ◌^◌, [], OnOk, length};
 
-use crate::acts::Steps;
 use crate::out_end::OutEnd;
 use crate::place_range::PlaceRange;
 use crate::sending::{count_firsts, flush_all, reserve_all, send_all, send_steps};
 use flux_link::Outlet;
+use node_tasks::Steps;
 use std::marker::Model;
 use tuple_edge::{OutOfMemory, Outbox};
 
@@ -25,7 +25,7 @@ pub(crate) struct Outs<O: Outlet + Drop> {
     waiting: PlaceRange,
     // So many ends from the front on are each the first one to its receiver: all of them, where no two lead to one node.
     firsts: usize,
-    // Where a receiver was found last. The next one mostly stands there or soon behind.
+    // Where a receiver was found last, by which the place of the next one is guessed.
     near: usize,
 }
 

@@ -3,13 +3,13 @@ ghost use Rattle.run_node.specs.Ends.{HaveRoom, links_of};
 ghost use Rattle.run_node.specs.FirstLinks.{AreFirst, IsFirstTo, identity_to, receivers};
 ghost use Rattle.run_node.specs.NodeView.{out_names};
 ghost use Rattle.run_node.specs.Sends.{with_all_sent, with_sent, with_steps_sent};
-ghost use Rattle.run_node.specs.Steps.{pieces};
-ghost use Rattle.std.specs.Prelude.{◌≡◌, ◌≤◌, ◌<◌, ◌+◌, ◌*◌, ◌^◌, ℕ, MatchOption, None, OnOk, length};
+ghost use Rattle.node_tasks.specs.Steps.{pieces};
+ghost use Rattle.std.specs.Prelude.{◌≡◌, ◌<◌, ◌+◌, ◌*◌, ◌^◌, ℕ, MatchOption, None, OnOk, length};
 
-use crate::acts::Steps;
 use crate::out_end::OutEnd;
 use crate::place_range::PlaceRange;
 use flux_link::Outlet;
+use node_tasks::Steps;
 use tuple_edge::{NodeId, OutOfMemory, Outbox, Packet, Which};
 
 /// Makes room for this many further packets on each link.
@@ -45,7 +45,7 @@ pub(crate) fn flush_all<O: Outlet + Drop>(outs: &mut [OutEnd<O>], waiting: Place
 }
 
 /// Sends a packet to its receiver behind those that wait, and gives the place of its link where one waits then. Where no link
-/// leads there, nothing changes. The search for it begins where the last one ended.
+/// leads there, nothing changes. Its place is guessed from the last one, and else looked for from there on.
 pub(crate) fn send<O: Outlet + Drop>(
     outs: &mut [OutEnd<O>],
     to: NodeId,
@@ -177,7 +177,7 @@ fn guessed<O: Outlet + Drop>(outs: &[OutEnd<O>], to: NodeId, near: usize) -> usi
         return near;
     };
     match (rank(end.to()), rank(to)) {
-        (Some(from), Some(to)) => near.wrapping_add(to).wrapping_sub(from),
+        (Some(last), Some(next)) => near.wrapping_add(next).wrapping_sub(last),
         _ => near,
     }
 }

@@ -7,7 +7,6 @@ ghost use Rattle.run_node.specs.FirstLinks.{identity_to};
 ghost use Rattle.run_node.specs.NodeView.{out_names};
 ghost use Rattle.std.specs.Prelude.{◌≡◌, ◌<◌, Some, length, slice_get};
 
-use crate::acts::Acts;
 use crate::in_end::InEnd;
 use crate::links::Links;
 use crate::names::RunNames;
@@ -16,22 +15,23 @@ use crate::out_end::OutEnd;
 use crate::outs::Outs;
 use crate::sending::place_to;
 use crate::tap::Tap;
+use node_tasks::Acts;
 use tuple_edge::NodeId;
 
 // Settles the two ends of a link.
 fn settle_ends<M: Links>(links: &mut M, out: &mut OutEnd<M::Out>, end: &mut InEnd<M::In>)
-    requires { end.old.identity ≡ out.old.link.identity }
-    ensures same { (out.new ≡ out.old) × (end.new ≡ end.old) }
-    ensures settled { Each (WasSent out.old.link.emitted) end.old.given }
+    requires { end.old.link.identity ≡ out.old.link.identity }
+    ensures same { (out.new ≡ out.old) × (end.new.link ≡ end.old.link) }
+    ensures settled { Each (WasSent out.old.link.emitted) end.old.link.given }
 {
     links.settle(&mut out.outlet, &mut end.inlet);
 }
 
 // Settles an in-link of a node with the ends of the node that sends on it.
 fn settle_to<M: Links>(links: &mut M, outs: &mut Outs<M::Out>, to: NodeId, end: &mut InEnd<M::In>)
-    requires { identity_to (out_names outs.old.links) to ≡ Some end.old.identity }
-    ensures same { (outs.new ≡ outs.old) × (end.new ≡ end.old) }
-    ensures settled { Each (WasSent (emitted_to outs.old.links to)) end.old.given }
+    requires { identity_to (out_names outs.old.links) to ≡ Some end.old.link.identity }
+    ensures same { (outs.new ≡ outs.old) × (end.new.link ≡ end.old.link) }
+    ensures settled { Each (WasSent (emitted_to outs.old.links to)) end.old.link.given }
 {
     let Some(place) = place_to(&outs.ends, to) else {
         return;

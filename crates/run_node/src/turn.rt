@@ -2,12 +2,12 @@
 ghost use Rattle.run_node.specs.NodeView.{name_of};
 ghost use Rattle.std.specs.Prelude.{◌≡◌};
 
-use crate::acts::Acts;
 use crate::links::Links;
 use crate::names::RunNames;
 use crate::node::Node;
 use crate::tap::Tap;
 use failure_script::Script;
+use node_tasks::Acts;
 use plan_reader::Plan;
 use tuple_edge::OutOfMemory;
 
@@ -53,14 +53,15 @@ impl<N: RunNames, A: Acts, M: Links, T: Tap> Node<N, A, M, T> {
     fn make_some(&mut self, plan: &Plan) -> Result<bool, OutOfMemory>
         ensures { name_of A.id self.new ≡ name_of A.id self.old }
     {
-        let mut some = false;
-        for _ in 0..PORTION {
-            if !self.make(plan)? {
+        let mut left = PORTION;
+        while left > 0 {
+            let count = self.make(left, plan)?;
+            if count == 0 {
                 break;
             }
-            some = true;
+            left -= count;
         }
-        Ok(some)
+        Ok(left < PORTION)
     }
 
     // Where a turn came to nothing else, marks are reported by however little they rose.

@@ -25,10 +25,14 @@ use Rattle.replica_node.specs.declared.phase.Mode.TheVariants as mode
 use Rattle.replica_node.specs.StandsFor.{GatheringStands, MoveStands, PhaseStands}
 use Rattle.replica_node.specs.declared.phase.Phase.{Phase}
 use Rattle.replica_node.specs.declared.phase.Phase.TheVariants as phase
-use Rattle.flux_core.specs.CoreView.{ControllerIs, CoreView, ReplicaIs, flow_in, inputs_of, replica_contents, station}
-use Rattle.flux_core.specs.Stands.{ContentStands, IsCore, IsKnown, StandsFor}
-use Rattle.flux_core.proofs.Contents.{content_out}
+use Rattle.plan_nodes.specs.declared.state.NodeState.TheVariants as state
+use Rattle.flux_core.specs.CoreView.{CoreView, emitted_by, flow_in, ingress_contents, inputs_of, replica_contents, station}
+use Rattle.flux_core.specs.Stands.{IsCore, IsKnown, StandsFor}
+use Rattle.flux_core.proofs.Contents.{given_stands}
+use Rattle.flux_core.proofs.Placed.{emitted_so}
 use Rattle.flux_core.proofs.Lists.{length-map-of}
+use Rattle.ingress_egress.specs.IngressView.{IngressView}
+use Rattle.run_watch.specs.Watching.{emitted_in, made_in}
 use Rattle.run_watch.specs.Glimpses.{controller_seen, glimpse_of, mode_of, moving_of, replica_seen}
 use Rattle.run_watch.specs.Looks.{HasHeld, control_seen, held_below, mover_seen, phase_seen, runs_as}
 use Rattle.run_watch.specs.declared.glimpse.Glimpse.TheVariants as glimpse
@@ -115,30 +119,38 @@ stood : (core : CoreView) → IsCore core → Stood core
 stood core is = stood_of core core.whole is.known
 
 module _ (core : CoreView) (stage part : ℕ) (named : has_pair core.plan stage part ≡ true) where
-  phase_stands : (w : Which) (v : ReplicaView) → ReplicaIs (replica_contents v) ≡ (station core (node.Replica stage part w)).content → (s : State) → StandsFor core s
+  phase_stands : (w : Which) (v : ReplicaView) → Some (state.Replica (replica_contents v)) ≡ (station core (node.Replica stage part w)).content → (s : State) → StandsFor core s
       → PhaseStands core.plan (inputs_of core) (partition stage part) v.phase (replica_in (s.nodes (node.Replica stage part w)))
   phase_stands w v same s stands =
       let n : NodeId = node.Replica stage part w in
       let has : HasNode (flow_in core) n = (nodes_named core.plan (inputs_of core) n).there named in
-      let h = content_out core.plan (inputs_of core) n (ReplicaIs v) (s.nodes n) (subst (λ c. ContentStands core.plan (inputs_of core) n c (s.nodes n)) (sym same) (stands n has).content) in
+      let h = given_stands core s stands n has (state.Replica v) same in
       let own : partition_of v.role ≡ partition stage part = ap contents.partition_of h.0 in
       subst (λ p. PhaseStands core.plan (inputs_of core) p v.phase (replica_in (s.nodes n))) own h.1.phase_stands
 
-  pub replica_glimpsed : (w : Which) (v : ReplicaView) → ReplicaIs (replica_contents v) ≡ (station core (node.Replica stage part w)).content → (s : State) → StandsFor core s
+  pub replica_glimpsed : (w : Which) (v : ReplicaView) → Some (state.Replica (replica_contents v)) ≡ (station core (node.Replica stage part w)).content → (s : State) → StandsFor core s
       → phase_seen v.phase ≡ glimpse_of (flow_in core) s (node.Replica stage part w)
   unfolding flow_of
   replica_glimpsed w v same s stands =
       phase_same core.plan (inputs_of core) (partition stage part) v.phase (replica_in (s.nodes (node.Replica stage part w))) (phase_stands w v same s stands)
 
-  pub replica_edges : IsCore core → (w : Which) (v : ReplicaView) (edges : ℕ) → ReplicaIs (replica_contents v) ≡ (station core (node.Replica stage part w)).content → edges ≡ sources_of core.plan stage → HasHeld edges v.phase
+  pub replica_edges : IsCore core → (w : Which) (v : ReplicaView) (edges : ℕ) → Some (state.Replica (replica_contents v)) ≡ (station core (node.Replica stage part w)).content → edges ≡ sources_of core.plan stage → HasHeld edges v.phase
   replica_edges is w v edges same e =
       let k = stood core is in
       held_edges core.plan (inputs_of core) (partition stage part) v.phase (replica_in (k.state.nodes (node.Replica stage part w))) edges (phase_stands w v same k.state k.stands) e
 
-  pub control_glimpsed : (c : ControllerView) → ControllerIs c ≡ (station core (node.Control stage part)).content → (s : State) → StandsFor core s
+  pub control_glimpsed : (c : ControllerView) → Some (state.Control c) ≡ (station core (node.Control stage part)).content → (s : State) → StandsFor core s
       → control_seen c ≡ glimpse_of (flow_in core) s (node.Control stage part)
   control_glimpsed c same s stands =
       let n : NodeId = node.Control stage part in
       let has : HasNode (flow_in core) n = (nodes_named core.plan (inputs_of core) n).there named in
-      let h = subst (λ x. ContentStands core.plan (inputs_of core) n x (s.nodes n)) (sym same) (stands n has).content in
+      let h = given_stands core s stands n has (state.Control c) same in
       ap (λ x. controller_seen (controller_in x)) (sym h.1.numbers)
+
+-- ---- how far a core has come
+
+pub made_so : (core : CoreView) (i : IngressView) → Some (state.Ingress (ingress_contents i)) ≡ (station core node.Ingress).content → (s : State) → StandsFor core s → i.makes ≡ made_in s
+made_so core i same s stands = (given_stands core s stands node.Ingress (tt, tt) (state.Ingress i) same).1.makes
+
+pub rows_so : (core : CoreView) (s : State) → StandsFor core s → length (emitted_by core) ≡ emitted_in core.plan (inputs_of core) s
+rows_so core s stands = ap length (emitted_so core s stands)

@@ -30,15 +30,17 @@ use Rattle.replica_node.specs.Phases.{running_in}
 use Rattle.replica_node.specs.ReplicaView.{ReplicaView, partition_of}
 use Rattle.replica_node.specs.StandsFor.{PhaseStands}
 use Rattle.replica_node.specs.declared.phase.Running as running
-use Rattle.flux_core.specs.CoreView.{ControllerIs, CoreView, EgressIs, IngressIs, Log, ReplicaIs, flow_in, ingress_contents, inputs_of, replica_contents, station}
+use Rattle.plan_nodes.specs.declared.state.NodeState.TheVariants as state
+use Rattle.flux_core.specs.CoreView.{CoreView, Log, flow_in, ingress_contents, inputs_of, replica_contents, station}
 use Rattle.flux_core.specs.Sent.{bodies_to}
 use Rattle.flux_core.specs.Stands.{ContentStands, IsCore, IsKnown, StandsFor}
-use Rattle.flux_core.proofs.Contents.{content_out}
+use Rattle.flux_core.proofs.Contents.{given_stands}
 use Rattle.run_journal.specs.Text.{node_name}
 use Rattle.state_text.specs.Counted.{AreCounted, count_in, links_shown, packets_to}
 use Rattle.std.specs.BTreeMap.{BTreeMap}
 use Rattle.state_text.specs.Shown.{HasHeld, egress_shown, ingress_shown, replica_shown}
-use Rattle.state_text.specs.StateText.{controller_text, egress_text, ingress_text, nodes_of, replica_text, sent_by_text, sent_line}
+use Rattle.plan_nodes.specs.NodeOrder.{nodes_in}
+use Rattle.state_text.specs.StateText.{controller_text, egress_text, ingress_text, replica_text, sent_by_text, sent_line}
 use Rattle.state_text.proofs.Below.{each_same}
 use Rattle.state_text.proofs.Counting.{pairwise_length}
 use Rattle.state_text.proofs.NodeLines.{egress_same, held_edges, ingress_same, phase_same}
@@ -73,15 +75,15 @@ module _ (core : CoreView) (is : IsCore core) (stage part : ℕ) (named : has_pa
   there : IsOfStage (flow_in core) (partition stage part)
   there = record { first = has_control.0.0; last = has_control.0.1; part = has_control.1 }
 
-  phase_stands : (w : Which) (v : ReplicaView) → ReplicaIs (replica_contents v) ≡ (station core (node.Replica stage part w)).content → (s : State) → StandsFor core s
+  phase_stands : (w : Which) (v : ReplicaView) → Some (state.Replica (replica_contents v)) ≡ (station core (node.Replica stage part w)).content → (s : State) → StandsFor core s
       → PhaseStands core.plan (inputs_of core) (partition stage part) v.phase (replica_in (s.nodes (node.Replica stage part w)))
   phase_stands w v same s stands =
       let n : NodeId = node.Replica stage part w in
-      let h = content_out core.plan (inputs_of core) n (ReplicaIs v) (s.nodes n) (subst (λ c. ContentStands core.plan (inputs_of core) n c (s.nodes n)) (sym same) (stands n (has w)).content) in
+      let h = given_stands core s stands n (has w) (state.Replica v) same in
       let own : partition_of v.role ≡ partition stage part = ap contents.partition_of h.0 in
       subst (λ p. PhaseStands core.plan (inputs_of core) p v.phase (replica_in (s.nodes n))) own h.1.phase_stands
 
-  pub replica_lines : (w : Which) (v : ReplicaView) (name : Word) → ReplicaIs (replica_contents v) ≡ (station core (node.Replica stage part w)).content
+  pub replica_lines : (w : Which) (v : ReplicaView) (name : Word) → Some (state.Replica (replica_contents v)) ≡ (station core (node.Replica stage part w)).content
       → ((r : running.Running) → running_in v.phase ≡ Some r → IsMoving r.mover r.state.old) → (s : State) → StandsFor core s
       → replica_shown name v ≡ replica_text (flow_in core) name (partition stage part) (replica_in (s.nodes (node.Replica stage part w)))
   replica_lines w v name same moving s stands =
@@ -90,28 +92,27 @@ module _ (core : CoreView) (is : IsCore core) (stage part : ℕ) (named : has_pa
       phase_same core.plan (inputs_of core) (partition stage part) name is.plan there v.phase (replica_in (k.state.nodes n)) (replica_in (s.nodes n)) moving
       (phase_stands w v same k.state k.stands) (k.bound n) (phase_stands w v same s stands)
 
-  pub replica_edges : (w : Which) (v : ReplicaView) (edges : ℕ) → ReplicaIs (replica_contents v) ≡ (station core (node.Replica stage part w)).content → edges ≡ sources_of core.plan stage → HasHeld edges v.phase
+  pub replica_edges : (w : Which) (v : ReplicaView) (edges : ℕ) → Some (state.Replica (replica_contents v)) ≡ (station core (node.Replica stage part w)).content → edges ≡ sources_of core.plan stage → HasHeld edges v.phase
   replica_edges w v edges same e =
       let k = known core is in
       held_edges core.plan (inputs_of core) (partition stage part) (node_name (node.Replica stage part w)) is.plan there v.phase (replica_in (k.state.nodes (node.Replica stage part w))) edges
       (phase_stands w v same k.state k.stands) e
 
-  controller_stands : (c : ControllerView) → ControllerIs c ≡ (station core (node.Control stage part)).content → (s : State) → StandsFor core s
-      → ContentStands core.plan (inputs_of core) (node.Control stage part) (ControllerIs c) (s.nodes (node.Control stage part))
-  controller_stands c same s stands =
-      subst (λ x. ContentStands core.plan (inputs_of core) (node.Control stage part) x (s.nodes (node.Control stage part))) (sym same) (stands (node.Control stage part) has_control).content
+  controller_stands : (c : ControllerView) → Some (state.Control c) ≡ (station core (node.Control stage part)).content → (s : State) → StandsFor core s
+      → ContentStands core.plan (inputs_of core) (node.Control stage part) (Some (state.Control c)) (s.nodes (node.Control stage part))
+  controller_stands c same s stands = given_stands core s stands (node.Control stage part) has_control (state.Control c) same
 
-  controller_sources : (c : ControllerView) → ControllerIs c ≡ (station core (node.Control stage part)).content → length c.acked ≡ (flow_in core).sources stage
+  controller_sources : (c : ControllerView) → Some (state.Control c) ≡ (station core (node.Control stage part)).content → length c.acked ≡ (flow_in core).sources stage
   controller_sources c same =
       let k = known core is in
       let h = controller_stands c same k.state k.stands in
       h.1.edges ∙ ap (flow_in core).sources (ap (stage_of_node core.plan) h.0)
 
-  pub controller_edges : (c : ControllerView) (edges : ℕ) → ControllerIs c ≡ (station core (node.Control stage part)).content → edges ≡ sources_of core.plan stage → edges ≡ length c.acked
+  pub controller_edges : (c : ControllerView) (edges : ℕ) → Some (state.Control c) ≡ (station core (node.Control stage part)).content → edges ≡ sources_of core.plan stage → edges ≡ length c.acked
   unfolding flow_of
   controller_edges c edges same e = e ∙ sym (controller_sources c same)
 
-  pub controller_lines : (c : ControllerView) (name : Word) (edges : ℕ) → ControllerIs c ≡ (station core (node.Control stage part)).content → edges ≡ length c.acked → (s : State) → StandsFor core s
+  pub controller_lines : (c : ControllerView) (name : Word) (edges : ℕ) → Some (state.Control c) ≡ (station core (node.Control stage part)).content → edges ≡ length c.acked → (s : State) → StandsFor core s
       → controller_text name edges (numbers_of c) ≡ controller_text name ((flow_in core).sources stage) (controller_in (s.nodes (node.Control stage part)))
   controller_lines c name edges same e s stands =
       let many : edges ≡ (flow_in core).sources stage = e ∙ controller_sources c same in
@@ -120,19 +121,15 @@ module _ (core : CoreView) (is : IsCore core) (stage part : ℕ) (named : has_pa
 
 -- ---- ingress and egress
 
-pub ingress_lines : (core : CoreView) (i : IngressView) → ingress_contents i ≡ core.ingress → (s : State) → StandsFor core s
+pub ingress_lines : (core : CoreView) (i : IngressView) → Some (state.Ingress (ingress_contents i)) ≡ (station core node.Ingress).content → (s : State) → StandsFor core s
     → ingress_shown i ≡ ingress_text (flow_in core) (ingress_in (s.nodes node.Ingress))
-ingress_lines core i same s stands =
-    let h = content_out core.plan (inputs_of core) node.Ingress (IngressIs i) (s.nodes node.Ingress)
-    (subst (λ c. ContentStands core.plan (inputs_of core) node.Ingress (IngressIs c) (s.nodes node.Ingress)) (sym same) (stands node.Ingress (tt, tt)).content) in
-    ingress_same core.plan (inputs_of core) i (s.nodes node.Ingress) h.1
+ingress_lines core i same s stands = ingress_same core.plan (inputs_of core) i (s.nodes node.Ingress) (given_stands core s stands node.Ingress (tt, tt) (state.Ingress i) same).1
 
-pub egress_lines : (core : CoreView) → IsCore core → (e : EgressView) (done : Bool) → e ≡ core.egress → done ≡ e.done
+pub egress_lines : (core : CoreView) → IsCore core → (e : EgressView) (done : Bool) → Some (state.Egress e) ≡ (station core node.Egress).content → done ≡ e.done
     → ((plan : PlanView) (rows : List Input) (n : Node) → IsPlan plan → egress.StandsFor plan rows e n → IsTrue done ↔ ((egress_in n).count ≡ (flow_of plan rows).total (egress_partition (flow_of plan rows))))
     → (s : State) → StandsFor core s → egress_shown e ≡ egress_text (flow_in core) (egress_in (s.nodes node.Egress))
 egress_lines core is e done same read all s stands =
-    let h : ContentStands core.plan (inputs_of core) node.Egress (EgressIs e) (s.nodes node.Egress) =
-    subst (λ c. ContentStands core.plan (inputs_of core) node.Egress (EgressIs c) (s.nodes node.Egress)) (sym same) (stands node.Egress (tt, tt)).content in
+    let h = given_stands core s stands node.Egress (tt, tt) (state.Egress e) same in
     let whole = all core.plan (inputs_of core) (s.nodes node.Egress) is.plan h.1 in
     egress_same core.plan (inputs_of core) e (s.nodes node.Egress) h.1
     (subst (λ b. IsTrue b ↔ ((egress_in (s.nodes node.Egress)).count ≡ (flow_in core).total (egress_partition (flow_in core)))) read whole)
@@ -159,8 +156,8 @@ all_same core s stands nodes (from ∷ senders) named =
     let P : NodeId → Type 0 = λ n. has_node core.plan n ≡ true in
     (λ j. sent_same core s stands nodes from (All-head P from senders named) j ++ all_same core s stands nodes senders (All-tail P from senders named) j)
 
-pub link_lines : (core : CoreView) (s : State) → StandsFor core s → (nodes : List NodeId) → nodes ≡ nodes_of (flow_in core) → All (λ n. has_node core.plan n ≡ true) nodes
-    → flat_map (links_shown core nodes) nodes ≡ flat_map (sent_by_text (flow_in core) s) (nodes_of (flow_in core))
+pub link_lines : (core : CoreView) (s : State) → StandsFor core s → (nodes : List NodeId) → nodes ≡ nodes_in (flow_in core) → All (λ n. has_node core.plan n ≡ true) nodes
+    → flat_map (links_shown core nodes) nodes ≡ flat_map (sent_by_text (flow_in core) s) (nodes_in (flow_in core))
 link_lines core s stands nodes all there =
     all_same core s stands nodes nodes there
     ∙ ap (λ ns. flat_map (λ from. flat_map (λ to. sent_line (link from to) (length (s.sent (link from to)))) ns) ns) all

@@ -5,5 +5,4 @@ pub mod EdgeLines
 pub mod Held
 pub mod Moves
 pub mod NodeLines
-pub mod There
 pub mod Worked

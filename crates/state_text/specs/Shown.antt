@@ -1,5 +1,5 @@
 -- What is written of a node as contracts see it: of the numbers that it stands for, this is the text.
-use Rattle.std.specs.Prelude.{ℕ, ◌≡◌, List, [], ◌∷◌, ◌++◌, Option, None, Some, codes, length, map}
+use Rattle.std.specs.Prelude.{ℕ, ◌≡◌, List, [], ◌++◌, Option, None, Some, codes, length, map}
 use Rattle.flux_consumer.specs.ConsumerView.{ConsumerView, told_of}
 use Rattle.flux_producer.specs.ProducerView.{ProducerView, buffer_at, cursor_at}
 use Rattle.merge_order.specs.MergeView.{mark_of}

@@ -20,6 +20,7 @@ use Rattle.pair_machine.specs.Machine.{State, controller_in, egress_in, ingress_
 use Rattle.pair_machine.specs.Numbers.{Consumer, Controller, Gathering, Gone, Ingress, Move, MoveNumbers, Partition, Producer, Replica, Running, Watched, control_at, copy_of, replica_at}
 use Rattle.pair_machine.specs.Producers.{copies}
 use Rattle.pair_machine.specs.Replicas.{made_by, size}
+use Rattle.plan_nodes.specs.NodeOrder.{nodes_in}
 use Rattle.run_journal.specs.Text.{letter_of, link_name, node_name}
 use Rattle.trade_text.specs.Text.{row_line}
 
@@ -155,13 +156,6 @@ pair_text f s p =
 
 -- ---- links
 
-abbrev pub pair_nodes : Partition → List NodeId
-pair_nodes p = replica_at p A ∷ replica_at p B ∷ control_at p ∷ []
-
--- all nodes in their order
-abbrev pub nodes_of : Flow → List NodeId
-nodes_of f = node.Ingress ∷ flat_map pair_nodes (pairs_up_to f f.stages) ++ node.Egress ∷ []
-
 -- how many packets a link has, where it has any
 abbrev pub sent_line : LinkId → (packets : ℕ) → List ℕ
 sent_line l zero = []
@@ -169,7 +163,7 @@ sent_line l (suc n) = codes "sent " ++ link_name l ++ codes " " ++ decimal (suc 
 
 -- all links out of a node, by their receivers
 abbrev pub sent_by_text : Flow → State → NodeId → List ℕ
-sent_by_text f s from = flat_map (λ to. sent_line (link from to) (length (s.sent (link from to)))) (nodes_of f)
+sent_by_text f s from = flat_map (λ to. sent_line (link from to) (length (s.sent (link from to)))) (nodes_in f)
 
 -- ---- the whole
 
@@ -180,7 +174,7 @@ state_lines f s =
     ++ ingress_text f (ingress_in (s.nodes node.Ingress))
     ++ flat_map (pair_text f s) (pairs_up_to f f.stages)
     ++ egress_text f (egress_in (s.nodes node.Egress))
-    ++ flat_map (sent_by_text f s) (nodes_of f)
+    ++ flat_map (sent_by_text f s) (nodes_in f)
 
 abbrev pub emitted_line : List (List ℕ) → Row → List ℕ
 emitted_line symbols row = codes "row " ++ row_line symbols row

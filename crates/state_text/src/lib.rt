@@ -2,7 +2,7 @@
 //!
 //! It promises that `write_state` gives exactly the text that is defined of the machine's numbers, the packets of each
 //! link and the rows that egress has emitted, of whatever state the core stands for. It stands on `flux_core` for the
-//! nodes and what they sent, on `run_journal` for the names of nodes and on `trade_text` for the line of a row.
+//! nodes and what they sent, on `plan_nodes` for their order, on `run_journal` for the names of nodes and on `trade_text` for the line of a row.
 #![tactic(auto)]
 
 mod controls;

@@ -6,15 +6,16 @@ ghost use Rattle.pair_machine.specs.Machine.{State};
 ghost use Rattle.pair_machine.specs.Numbers.{is_node};
 ghost use Rattle.plan_reader.specs.Nodes.{has_node};
 ghost use Rattle.state_text.specs.Counted.{AreCounted, count_in, links_shown};
-ghost use Rattle.state_text.specs.StateText.{nodes_of, sent_by_text, sent_line};
+ghost use Rattle.plan_nodes.specs.NodeOrder.{nodes_in};
+ghost use Rattle.state_text.specs.StateText.{sent_by_text, sent_line};
 ghost use Rattle.run_journal.specs.Text.{link_name};
 ghost use Rattle.std.specs.Fmt.{decimal};
 ghost use Rattle.std.specs.List.{flat_map};
 ghost use Rattle.std.specs.Prelude.{◌≡◌, ◌<◌, ◌+◌, ◌++◌, ◌^◌, All, IfOk, IsTrue, OnOk, codes, if◌then◌else◌, length, string_bytes, take};
 ghost use Rattle.tuple_edge.specs.declared.node.NodeId.{NodeId as Node};
 
-use crate::nodes::nodes_of;
 use flux_core::Core;
+use plan_nodes::nodes_of;
 use run_journal::push_node;
 use std::alloc::Global;
 use std::collections::BTreeMap;
@@ -160,9 +161,9 @@ fn push_between(
 // Appends the lines of all links.
 pub(crate) fn push_links(text: &mut String, alloc: Global, core: &Core) -> Result<(), OutOfMemory>
     ensures { OnOk result ((s : State) → StandsFor core.now s
-        → string_bytes text.new ≡ string_bytes text.old ++ flat_map (sent_by_text (flow_in core.now) s) (nodes_of (flow_in core.now))) }
+        → string_bytes text.new ≡ string_bytes text.old ++ flat_map (sent_by_text (flow_in core.now) s) (nodes_in (flow_in core.now))) }
 {
-    let nodes = nodes_of(alloc, core)?;
+    let nodes = nodes_of(alloc, core.plan())?;
     push_between(text, alloc, core, &nodes)?;
     Ok(())
 }

@@ -1,5 +1,5 @@
 // The text of the state that a core stands for.
-ghost use Rattle.flux_core.specs.CoreView.{flow_in};
+ghost use Rattle.flux_core.specs.CoreView.{emitted_by, flow_in};
 ghost use Rattle.flux_core.specs.Stands.{StandsFor};
 ghost use Rattle.pair_machine.specs.Machine.{State, egress_in, ingress_in};
 ghost use Rattle.state_text.specs.StateText.{egress_text, ingress_text, state_lines, state_text};
@@ -67,7 +67,7 @@ fn lines_of(core: &Core, alloc: Global) -> Result<String, OutOfMemory>
 /// them. Its room is made a few times, and none for a line.
 pub fn write_state(core: &Core, alloc: Global, trades: &Trades) -> Result<Vec<u8>, OutOfMemory>
     ensures { IfOk result (λ text. (s : State) → StandsFor core.now s
-        → text.items ≡ state_text (flow_in core.now) s trades.now.symbols core.now.egress.emitted) }
+        → text.items ≡ state_text (flow_in core.now) s trades.now.symbols (emitted_by core.now)) }
 {
     let text = lines_of(core, alloc)?;
     let mut out = text.into_bytes();

@@ -29,27 +29,47 @@ fn send_most<O: Outlet>(outlet: &mut O, most: u64) -> u64
     most
 }
 
-// The next arrival of an inlet that gave few before.
-fn next_of<I: Inlet>(inlet: &mut I) -> Option<Arrival>
+// The index of the next arrival of an inlet that gave few before.
+fn next_of<I: Inlet>(inlet: &mut I) -> Option<u64>
     requires { length (I.given inlet.old) < 2 ^ 32 }
     ensures given { length (I.given inlet.new) ≤ length (I.given inlet.old) + 1 }
     ensures link { I.identity inlet.new ≡ I.identity inlet.old }
 {
-    inlet.recv()
+    let arrival = inlet.recv()?;
+    Some(arrival.index)
 }
 
-// The indexes of all arrivals that an inlet gives, up to a fixed number of them.
+// Its index, where it is looked at and then passed.
+fn next_index<I: Inlet>(inlet: &mut I) -> Option<u64>
+    requires { length (I.given inlet.old) < 2 ^ 32 }
+    ensures given { length (I.given inlet.new) ≤ length (I.given inlet.old) + 1 }
+    ensures link { I.identity inlet.new ≡ I.identity inlet.old }
+{
+    if !inlet.look() {
+        return None;
+    }
+    let index = inlet.index();
+    inlet.pass();
+    Some(index)
+}
+
+// The indexes of all arrivals that an inlet gives, up to a fixed number of them. Each second one is looked at first.
 fn indexes<I: Inlet>(alloc: Global, inlet: &mut I) -> Result<Vec<u64>, OutOfMemory>
     requires { length (I.given inlet.old) < 2 ^ 31 }
     ensures given { length (I.given inlet.new) ≤ length (I.given inlet.old) + MOST }
     ensures link { I.identity inlet.new ≡ I.identity inlet.old }
 {
     let mut all = Vec::new(alloc);
-    for _turn in 0..MOST {
-        let Some(arrival) = next_of(inlet) else {
+    for turn in 0..MOST {
+        let next = if turn % 2 == 0 {
+            next_of(inlet)
+        } else {
+            next_index(inlet)
+        };
+        let Some(index) = next else {
             break;
         };
-        all.push(arrival.index)?;
+        all.push(index)?;
     }
     Ok(all)
 }
@@ -66,6 +86,14 @@ fn one_by_one(rt: &impl Abort, link: &mut MemLink)
         packet: packet(5),
     };
     assert_eq!(rt; link.recv(), Some(arrival));
+}
+
+// The packet that is next is told before it is given.
+fn tells_next(rt: &impl Abort, link: &mut MemLink) {
+    assert!(rt; !link.look());
+    assert_eq!(rt; link.send(packet(5)), Ok(()));
+    assert!(rt; link.look());
+    assert_eq!(rt; *link.first(), packet(5));
 }
 
 fn link_of_one(rt: &impl Abort, alloc: Global) -> Result<(), OutOfMemory> {
@@ -86,6 +114,7 @@ fn indexes_behind(rt: &impl Abort, alloc: Global) -> Result<Vec<u64>, OutOfMemor
 fn memory_link_is_exact(rt: HostRuntime) -> Result<(), Fail> {
     link_of_one(&rt, rt.alloc())?;
     assert!(rt; indexes_behind(&rt, rt.alloc())?[..] == [2, 1]);
+    tells_next(&rt, &mut MemLink::new(rt.alloc(), 1)?);
     let mut none = MemLink::new(rt.alloc(), 0)?;
     assert_eq!(rt; none.send(packet(1)), Err(packet(1)));
     Ok(())

@@ -1,7 +1,9 @@
 // Runs under a script.
 use crate::fixture::{KEPT, Outcome, emits_a_front, is_legal, led_by, run};
+use crate::nodes::is_done;
 use flux_core::Core;
 use partition_runner::{FreeGate, Ran, Rings};
+use plan_nodes::NodeState;
 use replica_node::Mode;
 use std::alloc::Global;
 use std::process::Abort;
@@ -47,8 +49,14 @@ fn fired(events: &[Event]) -> [usize; 3] {
 
 // What a replica does at the end of a run, and in which incarnation.
 fn mode(ran: &Ran, node: NodeId) -> Option<(Mode, u64)> {
-    let replica = ran.replicas.iter().find(|replica| replica.id() == node)?;
-    Some((replica.mode(), replica.inc()))
+    for each in &ran.nodes {
+        if let NodeState::Replica(replica) = each {
+            if replica.id() == node {
+                return Some((replica.mode(), replica.inc()));
+            }
+        }
+    }
+    None
 }
 
 // A run under the script, by so many workers. It is legal, and emits all of the output.
@@ -62,7 +70,7 @@ fn fails<R: Threads + Sync + Abort>(
     let legal = is_legal(alloc, &story, &outcome)?;
     assert!(rt; legal, "{threads}");
     assert!(rt; emits_a_front(&story, &outcome.ran), "{threads}");
-    assert!(rt; outcome.ran.egress.done(), "{threads}");
+    assert!(rt; is_done(&outcome.ran.nodes), "{threads}");
     Ok(outcome)
 }
 
@@ -124,7 +132,7 @@ fn merged_at_failure<R: Threads + Sync + Abort>(
     let outcome = run(rt, alloc, &story, 1, 1_000_000, &mut Rings, &FreeGate)?;
     let legal = is_legal(alloc, &story, &outcome)?;
     assert!(rt; legal && emits_a_front(&story, &outcome.ran), "{at}");
-    assert!(rt; outcome.ran.egress.done(), "{at}");
+    assert!(rt; is_done(&outcome.ran.nodes), "{at}");
     let events = before(alloc, &outcome.events, Event::Kill { node: A })?;
     let core = led_by(alloc, &story, &events)?;
     Ok(merged(&core, A))

@@ -4,7 +4,7 @@ ghost use Rattle.std.specs.Prelude.{◌≡◌, IfOk, true};
 ghost use Rattle.trade_text.specs.TradesView.{inputs_in};
 
 use crate::clocks::by_clock;
-use crate::nodes::agrees;
+use crate::nodes::{agrees, emitted, is_done};
 use flux_core::Core;
 use partition_runner::{Gate, Links, Ran, run_over};
 use std::alloc::Global;
@@ -124,6 +124,6 @@ pub(crate) fn leads_to_all(
 
 // Whether what egress emitted is a front of the output, and all of it where egress is done.
 pub(crate) fn emits_a_front(story: &Story, ran: &Ran) -> bool {
-    let rows = ran.egress.emitted();
-    story.output.starts_with(rows) && (!ran.egress.done() || rows.len() == story.output.len())
+    let rows = emitted(&ran.nodes);
+    story.output.starts_with(rows) && (!is_done(&ran.nodes) || rows.len() == story.output.len())
 }

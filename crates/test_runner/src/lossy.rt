@@ -4,6 +4,7 @@ ghost use Rattle.std.specs.Prelude.{IfOk};
 ghost use Rattle.trade_text.specs.TradesView.{inputs_in};
 
 use crate::fixture::{Outcome, emits_a_front, is_legal, leads_to_all, led_by, run};
+use crate::nodes::{emitted, is_done};
 use core_drain::{Drained, drain};
 use event_log::EventBlocks;
 use flux_link::Choice;
@@ -93,7 +94,7 @@ fn what_is_lost_is_drained(rt: HostRuntime) -> Result<(), Fail> {
     let outcome = run_treated(&rt, rt.alloc(), &story, 2_000, choices)?;
     let taken = taken(rt.alloc(), &outcome.events, FIRST)?;
     assert!(rt; taken.starts_with(&[2, 2, 4, 3, 6, 6, 8, 7, 10, 10, 12, 11]));
-    assert!(rt; outcome.ran.egress.emitted().is_empty());
+    assert!(rt; emitted(&outcome.ran.nodes).is_empty());
     drains(&rt, rt.alloc(), &story, outcome)?;
     Ok(())
 }
@@ -105,8 +106,8 @@ fn a_loss_in_the_middle_is_drained(rt: HostRuntime) -> Result<(), Fail> {
     let mut choices = repeated(rt.alloc(), &[Choice::Pass], 200)?;
     choices.extend_from_slice(&[Choice::Drop, Choice::Behind])?;
     let outcome = run_treated(&rt, rt.alloc(), &story, 2_000, choices)?;
-    assert!(rt; !outcome.ran.egress.done());
-    assert!(rt; !outcome.ran.egress.emitted().is_empty());
+    assert!(rt; !is_done(&outcome.ran.nodes));
+    assert!(rt; !emitted(&outcome.ran.nodes).is_empty());
     drains(&rt, rt.alloc(), &story, outcome)?;
     Ok(())
 }
@@ -119,6 +120,6 @@ fn what_comes_twice_counts_once(rt: HostRuntime) -> Result<(), Fail> {
     let outcome = run_treated(&rt, rt.alloc(), &story, 1_000_000, choices)?;
     let taken = taken(rt.alloc(), &outcome.events, FIRST)?;
     assert!(rt; taken.starts_with(&[1, 1, 2, 2, 3, 3]));
-    assert!(rt; outcome.ran.egress.done());
+    assert!(rt; is_done(&outcome.ran.nodes));
     Ok(())
 }

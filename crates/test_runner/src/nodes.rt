@@ -1,12 +1,13 @@
-// Whether the nodes that a run gave are those of a core.
+// The nodes that a run gave: its egress, and whether they are those of a core.
 use flux_consumer::Consumer;
 use flux_core::Core;
 use flux_producer::Producer;
 use ingress_egress::{Egress, Ingress};
 use pair_control::PairControl;
 use partition_runner::Ran;
+use plan_nodes::NodeState;
 use replica_node::Replica;
-use tuple_edge::{NodeId, Which};
+use tuple_edge::{NodeId, Row, Which};
 
 // No node has more edges on one side.
 const EDGES: u32 = 8;
@@ -133,30 +134,41 @@ fn has_control(core: &Core, control: &PairControl) -> bool {
     same_controls(core.control(stage, part), control)
 }
 
-fn has_replicas(core: &Core, replicas: &[Replica]) -> bool {
-    for replica in replicas {
-        if !has_replica(core, replica) {
-            return false;
-        }
+// Whether a core has this node.
+fn has_node(core: &Core, node: &NodeState) -> bool {
+    match node {
+        NodeState::Ingress(ingress) => same_ingresses(core.ingress(), ingress),
+        NodeState::Replica(replica) => has_replica(core, replica),
+        NodeState::Control(control) => has_control(core, control),
+        NodeState::Egress(egress) => same_egresses(core.egress(), egress),
     }
-    true
-}
-
-fn has_controls(core: &Core, controls: &[PairControl]) -> bool {
-    for control in controls {
-        if !has_control(core, control) {
-            return false;
-        }
-    }
-    true
 }
 
 // Whether the nodes of a run are those of a core, each with its history.
 pub(crate) fn agrees(core: &Core, ran: &Ran) -> bool {
-    let nodes = ran.replicas.len().saturating_add(ran.controls.len());
-    ran.histories.len() == nodes.saturating_add(2)
-        && same_ingresses(core.ingress(), &ran.ingress)
-        && has_replicas(core, &ran.replicas)
-        && has_controls(core, &ran.controls)
-        && same_egresses(core.egress(), &ran.egress)
+    ran.histories.len() == ran.nodes.len() && ran.nodes.iter().all(|node| has_node(core, node))
+}
+
+// The egress of a run, which is its last node.
+pub(crate) fn egress_of(nodes: &[NodeState]) -> Option<&Egress> {
+    match nodes.last() {
+        Some(NodeState::Egress(egress)) => Some(egress),
+        _ => None,
+    }
+}
+
+// Whether the egress of a run is done.
+pub(crate) fn is_done(nodes: &[NodeState]) -> bool {
+    match egress_of(nodes) {
+        Some(egress) => egress.done(),
+        None => false,
+    }
+}
+
+// The rows that the egress of a run emitted.
+pub(crate) fn emitted(nodes: &[NodeState]) -> &[Row] {
+    match egress_of(nodes) {
+        Some(egress) => egress.emitted(),
+        None => &[],
+    }
 }

@@ -1,5 +1,7 @@
 // Runs without failures: their events drive the core to the nodes that they gave.
 use crate::fixture::{KEPT, THREE_TRADES, emits_a_front, is_legal, run};
+use crate::nodes::{emitted, is_done};
+use node_tasks::Acts;
 use partition_runner::{FreeGate, Ran, Rings, run_nodes};
 use std::alloc::Global;
 use std::process::Abort;
@@ -8,8 +10,8 @@ use std::thread::Threads;
 use test_kit::{ONE, Story, control, made, replica, told};
 use tuple_edge::{NodeId, OutOfMemory, Row, Which};
 
-// The nodes of the plan of two stages in their order, and of them the replicas, and the controllers.
-fn nodes() -> [NodeId; 20] {
+// The nodes of the plan of two stages, in their order.
+fn nodes() -> [NodeId; 11] {
     [
         NodeId::Ingress,
         replica(1, 0, Which::A),
@@ -22,27 +24,21 @@ fn nodes() -> [NodeId; 20] {
         replica(2, 0, Which::B),
         control(2, 0),
         NodeId::Egress,
-        replica(1, 0, Which::A),
-        replica(1, 0, Which::B),
-        replica(1, 1, Which::A),
-        replica(1, 1, Which::B),
-        replica(2, 0, Which::A),
-        replica(2, 0, Which::B),
-        control(1, 0),
-        control(1, 1),
-        control(2, 0),
     ]
 }
 
-// The nodes of a run: those of its histories, its replicas, and its controllers.
-fn named(alloc: Global, ran: &Ran) -> Result<Vec<NodeId>, OutOfMemory> {
-    let mut named = Vec::new(alloc);
-    for history in &ran.histories {
-        named.push(history.node)?;
-    }
-    named.extend(ran.replicas.iter().map(|replica| replica.id()))?;
-    named.extend(ran.controls.iter().map(|control| control.id()))?;
-    Ok(named)
+// The names of the nodes that a run gave.
+fn given(alloc: Global, ran: &Ran) -> Result<Vec<NodeId>, OutOfMemory> {
+    let mut names = Vec::new(alloc);
+    names.extend(ran.nodes.iter().map(|node| node.id()))?;
+    Ok(names)
+}
+
+// The names of the nodes of which it gave a history.
+fn told_of(alloc: Global, ran: &Ran) -> Result<Vec<NodeId>, OutOfMemory> {
+    let mut names = Vec::new(alloc);
+    names.extend(ran.histories.iter().map(|history| history.node))?;
+    Ok(names)
 }
 
 // A run of so many workers over rings is legal, and emits a front of the output. Whether egress is done.
@@ -57,7 +53,7 @@ fn runs<R: Threads + Sync + Abort>(
     let legal = is_legal(alloc, story, &outcome)?;
     assert!(rt; legal, "{threads} {turns}");
     assert!(rt; emits_a_front(story, &outcome.ran), "{threads} {turns}");
-    Ok(outcome.ran.egress.done())
+    Ok(is_done(&outcome.ran.nodes))
 }
 
 // Workers that have no turn leave the nodes as they open: all of the plan's, in their order, and nothing has happened.
@@ -67,8 +63,12 @@ fn no_turn_leaves_the_nodes_as_they_open(rt: HostRuntime) -> Result<(), Fail> {
     let outcome = run(&rt, rt.alloc(), &story, 4, 0, &mut Rings, &FreeGate)?;
     let legal = is_legal(rt.alloc(), &story, &outcome)?;
     assert!(rt; legal && outcome.events.is_empty());
-    let named = named(rt.alloc(), &outcome.ran)?;
-    assert!(rt; named.as_slice() == nodes().as_slice());
+    let (given, told) = (
+        given(rt.alloc(), &outcome.ran)?,
+        told_of(rt.alloc(), &outcome.ran)?,
+    );
+    assert!(rt; given.as_slice() == nodes().as_slice());
+    assert!(rt; told.as_slice() == nodes().as_slice());
     Ok(())
 }
 
@@ -76,9 +76,9 @@ fn no_turn_leaves_the_nodes_as_they_open(rt: HostRuntime) -> Result<(), Fail> {
 #[test]
 fn one_worker_goes_to_the_end(rt: HostRuntime) -> Result<(), Fail> {
     let story = made(rt.alloc(), KEPT, 3, 500, b"")?;
-    for (turns, is_done) in [(1, false), (11, false), (40, false), (5_000, true)] {
+    for (turns, ends) in [(1, false), (11, false), (40, false), (5_000, true)] {
         let done = runs(&rt, rt.alloc(), &story, 1, turns)?;
-        assert_eq!(rt; done, is_done, "{turns}");
+        assert_eq!(rt; done, ends, "{turns}");
     }
     Ok(())
 }
@@ -104,7 +104,7 @@ fn no_run_stalls_whatever_an_edge_holds(rt: HostRuntime) -> Result<(), Fail> {
         )?;
         let story = made(rt.alloc(), plan.as_bytes(), 3, hold + 40, b"")?;
         let outcome = run(&rt, rt.alloc(), &story, 1, 400, &mut Rings, &FreeGate)?;
-        assert!(rt; outcome.ran.egress.done(), "{hold}");
+        assert!(rt; is_done(&outcome.ran.nodes), "{hold}");
     }
     Ok(())
 }
@@ -131,7 +131,7 @@ fn run_of_three<R: Threads + Sync>(rt: &R, alloc: Global) -> Result<Ran, OutOfMe
 #[test]
 fn three_trades_give_three_rows(rt: HostRuntime) -> Result<(), Fail> {
     let ran = run_of_three(&rt, rt.alloc())?;
-    assert!(rt; ran.egress.done());
-    assert!(rt; ran.egress.emitted() == [total(1), total(2), total(3)].as_slice());
+    assert!(rt; is_done(&ran.nodes));
+    assert!(rt; emitted(&ran.nodes) == [total(1), total(2), total(3)].as_slice());
     Ok(())
 }

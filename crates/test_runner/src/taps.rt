@@ -2,6 +2,7 @@
 ghost use Rattle.std.specs.Prelude.{◌≡◌};
 ghost use Rattle.trade_text.specs.TradesView.{inputs_in};
 
+use crate::nodes::{emitted, is_done};
 use partition_runner::{FreeGate, Left, RunNames, Tap, ready_tapped, run_tapped};
 use std::alloc::Global;
 use std::marker::Brand;
@@ -66,8 +67,8 @@ fn a_tap_is_given_all_rows(rt: HostRuntime) -> Result<(), Fail> {
     let story = made(rt.alloc(), ONE, 3, 400, b"")?;
     for threads in [1, 4] {
         let (ran, tap) = run_kept(&rt, rt.alloc(), &story, threads)?;
-        assert!(rt; ran.egress.done());
-        assert!(rt; tap.rows.as_slice() == ran.egress.emitted());
+        assert!(rt; is_done(&ran.nodes));
+        assert!(rt; tap.rows.as_slice() == emitted(&ran.nodes));
         assert!(rt; tap.rows == story.output);
     }
     Ok(())

@@ -1,6 +1,9 @@
 // What a node does in one turn, on one worker: its steps in their order, and how many of each there are at most.
 use crate::fixture::{emits_a_front, is_legal, run};
+use crate::nodes::{egress_of, is_done};
+use node_tasks::Acts;
 use partition_runner::{FreeGate, Ran, Rings};
+use plan_nodes::NodeState;
 use replica_node::Replica;
 use std::alloc::Global;
 use std::process::Abort;
@@ -143,13 +146,17 @@ fn sent(replica: &Replica) -> u64 {
 
 // The most items that are under way from one replica to egress.
 fn most_under_way(ran: &Ran) -> u64 {
-    let merge = ran.egress.consumer().merge();
+    let Some(egress) = egress_of(&ran.nodes) else {
+        return 0;
+    };
+    let merge = egress.consumer().merge();
     let mut most = 0u64;
-    for replica in &ran.replicas {
-        if let NodeId::Replica { part, .. } = replica.id() {
-            if part < merge.edges() {
-                most = most.max(sent(replica).saturating_sub(merge.mark(part)));
-            }
+    for node in &ran.nodes {
+        let (NodeId::Replica { part, .. }, NodeState::Replica(replica)) = (node.id(), node) else {
+            continue;
+        };
+        if part < merge.edges() {
+            most = most.max(sent(replica).saturating_sub(merge.mark(part)));
         }
     }
     most
@@ -173,7 +180,7 @@ fn most_at_once(portions: &[(Kind, u64)], kind: Kind) -> u64 {
 fn a_turn_takes_a_portion_and_begins_work_while_nothing_waits(rt: HostRuntime) -> Result<(), Fail> {
     let story = made(rt.alloc(), BURST, 3, 5_000, b"")?;
     let outcome = run(&rt, rt.alloc(), &story, 1, 182 * 26, &mut Rings, &FreeGate)?;
-    assert!(rt; !outcome.ran.egress.done());
+    assert!(rt; !is_done(&outcome.ran.nodes));
     assert_eq!(rt; most_under_way(&outcome.ran), 128 + 9);
     let portions = portions_of(rt.alloc(), &outcome.ran, NodeId::Egress)?;
     assert_eq!(rt; most_at_once(&portions, Kind::Take), 64);
@@ -195,7 +202,7 @@ fn runs_full<R: Threads + Sync + Abort>(
     let outcome = run(rt, alloc, story, 1, turns, &mut Rings, &FreeGate)?;
     let legal = is_legal(alloc, story, &outcome)?;
     assert!(rt; legal && emits_a_front(story, &outcome.ran), "{turns}");
-    Ok((most_under_way(&outcome.ran), outcome.ran.egress.done()))
+    Ok((most_under_way(&outcome.ran), is_done(&outcome.ran.nodes)))
 }
 
 // Where a ring is full up to 24 items wait beside it, and no row is lost, doubled or out of its place.

@@ -1,6 +1,6 @@
 // What a replica that runs has, and what it takes and does.
 ghost use Rattle.flux_consumer.specs.ConsumerView.{report_of};
-ghost use Rattle.merge_order.specs.MergeView.{all_wait, item_of, least, mark_of};
+ghost use Rattle.merge_order.specs.MergeView.{all_wait, least, mark_of};
 ghost use Rattle.op_spec.specs.Times.{IsTimely};
 ghost use Rattle.partition_step.specs.Merging.{Merges};
 ghost use Rattle.partition_step.specs.Places.{IsPlace};
@@ -15,6 +15,7 @@ use crate::group::replica;
 use crate::role::TrioRole;
 use flux_consumer::Consumer;
 use flux_producer::{Due, Producer};
+use merge_order::Head;
 use partition_step::merge_next;
 use std::alloc::Global;
 use stream_ops::OpState;
@@ -133,23 +134,23 @@ impl TrioRunning {
         ensures idle { IfOk result (λ did. did ≡ Idle → (self.new ≡ self.old) × (out.new ≡ out.old)) }
         ensures unchanged { OnErr result ((contents_of_run self.new ≡ contents_of_run self.old) × (out.new.packets ≡ out.old.packets)) }
     {
-        match self.consumer.peek() {
+        match self.consumer.least() {
             None => self.send_or_report(role, out),
-            Some(item) => {
-                self.merge(role, rows, item)?;
+            Some(head) => {
+                self.merge(role, rows, head)?;
                 Ok(Worked::Did)
             }
         }
     }
 
-    // Merges the next item, which is this one, and produces what answers it.
-    fn merge(&mut self, role: &TrioRole, rows: &mut Vec<Row>, item: Item) -> Result<(), OutOfMemory>
-        requires next { item_of (least self.old.consumer.merge.waiting) ≡ Some item }
+    // Merges the next item, which is that of this head, and produces what answers it.
+    fn merge(&mut self, role: &TrioRole, rows: &mut Vec<Row>, head: Head) -> Result<(), OutOfMemory>
+        requires next { least self.old.consumer.merge.waiting ≡ Some head }
         requires fits { self.old.consumer.merge.count + 1 < number_limit }
-        requires timely { IsTimely item }
+        requires timely { IsTimely head.item }
         requires place { IsPlace (partition_of role.now) role.now.sources role.now.task }
         requires running { IsRunning role.now self.old }
-        ensures merges { OnOk result (Merges role.now.task.next item (parts_of_run self.old) (parts_of_run self.new)) }
+        ensures merges { OnOk result (Merges role.now.task.next head.item (parts_of_run self.old) (parts_of_run self.new)) }
         ensures unchanged { OnErr result (contents_of_run self.new ≡ contents_of_run self.old) }
     {
         merge_next(
@@ -158,7 +159,7 @@ impl TrioRunning {
             &mut self.producer,
             &role.task,
             rows,
-            item,
+            head,
         )
     }
 

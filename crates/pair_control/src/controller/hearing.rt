@@ -3,14 +3,14 @@ ghost use Rattle.pair_control.specs.Admitted.{IsCarried};
 ghost use Rattle.pair_control.specs.ControllerView.{IsOneAway, numbers_of, partition_of, watched_of};
 ghost use Rattle.pair_control.specs.Packets.{IsDone, SendsAtMost, message_of};
 ghost use Rattle.pair_machine.specs.Controllers.{controller_hears, goes_down};
-ghost use Rattle.pair_machine.specs.Messages.{Caught};
+ghost use Rattle.pair_machine.specs.Messages.{Caught, Report};
 ghost use Rattle.pair_machine.specs.Numbers.{replica_at};
-ghost use Rattle.std.specs.Prelude.{◌≡◌, ◌<◌, ◌≤◌, ◌+◌, ◌^◌, ◌++◌, ◌∷◌, ◌⊎◌, [], Some};
+ghost use Rattle.std.specs.Prelude.{◌≡◌, ◌<◌, ◌≤◌, ◌+◌, ◌^◌, ◌++◌, ◌∷◌, ◌⊎◌, [], Some, length};
 ghost use Rattle.tuple_edge.specs.declared.packet.Body.TheVariants as body;
 ghost use Rattle.tuple_edge.specs.declared.status.Status.TheVariants as status;
 
 use crate::PairControl;
-use tuple_edge::{Body, NodeId, Outbox, Status, Which};
+use tuple_edge::{Body, EdgeId, NodeId, Outbox, Status, Which};
 
 impl PairControl {
     // What the packet itself changes; what isn't carried to a controller changes nothing.
@@ -28,10 +28,7 @@ impl PairControl {
         ensures alone { (self.new.term ≡ self.old.term) ⊎ IsOneAway self.new }
     {
         match *body {
-            Body::Report { inc, edge, upto } => match which {
-                Which::A => self.a.hear_report(inc, edge.from as usize, upto),
-                Which::B => self.b.hear_report(inc, edge.from as usize, upto),
-            },
+            Body::Report { inc, edge, upto } => self.hear_report(which, inc, edge, upto),
             Body::Down { inc } => {
                 if self.counts(which, inc) {
                     self.go_down(which, out);
@@ -54,7 +51,27 @@ impl PairControl {
         }
     }
 
+    // What a replica reports of an in-edge: of that edge more may be due then.
+    fn hear_report(&mut self, which: Which, inc: u64, edge: EdgeId, upto: u64)
+        requires { edge.from < length self.old.acked }
+        ensures numbers { numbers_of self.new
+            ≡ (controller_hears (partition_of self.old) which (Report inc edge upto) (numbers_of self.old)).0 }
+        ensures partition { partition_of self.new ≡ partition_of self.old }
+        ensures acked { self.new.acked ≡ self.old.acked }
+        ensures term { self.new.term ≡ self.old.term }
+        ensures incs { (self.new.a.inc ≡ self.old.a.inc) × (self.new.b.inc ≡ self.old.b.inc) }
+    {
+        let edge = edge.from as usize;
+        self.first_due = self.first_due.min(edge);
+        self.end_due = self.end_due.max(edge + 1);
+        match which {
+            Which::A => self.a.hear_report(inc, edge, upto),
+            Which::B => self.b.hear_report(inc, edge, upto),
+        }
+    }
+
     // A replica goes down, and no stop is wanted for it. Where it led, its partner leads if that is up.
+    #[tactic(auto, using(crate::proofs::Due::all_due))]
     pub(crate) fn go_down(&mut self, which: Which, out: &mut Outbox)
         requires term { self.old.term + 1 < 2 ^ 64 }
         requires room { 1 ≤ out.old.spare }
@@ -69,6 +86,9 @@ impl PairControl {
         let partner = which.other();
         let led = self.leader == Some(which);
         let is_followed = self.status(partner) == Status::Up;
+        // The least report is now the partner's, of each in-edge.
+        self.first_due = 0;
+        self.end_due = self.acked.len();
         match which {
             Which::A => self.a.go_down(),
             Which::B => self.b.go_down(),
@@ -83,6 +103,7 @@ impl PairControl {
     }
 
     // A replica that was catching up is up. Where nobody leads, it is named leader.
+    #[tactic(auto, using(crate::proofs::Due::up_a, crate::proofs::Due::up_b))]
     fn come_up(&mut self, which: Which, out: &mut Outbox)
         requires term { self.old.term + 1 < 2 ^ 64 }
         requires room { 1 ≤ out.old.spare }

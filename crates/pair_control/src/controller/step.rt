@@ -75,6 +75,7 @@ impl PairControl {
     }
 
     // A replica that is to be brought back, is down and stands beside one that is up begins to catch up.
+    #[tactic(auto, using(crate::proofs::Due::begun_a, crate::proofs::Due::begun_b))]
     fn bring_back(&mut self, which: Which, out: &mut Outbox)
         requires inc { (watched_of self.old which).inc + 1 < 2 ^ 64 }
         requires room { 2 ≤ out.old.spare }
@@ -140,7 +141,8 @@ impl PairControl {
         }
     }
 
-    // Acknowledges of each in-edge what every replica that isn't down has reported.
+    // Acknowledges of each in-edge what every replica that isn't down has reported: it looks at those
+    // alone that may be due.
     fn acknowledge(&mut self, out: &mut Outbox)
         requires room { 16 ≤ out.old.spare }
         ensures does { IsDone self.old self.new out.old out.new
@@ -151,10 +153,12 @@ impl PairControl {
         ensures term { self.new.term ≡ self.old.term }
         ensures sends { SendsAtMost 16 out.old out.new }
     {
-        for edge in 0..self.acked.len() {
+        for edge in self.first_due..self.end_due {
             let known = self.acked[edge];
             let least = least_report(known, &self.a, &self.b, edge);
             raise(&mut self.acked, edge, least, self.stage, self.part, out);
         }
+        self.first_due = self.acked.len();
+        self.end_due = 0;
     }
 }

@@ -1,5 +1,4 @@
-use Rattle.std.proofs.Common.{◌∙◌, ap, false, None, Some, refl}
-use Rattle.ingress_egress.specs.EgressView.{EgressView}
+use Rattle.std.proofs.Common.{false, None, Some, refl}
 use Rattle.core_drain.proofs.Found.{egress_merges_found, merges_found}
 use Rattle.core_drain.proofs.next.merges.Goals as goal
 
@@ -10,4 +9,4 @@ pub returns-in-None : goal.returns-in-None
 returns-in-None c = λ s stands. merges_found c.args.core.now s stands c.args.node c.in-Replica.stage c.in-Replica.part c.in-Replica.which c.in-Replica.is c.requires c.replica.result.now c.replica.ensures None c.in-None.ensures false refl
 
 pub returns-in-Egress : goal.returns-in-Egress
-returns-in-Egress c = λ s stands. egress_merges_found c.args.core.now s stands c.args.node c.in-Egress.is c.consumer-in-Egress.result.now (c.consumer-in-Egress.ensures ∙ ap (λ (e : EgressView). e.consumer) c.egress.ensures) c.ready-in-Egress.result c.ready-in-Egress.ensures.value
+returns-in-Egress c = λ s stands. egress_merges_found c.args.core.now s stands c.args.node c.in-Egress.is c.egress.result.now c.egress.ensures c.consumer-in-Egress.result.now c.consumer-in-Egress.ensures c.ready-in-Egress.result c.ready-in-Egress.ensures.value

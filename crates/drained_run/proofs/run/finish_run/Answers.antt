@@ -8,7 +8,7 @@ use Rattle.drained_run.proofs.Joined.{mergeable}
 use Rattle.drained_run.proofs.run.finish_run.Goals as goal
 
 pub of-requires : goal.of-requires
-of-requires c = record { given = given c.args.plan.now (inputs_in c.args.trades.now) c.args.script.now c.args.left c.stages-stages.ensures.limits c.requires }
+of-requires c = record { names = c.requires.nodes_are; given = given c.args.plan.now (inputs_in c.args.trades.now) c.args.script.now c.args.left c.stages-stages.ensures.limits c.requires }
 
 pub returns-clause-ended : goal.returns-clause-ended
 returns-clause-ended c = run_ends c.args.plan.now (inputs_in c.args.trades.now) c.args.script.now c.args.left c.stages-stages.ensures.limits c.requires

@@ -3,6 +3,7 @@ use mathlib.Core.List.{IsPrefix}
 use Rattle.tuple_edge.specs.declared.memory.OutOfMemory.{OutOfMemory}
 use Rattle.pair_machine.specs.Output.{output}
 use Rattle.trade_text.specs.TradesView.{inputs_in}
+use Rattle.partition_runner.specs.Ran.{emitted_in}
 use Rattle.partition_runner.specs.declared.ran.Left.{Left}
 use Rattle.live_feed.proofs.Runs.{has_run}
 use Rattle.live_feed.proofs.end.end_of.Goals as goal
@@ -12,5 +13,5 @@ returns-in-Ok c given front =
     let plan = c.args.plan.now in
     let inputs = inputs_in c.args.trades.now in
     let e = c.finish_run.ensures in
-    has_run plan inputs c.args.script.now given c.in-Ok.left.egress.emitted c.finish_run.result e.ended e.goes_on e.front
-    (subst (λ (r : Result Left OutOfMemory). MatchResult r (λ ran. IsPrefix given ran.egress.emitted) (λ _. IsPrefix given (output plan inputs))) c.in-Ok.is front)
+    has_run plan inputs c.args.script.now given (emitted_in c.in-Ok.left.nodes.items) c.finish_run.result e.ended e.goes_on e.front
+    (subst (λ (r : Result Left OutOfMemory). MatchResult r (λ ran. IsPrefix given (emitted_in ran.nodes.items)) (λ _. IsPrefix given (output plan inputs))) c.in-Ok.is front)

@@ -1,6 +1,6 @@
 use Rattle.std.proofs.Common.{subst}
 use Rattle.plan_reader.specs.PlanView.{IsPlan, PlanView}
-use Rattle.run_node.specs.Timely.{AreTimely}
+use Rattle.node_tasks.specs.Timely.{AreTimely}
 use Rattle.partition_runner.specs.Ready.{HaveTheirLinks}
 use Rattle.partition_runner.proofs.Timely.{are_timely}
 use Rattle.partition_runner.proofs.making.finished.Goals as goal

@@ -1,19 +1,34 @@
-use Rattle.std.proofs.Common.{◌∙◌, ◌+◌, ◌++◌, ◌∷◌, [], ap, append_assoc, arith, sym}
-use Rattle.event_log.specs.Views.{works_after}
-use Rattle.event_log.proofs.Repeated.{worked_at, works_after-more}
+use Rattle.std.proofs.Common.{◌≡◌, ◌∙◌, ◌≤◌, ap, arith, length, subst}
+use Rattle.tuple_edge.specs.declared.event.Event.TheVariants as event
+use Rattle.event_log.specs.declared.entry.Entry.TheVariants as entry
+use Rattle.event_log.specs.Reading.{names_of, progress_of}
+use Rattle.event_log.specs.Views.{LogView}
+use Rattle.event_log.proofs.Again.{IsNext, next_work, run_holds, run_read}
 use Rattle.event_log.proofs.log.Log.work_times.Goals as goal
 
-pub loop-done-preserved : goal.loop-done-preserved
-loop-done-preserved c =
-    let h = c.loop-done.invariant in
-    let begun = c.args.self.now in
-    let next = c.args.clock + c.loop-done.done + 1 in
+pub invariant_of-self : goal.invariant_of-self
+invariant_of-self c =
+    let n = c.self.inside in
+    let names = names_of n.node n.senders.nodes n.whole.items in
+    let now = progress_of n.clock n.senders.taken (length n.whole.items) in
+    let some : 1 ≤ c.args.times = omega (arith, c.if-times-eq0.false) in
+    let same : event.Work n.node ≡ event.Work c.args.self.now.node = ap (λ (v : LogView). event.Work v.node) c.self.view_is ∙ ap event.Work c.work.ensures.node in
+    let next : IsNext names (entry.Work 1) (event.Work c.args.self.now.node) = subst (IsNext names (entry.Work 1)) same (next_work names) in
+    let last = ap (λ (v : LogView). v.entries) c.self.view_is ∙ c.work.ensures.entries in
     record {
-      node = c.work.ensures.node ∙ h.node;
-      entries = c.work.ensures.entries
-          ∙ ap (λ n. c.loop-done.self.entries ++ worked_at n next ∷ []) h.node
-          ∙ ap (λ l. l ++ worked_at begun.node next ∷ []) h.entries
-          ∙ append_assoc begun.entries (works_after begun.node c.args.clock c.loop-done.done) (worked_at begun.node next ∷ [])
-          ∙ ap (λ l. begun.entries ++ l) (sym (works_after-more begun.node c.args.clock c.loop-done.done));
-      spare = omega (arith, h.spare, c.work.ensures.spare);
+      read = run_read names (entry.Work 1) (event.Work c.args.self.now.node) next c.args.clock c.args.times now n.entries.items c.push_times.new.entries.items c.args.self.now.entries some c.requires.clocks c.self.invariant.read last c.push_times.ensures.items;
+      senders_fit = omega (arith, c.self.invariant.senders_fit);
+      entries_fit = omega (arith, some, c.self.invariant.entries_fit, c.push_times.ensures.len, c.push_times.ensures.capacity, c.work.ensures.spare, c.requires.room, ap (λ (v : LogView). v.spare) c.self.view_is);
+      whole_fit = omega (arith, c.self.invariant.whole_fit);
     }
+
+pub returns-clause-entries : goal.returns-clause-entries
+returns-clause-entries c =
+    let n = c.self.inside in
+    let names = names_of n.node n.senders.nodes n.whole.items in
+    let now = progress_of n.clock n.senders.taken (length n.whole.items) in
+    let some : 1 ≤ c.args.times = omega (arith, c.if-times-eq0.false) in
+    let same : event.Work n.node ≡ event.Work c.args.self.now.node = ap (λ (v : LogView). event.Work v.node) c.self.view_is ∙ ap event.Work c.work.ensures.node in
+    let next : IsNext names (entry.Work 1) (event.Work c.args.self.now.node) = subst (IsNext names (entry.Work 1)) same (next_work names) in
+    let last = ap (λ (v : LogView). v.entries) c.self.view_is ∙ c.work.ensures.entries in
+    run_holds names (entry.Work 1) (event.Work c.args.self.now.node) next c.args.clock c.args.times now n.entries.items c.push_times.new.entries.items c.args.self.now.entries some c.requires.clocks c.self.invariant.read last c.push_times.ensures.items

@@ -2,7 +2,7 @@ use Rattle.std.proofs.Common.{◌∙◌, ◌<◌, length, drop, ◌+◌, ap, ari
 use Rattle.flux_core.specs.CoreView.{CoreView, inputs_of}
 use Rattle.flux_core.proofs.Following.{along_at, along_next, along_none, stopped}
 use Rattle.flux_core.proofs.Placed.{emitted_front}
-use Rattle.flux_core.proofs.Promised.{merges_in_order}
+use Rattle.flux_core.proofs.Promised.{holds_what_is_owed, merges_in_order}
 use Rattle.flux_core.proofs.nodes.Core.follow.Goals as goal
 
 pub loop-lined-init : goal.loop-lined-init
@@ -32,6 +32,9 @@ returns-clause-emitted c = emitted_front c.loop-lined.self c.loop-lined.invarian
 
 pub returns-clause-merged : goal.returns-clause-merged
 returns-clause-merged c = merges_in_order c.loop-lined.self c.loop-lined.invariant.core
+
+pub returns-clause-owed : goal.returns-clause-owed
+returns-clause-owed c = holds_what_is_owed c.loop-lined.self c.loop-lined.invariant.core
 
 pub returns-in-Err-clause-plan : goal.returns-in-Err-clause-plan
 returns-in-Err-clause-plan c = ap (λ (k : CoreView). k.plan) c.in-Err.ensures.unchanged ∙ c.loop-lined.invariant.along.followed.plan

@@ -20,13 +20,13 @@ loop-count-preserved c =
     }
 
 pub returns-in-Ok-Idle-clause-of_plan : goal.returns-in-Ok-Idle-clause-of_plan
-returns-in-Ok-Idle-clause-of_plan c plan of = c.work_once.ensures.acted.of_plan plan (c.loop-count.invariant.run.of_plan plan of)
+returns-in-Ok-Idle-clause-of_plan c plan of = c.work_once.ensures.done.acted.of_plan plan (c.loop-count.invariant.run.of_plan plan of)
 
 pub returns-then-count-eq0-clause-of_plan : goal.returns-then-count-eq0-clause-of_plan
-returns-then-count-eq0-clause-of_plan c plan of = c.work_once.ensures.acted.of_plan plan (c.loop-count.invariant.run.of_plan plan of)
+returns-then-count-eq0-clause-of_plan c plan of = c.work_once.ensures.done.acted.of_plan plan (c.loop-count.invariant.run.of_plan plan of)
 
 pub returns-else-count-eq0-clause-of_plan : goal.returns-else-count-eq0-clause-of_plan
-returns-else-count-eq0-clause-of_plan c plan of = c.work_once.ensures.acted.of_plan plan (c.loop-count.invariant.run.of_plan plan of)
+returns-else-count-eq0-clause-of_plan c plan of = c.work_once.ensures.done.acted.of_plan plan (c.loop-count.invariant.run.of_plan plan of)
 
 pub returns-else-count-eq0-clause-steps : goal.returns-else-count-eq0-clause-steps
 returns-else-count-eq0-clause-steps c =

@@ -23,6 +23,6 @@ returns-clause-linked c =
 
 pub returns-clause-course : goal.returns-clause-course
 returns-clause-course c =
-    waited_done c.do_first.result c.args.self.now c.do_first.new.self (appended c.args.out.now.packets c.do_first.new.out.packets)
+    waited_done c.do_first.result c.args.rise c.args.self.now c.do_first.new.self (appended c.args.out.now.packets c.do_first.new.out.packets)
     (λ plan rows is_plan of_plan r x running. merges_come plan rows c.args.self.now.role is_plan of_plan r x running)
-    c.do_first.ensures.sound (done c)
+    c.do_first.ensures.sound c.do_first.ensures.worked

@@ -1,6 +1,6 @@
-use Rattle.std.proofs.Common.{None, ◌∙◌, ap, subst, sym}
+use Rattle.std.proofs.Common.{◌∙◌, ap, subst, sym}
 use Rattle.event_log.specs.Views.{LogView}
-use Rattle.run_node.specs.Ends.{OutsView, links_of}
+use Rattle.run_node.specs.Ends.{OutsView, links_in, links_of}
 use Rattle.run_node.specs.SoundNode.{IsSoundNode}
 use Rattle.run_node.proofs.Events.{sound_new}
 use Rattle.run_node.proofs.node.Node.new.Goals as goal
@@ -8,11 +8,11 @@ use Rattle.run_node.proofs.node.Node.new.Goals as goal
 pub invariant_of-result : goal.invariant_of-result
 invariant_of-result g c =
     let r = c.requires in
-    let sound = sound_new g.A.Acts.id g.A.Acts.of_plan g.A.Acts.stands g.N.RunNames.plan g.N.RunNames.inputs g.N.RunNames.script c.args.state c.args.ins.items (links_of c.args.outs.items) c.nothing.result r.planned r.timely r.named r.there r.opening r.linked r.fresh in
-    let linked = subst (λ l. IsSoundNode g.A.Acts.id g.A.Acts.of_plan g.A.Acts.stands g.N.RunNames.plan g.N.RunNames.inputs g.N.RunNames.script c.args.state c.args.ins.items l None 0 c.nothing.result _)
+    let sound = sound_new g.A.Acts.id g.A.Acts.of_plan g.A.Acts.stands g.N.RunNames.plan g.N.RunNames.inputs g.N.RunNames.script c.args.state (links_in c.args.ins.items) (links_of c.args.outs.items) c.nothing.result r.planned r.timely r.named r.there r.opening r.linked r.fresh in
+    let linked = subst (λ l. IsSoundNode g.A.Acts.id g.A.Acts.of_plan g.A.Acts.stands g.N.RunNames.plan g.N.RunNames.inputs g.N.RunNames.script c.args.state (links_in c.args.ins.items) l 0 c.nothing.result _)
     (sym (ap (λ (o : OutsView). o.links) c.new.ensures)) sound in record {
       unsent = c.new-2.ensures;
       gave = r.tap;
-      sound = subst (IsSoundNode g.A.Acts.id g.A.Acts.of_plan g.A.Acts.stands g.N.RunNames.plan g.N.RunNames.inputs g.N.RunNames.script c.args.state c.args.ins.items c.new.result.links None 0 c.nothing.result) (sym (ap (λ (v : LogView). v.entries) c.new-history.ensures)) linked;
+      sound = subst (IsSoundNode g.A.Acts.id g.A.Acts.of_plan g.A.Acts.stands g.N.RunNames.plan g.N.RunNames.inputs g.N.RunNames.script c.args.state (links_in c.args.ins.items) c.new.result.links 0 c.nothing.result) (sym (ap (λ (v : LogView). v.entries) c.new-history.ensures)) linked;
       own = ap (λ (v : LogView). v.node) c.new-history.ensures ∙ c.id.ensures;
     }

@@ -1,11 +1,8 @@
 use Rattle.std.proofs.Common.{◌≤◌, sym, subst, arith}
 use Rattle.pair_machine.specs.Machine.{replica_in}
 use Rattle.run_node.specs.NodeView.{NodeView}
-use Rattle.run_node.proofs.Merged.{has_fewer, untaken}
+use Rattle.run_node.proofs.Merged.{has_fewer}
 use Rattle.run_node.proofs.node.Node.obey.Goals as goal
-
-pub event-requires-clause-came : goal.event-requires-clause-came
-event-requires-clause-came g c κs within = λ arrived fit. untaken arrived c.args.task c.requires.order
 
 pub event-requires-clause-allowed : goal.event-requires-clause-allowed
 event-requires-clause-allowed g c κs within = λ x k.

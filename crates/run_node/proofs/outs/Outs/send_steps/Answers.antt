@@ -2,7 +2,7 @@ use Rattle.std.proofs.Common.{◌≡◌, ◌∙◌, ◌≤◌, ◌+◌, ◌-◌,
 use Rattle.run_node.specs.Ends.{HaveRoom, OutEndView, OutsView, links_of}
 use Rattle.run_node.specs.FirstLinks.{AreFirst, receivers}
 use Rattle.run_node.specs.Sends.{with_steps_sent}
-use Rattle.run_node.specs.Steps.{pieces}
+use Rattle.node_tasks.specs.Steps.{pieces}
 use Rattle.run_node.proofs.Places.{written}
 use Rattle.run_node.proofs.SentPackets.{none-with_steps_sent, receivers-with_steps_sent}
 use Rattle.run_node.proofs.outs.Outs.send_steps.Goals as goal

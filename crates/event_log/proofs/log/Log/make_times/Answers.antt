@@ -1,0 +1,30 @@
+use Rattle.std.proofs.Common.{◌≡◌, ◌∙◌, ◌≤◌, ap, arith, length, subst}
+use Rattle.tuple_edge.specs.declared.event.Event.TheVariants as event
+use Rattle.event_log.specs.declared.entry.Entry.TheVariants as entry
+use Rattle.event_log.specs.Reading.{names_of, progress_of}
+use Rattle.event_log.specs.Views.{LogView}
+use Rattle.event_log.proofs.Again.{IsNext, next_make, run_holds, run_read}
+use Rattle.event_log.proofs.log.Log.make_times.Goals as goal
+
+pub invariant_of-self : goal.invariant_of-self
+invariant_of-self c =
+    let n = c.self.inside in
+    let names = names_of n.node n.senders.nodes n.whole.items in
+    let now = progress_of n.clock n.senders.taken (length n.whole.items) in
+    let some : 1 ≤ c.args.times = omega (arith, c.if-times-eq0.false) in
+    let last = ap (λ (v : LogView). v.entries) c.self.view_is ∙ c.push_reserved.ensures.entries in
+    record {
+      read = run_read names (entry.Make 1) event.Make (next_make names) c.args.clock c.args.times now n.entries.items c.push_times.new.entries.items c.args.self.now.entries some c.requires.clocks c.self.invariant.read last c.push_times.ensures.items;
+      senders_fit = omega (arith, c.self.invariant.senders_fit);
+      entries_fit = omega (arith, some, c.self.invariant.entries_fit, c.push_times.ensures.len, c.push_times.ensures.capacity, c.push_reserved.ensures.spare, c.requires.room, ap (λ (v : LogView). v.spare) c.self.view_is);
+      whole_fit = omega (arith, c.self.invariant.whole_fit);
+    }
+
+pub returns-clause-entries : goal.returns-clause-entries
+returns-clause-entries c =
+    let n = c.self.inside in
+    let names = names_of n.node n.senders.nodes n.whole.items in
+    let now = progress_of n.clock n.senders.taken (length n.whole.items) in
+    let some : 1 ≤ c.args.times = omega (arith, c.if-times-eq0.false) in
+    let last = ap (λ (v : LogView). v.entries) c.self.view_is ∙ c.push_reserved.ensures.entries in
+    run_holds names (entry.Make 1) event.Make (next_make names) c.args.clock c.args.times now n.entries.items c.push_times.new.entries.items c.args.self.now.entries some c.requires.clocks c.self.invariant.read last c.push_times.ensures.items

@@ -1,5 +1,0 @@
-use Rattle.flux_core.proofs.NodeActs.{egress_took}
-use Rattle.flux_core.proofs.acts.egress_takes.Goals as goal
-
-pub returns-clause-acts : goal.returns-clause-acts
-returns-clause-acts c = egress_took c.args.plan.now c.args.node.now c.on.new.self c.args.from c.args.body.now (λ rows p. c.in_ok-on.ensures.course c.args.plan.now rows p)

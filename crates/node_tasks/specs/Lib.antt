@@ -1,0 +1,4 @@
+pub mod Timely
+pub mod Tasks
+pub mod Steps
+pub mod Acted

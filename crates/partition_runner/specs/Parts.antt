@@ -1,0 +1,20 @@
+-- What a run leaves of its nodes, as it comes off the board: each with its history.
+use Rattle.std.specs.Prelude.{◌≡◌, List, map}
+use Rattle.tuple_edge.specs.declared.event.Stamped.{Stamped}
+use Rattle.tuple_edge.specs.declared.node.NodeId.{NodeId}
+use Rattle.event_log.specs.Views.{named_logs}
+use Rattle.plan_nodes.specs.States.{id_of}
+use Rattle.plan_nodes.specs.declared.state.NodeState.{NodeState}
+use Rattle.partition_runner.specs.declared.ran.Left.{Left}
+
+-- the nodes of parts, and their histories with their names, both in the order of the parts
+abbrev pub nodes_in : List (NodeState × List Stamped) → List NodeState
+nodes_in parts = map (λ (p : NodeState × List Stamped). p.0) parts
+
+abbrev pub named_parts : List (NodeState × List Stamped) → List (NodeId × List Stamped)
+named_parts parts = map (λ (p : NodeState × List Stamped). (id_of p.0, p.1)) parts
+
+-- this is what is left of these parts
+pub record IsLeftOf (parts : List (NodeState × List Stamped)) (left : Left) : Type 0 where
+  pub nodes : left.nodes.items ≡ nodes_in parts
+  pub logs : named_logs left.logs.items ≡ named_parts parts

@@ -1,0 +1,11 @@
+use Rattle.std.proofs.Common.{subst, sym}
+use Rattle.std.specs.Prelude.{OnErr}
+use Rattle.plan_nodes.specs.States.{StandsLike}
+use Rattle.plan_nodes.specs.declared.state.NodeState.{NodeState}
+use Rattle.plan_nodes.specs.declared.state.NodeState.TheVariants as state
+use Rattle.plan_nodes.proofs.state.NodeStateActs.make.Goals as goal
+
+pub returns-in-Ingress-clause-unchanged : goal.returns-in-Ingress-clause-unchanged
+returns-in-Ingress-clause-unchanged c =
+    subst (λ (s : NodeState). OnErr c.ingress_makes.result (StandsLike s (state.Ingress c.ingress_makes.new.node)))
+    (sym c.in-Ingress.is) c.ingress_makes.ensures.unchanged
