@@ -1,5 +1,5 @@
 -- The merged events and the drain of what the threads left are how a run ends.
-use Rattle.std.proofs.Common.{◌≡◌, ◌∙◌, ◌≤◌, ◌++◌, List, [], inl, refl, sym, ap, subst}
+use Rattle.std.proofs.Common.{◌≡◌, ◌∙◌, ◌≤◌, ◌++◌, false, List, [], inl, refl, sym, ap, subst}
 use Rattle.std.proofs.lemmas.List.{append-nil}
 use Rattle.tuple_edge.specs.Input.{Input}
 use Rattle.tuple_edge.specs.declared.event.Drained.{Drained}
@@ -25,20 +25,22 @@ use Rattle.pair_machine.proofs.CountLaws.{in_order}
 use Rattle.pair_machine.proofs.DrainWhole.{drains_free}
 use Rattle.pair_machine.proofs.Journal.{journals_go_on, with_sent}
 use Rattle.pair_machine.proofs.Legal.{at_the_end}
+use Rattle.pair_machine.proofs.Lists.{among_last}
 use Rattle.pair_machine.proofs.MachineLaws.{plan_owed, plan_safe}
 use Rattle.ingress_egress.specs.EgressView.{IsFrontOf}
-use Rattle.plan_nodes.specs.States.{StandsFor as NodeStands, id_of}
-use Rattle.flux_core.specs.CoreView.{CoreView, emitted_by, inputs_at, inputs_of, standing, station}
+use Rattle.plan_nodes.specs.States.{AllCame, StandsFor as NodeStands, id_of}
+use Rattle.plan_nodes.specs.NodeOrder.{nodes_before_egress}
+use Rattle.plan_nodes.specs.declared.state.NodeState.{NodeState}
+use Rattle.flux_core.specs.CoreView.{CoreView, HoldsAll, emitted_by, inputs_at, inputs_of, standing, station}
 use Rattle.flux_core.specs.Opening.{bare_core}
 use Rattle.flux_core.specs.Stands.{IsGiven}
 use Rattle.flux_core.proofs.Contents.{inputs_contents}
-use Rattle.partition_runner.specs.Ran.{IsLegalLeft}
-use Rattle.partition_runner.specs.declared.ran.Left.{Left}
+use Rattle.flux_core.proofs.Opened.{all_held}
 use Rattle.core_drain.specs.Drained.{IsDrained, IsDrainedFrom, IsLost, IsWhole}
 use Rattle.drained_run.specs.Ended.{EndsSo, IsLostAt, IsRun, rows_at}
 use Rattle.drained_run.specs.Ended as ended
-use Rattle.drained_run.proofs.Joined.{bare, drainable, events_of, given_here, left, reached, reaches, stands}
-use Rattle.drained_run.proofs.Nodes.{emitted_stand, find, inputs_stand}
+use Rattle.drained_run.proofs.Joined.{IsLegalRan, Ran, bare, drainable, events_of, given_here, left, reached, reaches, stands}
+use Rattle.drained_run.proofs.Nodes.{both, emitted_stand, find, inputs_stand}
 
 -- legal events within a script lead to the state that they reach
 leads : (plan : PlanView) (inputs : List Input) (script : List Order) → IsPlan plan → (events : List Event) (s : State) → IsLegal (flow_of plan inputs) events s → AreWithin (flow_of plan inputs) script events
@@ -60,10 +62,10 @@ behind : (old new : CoreView) (es after : List Event) (d : Drained) → IsDraine
 behind old new es after drained.Whole w = record { drained = λ s stands may. behind_from old new es after s (w.drained s stands may); rows = w.rows }
 behind old new es after (drained.Lost stage part) l = record { lost = l.lost; unchanged = l.unchanged; no_event = ap (λ xs. es ++ xs) l.no_event ∙ append-nil es }
 
-module _ (plan : PlanView) (script : List Order) (ran : Left) (limits : IsPlan plan) (run : IsLegalLeft plan (inputs_of (bare_core plan ran.nodes.items)) script ran) (core : CoreView) (after : List Event)
-    (same_plan : core.plan ≡ plan) (same_inputs : inputs_of core ≡ inputs_of (bare_core plan ran.nodes.items)) where
+module _ (plan : PlanView) (script : List Order) (ran : Ran) (limits : IsPlan plan) (run : IsLegalRan plan (inputs_of (bare_core plan ran.nodes)) script ran) (core : CoreView) (after : List Event)
+    (same_plan : core.plan ≡ plan) (same_inputs : inputs_of core ≡ inputs_of (bare_core plan ran.nodes)) where
   abbrev inputs : List Input
-  inputs = inputs_of (bare_core plan ran.nodes.items)
+  inputs = inputs_of (bare_core plan ran.nodes)
 
   abbrev start : CoreView
   start = bare plan script ran limits run
@@ -115,21 +117,26 @@ module _ (plan : PlanView) (script : List Order) (ran : Left) (limits : IsPlan p
 -- ---- of the run's own inputs
 
 -- ingress has the inputs of the run
-own_inputs : (plan : PlanView) (inputs : List Input) (script : List Order) (ran : Left) → IsLegalLeft plan inputs script ran → inputs_of (bare_core plan ran.nodes.items) ≡ inputs
+own_inputs : (plan : PlanView) (inputs : List Input) (script : List Order) (ran : Ran) → IsLegalRan plan inputs script ran → inputs_of (bare_core plan ran.nodes) ≡ inputs
 own_inputs plan inputs script ran run =
     let r = reaches plan inputs script ran run in
-    let f = find (λ s. NodeStands plan inputs s (r.reached.nodes (id_of s))) node.Ingress ran.nodes.items (subst (Among node.Ingress) (sym run.nodes_are) (inl refl)) r.stand in
-    ap (λ o. inputs_at (standing o).content) f.there ∙ (inputs_contents f.one ∙ inputs_stand plan inputs f.one (r.reached.nodes (id_of f.one)) f.named f.holds)
+    let Stands : NodeState → Type 0 = λ s. NodeStands plan inputs s (r.reached.nodes (id_of s)) in
+    let f = find (λ s. AllCame s × Stands s) node.Ingress ran.nodes (subst (Among node.Ingress) (sym run.nodes_are) (inl refl)) (both AllCame Stands ran.nodes run.came r.stand) in
+    ap (λ o. inputs_at (standing o).content) f.there ∙ (inputs_contents f.one ∙ inputs_stand plan inputs f.one (r.reached.nodes (id_of f.one)) f.named f.holds.0 f.holds.1)
 
-own_run : (plan : PlanView) (inputs : List Input) (script : List Order) (ran : Left) → IsLegalLeft plan inputs script ran → IsLegalLeft plan (inputs_of (bare_core plan ran.nodes.items)) script ran
-own_run plan inputs script ran run = subst (λ (I : List Input). IsLegalLeft plan I script ran) (sym (own_inputs plan inputs script ran run)) run
+own_run : (plan : PlanView) (inputs : List Input) (script : List Order) (ran : Ran) → IsLegalRan plan inputs script ran → IsLegalRan plan (inputs_of (bare_core plan ran.nodes)) script ran
+own_run plan inputs script ran run = subst (λ (I : List Input). IsLegalRan plan I script ran) (sym (own_inputs plan inputs script ran run)) run
 
-module _ (plan : PlanView) (inputs : List Input) (script : List Order) (ran : Left) (limits : IsPlan plan) (run : IsLegalLeft plan inputs script ran) where
+module _ (plan : PlanView) (inputs : List Input) (script : List Order) (ran : Ran) (limits : IsPlan plan) (run : IsLegalRan plan inputs script ran) where
   abbrev bare_nodes : CoreView
-  bare_nodes = bare_core plan ran.nodes.items
+  bare_nodes = bare_core plan ran.nodes
 
   pub given : IsGiven bare_nodes
   given = given_here plan script ran limits (own_run plan inputs script ran run)
+
+  -- no more inputs come to the nodes, and they handed no row on
+  pub all : HoldsAll bare_nodes
+  all = all_held plan false ran.nodes run.came run.held (subst (Among node.Ingress) (sym run.nodes_are) (inl refl)) (subst (Among node.Egress) (sym run.nodes_are) (among_last node.Egress (nodes_before_egress plan)))
 
   -- where the drain's events were listed apart
   pub run_ends : (old core : CoreView) (before after : List Event) (d : Drained) → old ≡ bare_nodes → before ≡ [] → core.plan ≡ old.plan → inputs_of core ≡ inputs_of old

@@ -1,8 +1,11 @@
 -- What the threads leave, in one list: the merged events lead to a state of the machine, and a core made of the nodes stands for a state with the
 -- same nodes, from which the drain may begin.
-use Rattle.std.proofs.Common.{◌∙◌, List, [], map, sym, subst}
+use Rattle.std.proofs.Common.{◌≡◌, ◌∙◌, ◌∷◌, List, [], map, refl, sym, ap, subst}
 use Rattle.tuple_edge.specs.Input.{Input}
 use Rattle.tuple_edge.specs.declared.event.Event.{Event}
+use Rattle.tuple_edge.specs.declared.event.Stamped.{Stamped}
+use Rattle.tuple_edge.specs.declared.node.NodeId.{NodeId}
+use Rattle.event_log.specs.Views.{LogView}
 use Rattle.plan_reader.specs.PlanView.{IsPlan, PlanView}
 use Rattle.pair_machine.specs.Counts.{flow_of}
 use Rattle.pair_machine.specs.Drain.{IsDrainable}
@@ -16,38 +19,62 @@ use Rattle.pair_machine.proofs.PlanFlow.{plan_is_flow}
 use Rattle.pair_machine.proofs.PlanNodes.{nodes_named}
 use Rattle.pair_machine.proofs.SoundKept.{opening_sound, sound_run}
 use Rattle.pair_machine.proofs.StepTurns.{HoldsOnOk}
-use Rattle.event_log.specs.Views.{named_logs}
-use Rattle.journal_writer.specs.Merged.{AreAscending, AreMergeable, merged, merged_events}
+use Rattle.journal_writer.specs.Merged.{AreAscending, AreMergeable, Named, merged, merged_events}
 use Rattle.plan_nodes.specs.States.{StandsFor as NodeStands, id_of}
+use Rattle.plan_nodes.specs.declared.state.NodeState.{NodeState}
 use Rattle.plan_nodes.proofs.NodeOrder.{all_there}
 use Rattle.flux_core.specs.CoreView.{CoreView, inputs_of, standing}
 use Rattle.flux_core.specs.Opening.{bare_core}
 use Rattle.flux_core.specs.Stands.{IsGiven, StandsFor, StationStands}
 use Rattle.flux_core.proofs.Contents.{id_contents, stands_in}
-use Rattle.partition_runner.specs.Ran.{IsLegalLeft, ReachesNodes}
+use Rattle.partition_runner.specs.Parts.{named_kept}
+use Rattle.partition_runner.specs.Ran.{IsLegalKept, IsLegalWith, ReachesNodes}
 use Rattle.partition_runner.specs.declared.ran.Left.{Left}
+use Rattle.partition_runner.proofs.Kept.{legal_kept}
 use Rattle.drained_run.proofs.Ascending.{nodes_ascend}
-use Rattle.drained_run.proofs.Logs.{is_log, mergeable_logs}
+use Rattle.drained_run.proofs.Logs.{is_log}
 use Rattle.drained_run.proofs.Nodes.{find}
+
+-- ---- however histories are kept
+
+-- what the threads leave: the nodes, and the history of each with its name
+pub record Ran : Type 0 where
+  pub nodes : List NodeState
+  pub logs : List Named
+
+-- what a run promises of that
+abbrev pub IsLegalRan : PlanView → List Input → List Order → Ran → Type 0
+IsLegalRan plan inputs script ran = IsLegalWith plan inputs script (λ (l : Named). l.0) (λ (l : Named). l.1) ran.nodes ran.logs
+
+abbrev pub ran_of : {K : Type 0} → (K → LogView) → Left K → Ran
+ran_of kept left = record { nodes = left.nodes.items; logs = named_kept kept left.logs.items }
+
+named_same : {K : Type 0} (kept : K → LogView) (logs : List K) → map {B = NodeId × List Stamped} (λ (l : Named). (l.0, l.1)) (named_kept kept logs) ≡ named_kept kept logs
+named_same kept [] = refl
+named_same kept (l ∷ logs) = ap (λ ls. ((kept l).node, (kept l).entries) ∷ ls) (named_same kept logs)
+
+pub legal_ran : {K : Type 0} (kept : K → LogView) (plan : PlanView) (inputs : List Input) (script : List Order) (left : Left K) → IsLegalKept kept plan inputs script left → IsLegalRan plan inputs script (ran_of kept left)
+legal_ran {K} kept plan inputs script left run =
+    legal_kept (λ (l : Named). l.0) (λ (l : Named). l.1) (λ (l : K). (kept l).node) (λ (l : K). (kept l).entries) plan inputs script left.nodes.items (named_kept kept left.logs.items) left.logs.items
+    (named_same kept left.logs.items) run
 
 -- ---- one log
 
-pub mergeable : (plan : PlanView) (inputs : List Input) (script : List Order) (ran : Left) → IsLegalLeft plan inputs script ran → AreMergeable (named_logs ran.logs.items)
-mergeable plan inputs script ran run = mergeable_logs ran.logs.items (subst AreAscending (sym run.histories) (nodes_ascend plan)) run.rising
+pub mergeable : (plan : PlanView) (inputs : List Input) (script : List Order) (ran : Ran) → IsLegalRan plan inputs script ran → AreMergeable ran.logs
+mergeable plan inputs script ran run = record { ascending = subst AreAscending (sym run.histories) (nodes_ascend plan); rising = run.rising }
 
 -- the events of all nodes in one list
-abbrev pub events_of : Left → List Event
-events_of ran = merged_events (named_logs ran.logs.items)
+abbrev pub events_of : Ran → List Event
+events_of ran = merged_events ran.logs
 
-pub reaches : (plan : PlanView) (inputs : List Input) (script : List Order) (ran : Left) → IsLegalLeft plan inputs script ran → ReachesNodes plan inputs script ran.nodes.items (merged (named_logs ran.logs.items))
-reaches plan inputs script ran run =
-    run.joint (merged (named_logs ran.logs.items)) (is_log ran.logs.items run.distinct run.rising)
+pub reaches : (plan : PlanView) (inputs : List Input) (script : List Order) (ran : Ran) → IsLegalRan plan inputs script ran → ReachesNodes plan inputs script ran.nodes (merged ran.logs)
+reaches plan inputs script ran run = run.joint (merged ran.logs) (is_log ran.logs run.distinct run.rising)
 
 -- ---- a core of the nodes
 
-module _ (plan : PlanView) (script : List Order) (ran : Left) (limits : IsPlan plan) (run : IsLegalLeft plan (inputs_of (bare_core plan ran.nodes.items)) script ran) where
+module _ (plan : PlanView) (script : List Order) (ran : Ran) (limits : IsPlan plan) (run : IsLegalRan plan (inputs_of (bare_core plan ran.nodes)) script ran) where
   abbrev pub bare : CoreView
-  bare = bare_core plan ran.nodes.items
+  bare = bare_core plan ran.nodes
 
   abbrev pub rows : List Input
   rows = inputs_of bare
@@ -55,7 +82,7 @@ module _ (plan : PlanView) (script : List Order) (ran : Left) (limits : IsPlan p
   abbrev pub run_flow : Flow
   run_flow = flow_of plan rows
 
-  abbrev pub reached : ReachesNodes plan rows script ran.nodes.items (merged (named_logs ran.logs.items))
+  abbrev pub reached : ReachesNodes plan rows script ran.nodes (merged ran.logs)
   reached = reaches plan rows script ran run
 
   -- the nodes as they stand, and empty links
@@ -64,8 +91,8 @@ module _ (plan : PlanView) (script : List Order) (ran : Left) (limits : IsPlan p
 
   pub stands : StandsFor bare left
   stands n has =
-      let there : Among n (map id_of ran.nodes.items) = subst (Among n) (sym run.nodes_are) (all_there plan n ((nodes_named plan rows n).named has)) in
-      let f = find (λ s. NodeStands plan rows s (left.nodes (id_of s))) n ran.nodes.items there reached.stand in
+      let there : Among n (map id_of ran.nodes) = subst (Among n) (sym run.nodes_are) (all_there plan n ((nodes_named plan rows n).named has)) in
+      let f = find (λ s. NodeStands plan rows s (left.nodes (id_of s))) n ran.nodes there reached.stand in
       let holds : NodeStands plan rows f.one (left.nodes n) = subst (λ m. NodeStands plan rows f.one (left.nodes m)) f.named f.holds in
       subst (λ o. StationStands plan rows n (standing o) left) (sym f.there)
       (record { content = (id_contents f.one ∙ f.named, stands_in plan rows f.one (left.nodes n) holds); sent = λ to. tt })

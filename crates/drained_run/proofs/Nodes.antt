@@ -1,5 +1,5 @@
 -- The nodes that the threads leave, in a core made of them.
-use Rattle.std.proofs.Common.{◌≡◌, ◌∙◌, ◌⊎◌, inl, inr, Bool, true, false, List, [], ◌∷◌, Option, None, Some, map, refl, sym, ap, true≢false}
+use Rattle.std.proofs.Common.{◌≡◌, ◌∙◌, ◌⊎◌, inl, inr, Bool, true, false, List, [], ◌∷◌, Option, None, Some, map, refl, sym, ap, subst, true≢false}
 use Rattle.std.specs.Prelude.{if◌then◌else◌}
 use Rattle.tuple_edge.specs.Input.{Input}
 use Rattle.tuple_edge.specs.declared.node.NodeId.{NodeId}
@@ -10,7 +10,8 @@ use Rattle.pair_machine.specs.Lists.{Among, Each}
 use Rattle.pair_machine.specs.Machine.{egress_in}
 use Rattle.pair_machine.specs.Numbers.{Node, is_node}
 use Rattle.pair_machine.proofs.Names.{is_node-true, node_self}
-use Rattle.plan_nodes.specs.States.{StandsFor, contents_of, id_of, inputs_in, rows_of}
+use Rattle.ingress_egress.specs.IngressStands.{AreCome}
+use Rattle.plan_nodes.specs.States.{AllCame, StandsFor, contents_of, id_of, inputs_in, rows_of}
 use Rattle.plan_nodes.specs.declared.state.NodeState.{NodeState}
 use Rattle.plan_nodes.specs.declared.state.NodeState.TheVariants as state
 use Rattle.flux_core.specs.CoreView.{found, rows_at, standing}
@@ -51,6 +52,11 @@ find P n (s ∷ nodes) among each = go (is_node (id_of (contents_of s)) n) refl 
         let f = later k in
         record { one = f.one; holds = f.holds; named = f.named; there = ap (λ b. if b then Some (new_station s) else found n (map new_station nodes)) e ∙ f.there }
 
+-- two facts of each
+pub both : (P Q : NodeState → Type 0) (nodes : List NodeState) → Each P nodes → Each Q nodes → Each (λ s. P s × Q s) nodes
+both P Q [] p q = tt
+both P Q (s ∷ nodes) p q = ((p.0, q.0), both P Q nodes p.1 q.1)
+
 -- what egress emitted is the same in a core of the nodes
 pub emitted_bare : (nodes : List NodeState) → rows_at (standing (found node.Egress (map new_station nodes))).content ≡ emitted_in nodes
 emitted_bare [] = refl
@@ -65,11 +71,11 @@ emitted_bare (s ∷ nodes) =
 -- ---- what ingress and egress stand for
 
 module _ (plan : PlanView) (inputs : List Input) where
-  pub inputs_stand : (s : NodeState) (x : Node) → id_of s ≡ node.Ingress → StandsFor plan inputs s x → inputs_in s ≡ inputs
-  inputs_stand (state.Ingress i) x e h = h.inputs
-  inputs_stand (state.Replica r) x e h = let z : ⊥ = cc e in absurd z
-  inputs_stand (state.Control c) x e h = let z : ⊥ = cc e in absurd z
-  inputs_stand (state.Egress k) x e h = let z : ⊥ = cc e in absurd z
+  pub inputs_stand : (s : NodeState) (x : Node) → id_of s ≡ node.Ingress → AllCame s → StandsFor plan inputs s x → inputs_in s ≡ inputs
+  inputs_stand (state.Ingress i) x e came h = subst (λ b. AreCome b i.inputs inputs) came h.inputs
+  inputs_stand (state.Replica r) x e came h = let z : ⊥ = cc e in absurd z
+  inputs_stand (state.Control c) x e came h = let z : ⊥ = cc e in absurd z
+  inputs_stand (state.Egress k) x e came h = let z : ⊥ = cc e in absurd z
 
   pub rows_stand : (s : NodeState) (x : Node) → id_of s ≡ node.Egress → StandsFor plan inputs s x → rows_of s ≡ output_first plan inputs (egress_in x).count
   rows_stand (state.Ingress i) x e h = let z : ⊥ = cc e in absurd z

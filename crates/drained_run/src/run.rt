@@ -2,17 +2,17 @@
 ghost use mathlib.Core.List.{IsPrefix};
 ghost use Rattle.drained_run.specs.Ended.{IsEnded};
 ghost use Rattle.pair_machine.specs.Output.{output};
-ghost use Rattle.partition_runner.specs.Ran.{IsLegalLeft, emitted_in};
+ghost use Rattle.partition_runner.specs.Ran.{IsLegalKept, emitted_in};
 ghost use Rattle.std.specs.Prelude.{◌≤◌, IfOk};
 ghost use Rattle.trade_text.specs.TradesView.{inputs_in};
 ghost use Rattle.tuple_edge.specs.Limits.{max_threads};
 
 use crate::ended::Ended;
 use core_drain::drain;
-use event_log::EventBlocks;
+use event_log::{EventBlocks, Keeps};
 use failure_script::Script;
 use flux_core::Core;
-use partition_runner::{Gate, Left, run_logged};
+use partition_runner::{Gate, Left, Unwritten, run_logged, run_unlogged};
 use plan_reader::Plan;
 use std::alloc::Global;
 use std::thread::Threads;
@@ -21,16 +21,16 @@ use tuple_edge::OutOfMemory;
 
 /// Brings what the threads left to the end of the run: what is left to be done is drained on the caller.
 ///
-/// It ends as a run by `run_and_drain` does. Its rows begin with those that egress had emitted, which are a front of
+/// It ends as a run by `run_and_drain` does, with its events written where those of the threads are. Its rows begin with those that egress had emitted, which are a front of
 /// the plan's output whatever comes.
-pub fn finish_run(
+pub fn finish_run<K: Keeps>(
     alloc: Global,
     plan: &Plan,
     trades: &Trades,
     script: &Script,
-    left: Left,
-) -> Result<Ended, OutOfMemory>
-    requires { IsLegalLeft plan.now (inputs_in trades.now) script.now left }
+    left: Left<K>,
+) -> Result<Ended<K>, OutOfMemory>
+    requires { IsLegalKept K.kept plan.now (inputs_in trades.now) script.now left }
     ensures ended { IfOk result (IsEnded plan.now (inputs_in trades.now) script.now) }
     ensures goes_on { IfOk result (λ ended. IsPrefix (emitted_in left.nodes.items) ended.rows) }
     ensures front { IsPrefix (emitted_in left.nodes.items) (output plan.now (inputs_in trades.now)) }
@@ -70,5 +70,24 @@ pub fn run_and_drain<R: Threads + Sync, G: Gate>(
     ensures { IfOk result (IsEnded plan.now (inputs_in trades.now) script.now) }
 {
     let left = run_logged(rt, alloc, plan, trades, script, threads, turns, gate)?;
+    finish_run(alloc, plan, trades, script, left)
+}
+
+/// The same with events that are not written: proofs alone know them, and they take no memory. So such a run has no journal.
+pub fn run_unlogged_and_drain<R: Threads + Sync, G: Gate>(
+    rt: &R,
+    alloc: Global,
+    plan: &Plan,
+    trades: &Trades,
+    script: &Script,
+    threads: u32,
+    turns: u64,
+    gate: &G,
+) -> Result<Ended<Unwritten>, OutOfMemory>
+    requires some { 1 ≤ threads }
+    requires few { threads ≤ max_threads }
+    ensures { IfOk result (IsEnded plan.now (inputs_in trades.now) script.now) }
+{
+    let left = run_unlogged(rt, alloc, plan, trades, script, threads, turns, gate)?;
     finish_run(alloc, plan, trades, script, left)
 }

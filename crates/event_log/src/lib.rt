@@ -11,11 +11,13 @@ mod blocks;
 mod coding;
 mod counting;
 mod entry;
+mod keeps;
 mod log;
 mod reader;
 mod senders;
 
 pub use block_reader::BlockReader;
 pub use blocks::EventBlocks;
+pub use keeps::Keeps;
 pub use log::{Log, histories};
 pub use reader::Reader;

@@ -12,7 +12,7 @@ use Rattle.replica_node.specs.ReplicaView.{ReplicaView}
 use Rattle.replica_node.specs.Rules as rules
 use Rattle.replica_node.specs.declared.phase.Phase.{Phase}
 use Rattle.replica_node.specs.declared.phase.Phase.TheVariants as phase
-use Rattle.plan_nodes.specs.States.{StandsFor, contents_of, id_of, inputs_in}
+use Rattle.plan_nodes.specs.States.{StandsFor, contents_of, gone_of, has_ended, id_of, inputs_in}
 use Rattle.plan_nodes.specs.declared.state.NodeState.{NodeState}
 use Rattle.plan_nodes.specs.declared.state.NodeState.TheVariants as state
 use Rattle.plan_nodes.proofs.Room.{ingress_stays, replica_stays}
@@ -51,6 +51,18 @@ inputs_contents (state.Replica v) = refl
 inputs_contents (state.Control c) = refl
 inputs_contents (state.Egress e) = refl
 
+pub ended_contents : (s : NodeState) → has_ended (contents_of s) ≡ has_ended s
+ended_contents (state.Ingress i) = refl
+ended_contents (state.Replica v) = refl
+ended_contents (state.Control c) = refl
+ended_contents (state.Egress e) = refl
+
+pub gone_contents : (s : NodeState) → gone_of (contents_of s) ≡ gone_of s
+gone_contents (state.Ingress i) = refl
+gone_contents (state.Replica v) = refl
+gone_contents (state.Control c) = refl
+gone_contents (state.Egress e) = refl
+
 module _ (plan : PlanView) (rows : List Input) where
   pub stands_in : (s : NodeState) (x : Node) → StandsFor plan rows s x → StandsFor plan rows (contents_of s) x
   stands_in (state.Ingress i) x h = ingress_stays plan rows i (contents_in i) x (ingress_twice i) h
@@ -82,8 +94,8 @@ acts_in plan t (state.Egress e) new sent h = λ rows p timely x a is s k.
     let z = h rows p timely x a is s k in (z.0, z.1, stands_in plan rows new z.0.0 z.2, z.3)
 
 pub refused_in : (plan : PlanView) (t : Asked) (old : NodeState) (e : ApplyError) → IsRefusedSo plan t old e → IsRefusedSo plan t (contents_of old) e
-refused_in plan t (state.Ingress i) e h = λ rows p x a is s. h rows p x a is (stands_out plan rows (state.Ingress i) x s)
-refused_in plan t (state.Replica v) e h = λ rows p x a is s. h rows p x a is (stands_out plan rows (state.Replica v) x s)
+refused_in plan t (state.Ingress i) e h = λ came rows p x a is s. h came rows p x a is (stands_out plan rows (state.Ingress i) x s)
+refused_in plan t (state.Replica v) e h = λ came rows p x a is s. h came rows p x a is (stands_out plan rows (state.Replica v) x s)
 refused_in plan t (state.Control c) e h = h
 refused_in plan t (state.Egress d) e h = h
 

@@ -1,6 +1,8 @@
 -- A core stays one that stands for a known state.
 use Rattle.std.proofs.Common.{◌≡◌, ◌∙◌, ◌⊎◌, inl, inr, ◌++◌, Bool, true, false, [], ◌∷◌, Err, Result, Some, refl, sym, ap, subst, true≢false}
 use Rattle.tuple_edge.specs.declared.event.Event.{Event}
+use Rattle.tuple_edge.specs.declared.node.NodeId.{NodeId}
+use Rattle.tuple_edge.specs.declared.node.NodeId.TheVariants as node
 use Rattle.plan_reader.specs.Nodes.{names_event}
 use Rattle.plan_reader.specs.PlanView.{IsPlan}
 use Rattle.pair_machine.specs.Counts.{flow_of}
@@ -18,9 +20,11 @@ use Rattle.pair_machine.proofs.MachineLaws.{steps_keep_sound}
 use Rattle.pair_machine.proofs.StepTurns.{at_there}
 use Rattle.replica_node.specs.Course.{AreTimely}
 use Rattle.plan_nodes.specs.NodeOrder.{nodes_of}
-use Rattle.plan_nodes.specs.States.{id_of}
+use Rattle.plan_nodes.specs.States.{AllCame, has_ended, id_of}
+use Rattle.plan_nodes.specs.declared.state.NodeState.{NodeState}
+use Rattle.plan_nodes.specs.declared.state.NodeState.TheVariants as state
 use Rattle.flux_core.specs.Acts.{IsActOf, IsRefusedSo}
-use Rattle.flux_core.specs.CoreView.{CoreView, Standing, StationView, flow_in, inputs_of, standing, station}
+use Rattle.flux_core.specs.CoreView.{CoreView, Standing, StationView, ended_at, flow_in, inputs_of, standing, station}
 use Rattle.flux_core.specs.Refusals.{IsRefusal}
 use Rattle.flux_core.specs.Stands.{ContentStands, IsCore, IsGiven, IsKnown, IsReached, StandsFor}
 use Rattle.flux_core.specs.Steps.{GoesOn, HasChanged, HasSoundState, IsApplied, IsTaskOf, MayApply}
@@ -28,7 +32,7 @@ use Rattle.flux_core.specs.declared.asked.Asked.{Asked}
 use Rattle.flux_core.specs.declared.error.ApplyError.{ApplyError}
 use Rattle.flux_core.specs.declared.error.ApplyError.TheVariants as error
 use Rattle.flux_core.proofs.KeepsOwed.{keeps_drainable}
-use Rattle.flux_core.proofs.Placing.{inputs_same as inputs_kept}
+use Rattle.flux_core.proofs.Placing.{all_same, inputs_same as inputs_kept}
 use Rattle.flux_core.proofs.Steps.{goes_on}
 use Rattle.flux_core.proofs.There.{there}
 
@@ -80,6 +84,7 @@ applied old new t e core named may task h =
         times = subst AreTimely (sym inputs) core.times;
         names = h.names ∙ core.names ∙ ap nodes_of (sym h.plan);
         known = subst (λ w. IsKnown w new) (sym h.whole) (known_on old new e core.plan is_there goes h.plan inputs old.whole core.known may);
+        all = all_same (at_node e) t old new h core.all;
       },
       record { steps = goes; others = h.others; plan = h.plan; inputs = inputs; whole = h.whole },
     )
@@ -99,6 +104,18 @@ pub refused_early : (f : Flow) (s : State) (e : Event) (x : ApplyError) → IsRe
 unfolding step
 refused_early f s e x h = refusal_on (acted f (at_node e) s) (λ r. refl) (act_of f s e) x h
 
+-- all inputs came to a node of a core: only ingress has any
+came_where : (s : NodeState) → (id_of s ≡ node.Ingress → has_ended s ≡ true) → AllCame s
+came_where (state.Ingress i) h = h refl
+came_where (state.Replica v) h = tt
+came_where (state.Control c) h = tt
+came_where (state.Egress e) h = tt
+
+came_there : (core : CoreView) → IsCore core → (n : NodeId) (at : StationView) → station core n ≡ standing (Some at) → id_of at.node ≡ n → AllCame at.node
+came_there core is n at here name = came_where at.node (λ ingress.
+    let same : node.Ingress ≡ n = sym ingress ∙ name in
+    sym (ap (λ (k : Standing). ended_at k.content) (ap (station core) same ∙ here)) ∙ is.all.ended)
+
 -- what the node refuses
 pub refused_there : (core : CoreView) (t : Asked) (e : Event) (x : ApplyError) (at : StationView) → IsCore core → names_event core.plan e ≡ true → IsTaskOf core e t
     → station core (at_node e) ≡ standing (Some at) → id_of at.node ≡ at_node e → IsRefusedSo core.plan t at.node x → (s : State) → StandsFor core s → IsRefusal (step (flow_in core) s e) x
@@ -110,6 +127,6 @@ refused_there core t e x at is named task here name refused s stands =
     let has = at_there f e (there core.plan (inputs_of core) is.plan e named) in
     let stood : ContentStands core.plan (inputs_of core) n (Some at.node) (s.nodes n) = subst (λ (k : Standing). ContentStands core.plan (inputs_of core) n k.content (s.nodes n)) here (stands n has).content in
     let at_does : IsRefusal (does f n z.0 (s.nodes n)) x = subst (λ k. IsRefusal (does f k z.0 (s.nodes n)) x) name
-    (refused (inputs_of core) is.plan (s.nodes n) z.0 (subst (λ k. IsActOf core.plan (inputs_of core) k t (s.nodes n) z.0) (sym name) z.2) stood.1) in
+    (refused (came_there core is n at here name) (inputs_of core) is.plan (s.nodes n) z.0 (subst (λ k. IsActOf core.plan (inputs_of core) k t (s.nodes n) z.0) (sym name) z.2) stood.1) in
     let at_after : IsRefusal (after n s (does f n z.0 (s.nodes n))) x = refusal_on (after n s) (λ r. refl) (does f n z.0 (s.nodes n)) x at_does in
     subst (λ a. IsRefusal (acted f n s a) x) (sym z.1) at_after

@@ -38,7 +38,7 @@ use Rattle.ingress_egress.specs.IngressView.{IngressView}
 use Rattle.node_tasks.specs.Tasks.{DoesStep}
 use Rattle.node_tasks.specs.declared.task.Task.{Task}
 use Rattle.node_tasks.specs.declared.task.Task.TheVariants as task
-use Rattle.plan_nodes.specs.States.{HasActedBehind, IsIdle, StandsFor, contents_of, id_of, inputs_in}
+use Rattle.plan_nodes.specs.States.{HasActedBehind, IsIdle, StandsFor, contents_of, gone_of, has_ended, id_of, inputs_in}
 use Rattle.plan_nodes.specs.declared.state.NodeState.{NodeState}
 use Rattle.plan_nodes.specs.declared.state.NodeState.TheVariants as state
 use Rattle.plan_nodes.proofs.Acting.{all_of_none, failed_same, none_appended, quietly}
@@ -109,19 +109,19 @@ refused_as f n x b a r e h = subst (λ k. does f n k x ≡ Err r) (sym e) h
 
 -- ingress and the other nodes refuse to make for reasons of their own
 no_make : (plan : PlanView) (s : NodeState) → IsIdle 1 s task.Make → IsRefusedSo plan (asked.Task task.Make) s (reason_at (id_of s) task.Make)
-no_make plan (state.Ingress v) idle = λ rows p x a i s. refused_as (flow_of plan rows) node.Ingress x Makes a NoMoreRows i (idle plan rows p x s)
-no_make plan (state.Replica v) idle = λ rows p x a i s. refused_as (flow_of plan rows) (node_of v.role) x Makes a NothingDue i (idle plan rows p x s)
-no_make plan (state.Control v) idle = λ rows p x a i s. refused_as (flow_of plan rows) (id_of (state.Control v)) x Makes a NothingDue i (idle plan rows p x s)
-no_make plan (state.Egress v) idle = λ rows p x a i s. refused_as (flow_of plan rows) node.Egress x Makes a NothingDue i (idle plan rows p x s)
+no_make plan (state.Ingress v) idle = λ came rows p x a i s. refused_as (flow_of plan rows) node.Ingress x Makes a NoMoreRows i (idle came plan rows p x s)
+no_make plan (state.Replica v) idle = λ came rows p x a i s. refused_as (flow_of plan rows) (node_of v.role) x Makes a NothingDue i (idle came plan rows p x s)
+no_make plan (state.Control v) idle = λ came rows p x a i s. refused_as (flow_of plan rows) (id_of (state.Control v)) x Makes a NothingDue i (idle came plan rows p x s)
+no_make plan (state.Egress v) idle = λ came rows p x a i s. refused_as (flow_of plan rows) node.Egress x Makes a NothingDue i (idle came plan rows p x s)
 
 -- a node that did nothing has an answer that the machine gives too
 refused_idle : (plan : PlanView) (s : NodeState) (t : Task) → IsIdle 1 s t → IsRefusedSo plan (asked.Task t) s (reason_at (id_of s) t)
-refused_idle plan s (task.Take from index packet) idle = λ rows p x a i h. tt
-refused_idle plan s task.Work idle = λ rows p x a i h. refused_as (flow_of plan rows) (id_of s) x Works a NothingDue i (idle (omega arith) plan rows p x h)
+refused_idle plan s (task.Take from index packet) idle = λ came rows p x a i h. tt
+refused_idle plan s task.Work idle = λ came rows p x a i h. refused_as (flow_of plan rows) (id_of s) x Works a NothingDue i (idle (omega arith) plan rows p x h)
 refused_idle plan s task.Make idle = no_make plan s idle
-refused_idle plan s task.Kill idle = λ rows p x a i h. refused_as (flow_of plan rows) (id_of s) x Dies a NotRunning i (idle plan rows p x h)
-refused_idle plan s task.AskStop idle = λ rows p x a i h. refused_as (flow_of plan rows) (id_of s) x AsksStop a NotRunning i (idle plan rows p x h)
-refused_idle plan s task.AskBack idle = λ rows p x a i h. refused_as (flow_of plan rows) (id_of s) x AsksBack a NotRunning i (idle plan rows p x h)
+refused_idle plan s task.Kill idle = λ came rows p x a i h. refused_as (flow_of plan rows) (id_of s) x Dies a NotRunning i (idle plan rows p x h)
+refused_idle plan s task.AskStop idle = λ came rows p x a i h. refused_as (flow_of plan rows) (id_of s) x AsksStop a NotRunning i (idle plan rows p x h)
+refused_idle plan s task.AskBack idle = λ came rows p x a i h. refused_as (flow_of plan rows) (id_of s) x AsksBack a NotRunning i (idle plan rows p x h)
 
 -- ---- whatever came of it
 
@@ -137,6 +137,8 @@ answered_so old new t (Ok Did) before after h idle = record {
   unchanged = tt;
   id = h.done.acted.id;
   inputs = h.done.inputs;
+  ended = h.done.ended;
+  gone = h.done.acted.gone;
 }
 answered_so old new t (Ok Idle) before after h idle = record {
   acts = tt;
@@ -145,14 +147,18 @@ answered_so old new t (Ok Idle) before after h idle = record {
   unchanged = (ap contents_of (h.done.acted.idle refl).0, none_sent before after h.packets (h.done.acted.idle refl).1);
   id = h.done.acted.id;
   inputs = h.done.inputs;
+  ended = h.done.ended;
+  gone = h.done.acted.gone;
 }
 answered_so old new t (Err lack) before after h idle = record {
   acts = tt;
   packets = h.packets;
-  refused = λ plan rows p x a i s. tt;
+  refused = λ plan came rows p x a i s. tt;
   unchanged = (h.done.contents, none_sent before after h.packets h.done.acted.unsent);
   id = h.done.acted.id;
   inputs = h.done.inputs;
+  ended = h.done.ended;
+  gone = h.done.acted.gone;
 }
 
 -- what a core says of a node that was given a task
@@ -167,12 +173,13 @@ node_lacked s t before e = quietly s s t (Err e) before (failed_same s s t [] e 
 -- ---- pulls
 
 -- it took an item, and sent nothing
-pub has_pulled : (old new : NodeState) (q : ℕ) (i : Item) → ((plan : PlanView) → ActsSo plan (asked.Pull q i) old new []) → id_of new ≡ id_of old → inputs_in new ≡ inputs_in old → HasAnswered old new (asked.Pull q i) (Ok tt) [] []
-has_pulled old new q i acts id inputs = record { acts = acts; packets = refl; refused = tt; unchanged = tt; id = id; inputs = inputs }
+pub has_pulled : (old new : NodeState) (q : ℕ) (i : Item) → ((plan : PlanView) → ActsSo plan (asked.Pull q i) old new []) → id_of new ≡ id_of old → inputs_in new ≡ inputs_in old → has_ended new ≡ has_ended old → gone_of new ≡ gone_of old
+    → HasAnswered old new (asked.Pull q i) (Ok tt) [] []
+has_pulled old new q i acts id inputs ended gone = record { acts = acts; packets = refl; refused = tt; unchanged = tt; id = id; inputs = inputs; ended = ended; gone = gone }
 
 -- it took none, for a reason that the machine has too
 pub not_pulled : (s : NodeState) (q : ℕ) (i : Item) (e : ApplyError) → ((plan : PlanView) → IsRefusedSo plan (asked.Pull q i) s e) → HasAnswered s s (asked.Pull q i) (Err e) [] []
-not_pulled s q i e refused = record { acts = tt; packets = refl; refused = refused; unchanged = (refl, refl); id = refl; inputs = refl }
+not_pulled s q i e refused = record { acts = tt; packets = refl; refused = refused; unchanged = (refl, refl); id = refl; inputs = refl; ended = refl; gone = refl }
 
 pub replica_pulled : (plan : PlanView) (v w : ReplicaView) (q : ℕ) (i : Item) → w.role ≡ v.role
     → ((rows : List Input) (x : RunningNumbers) (n : Node) → IsPlan plan → replica_stands.StandsFor plan rows v n → replica_in n ≡ Running x
@@ -211,14 +218,14 @@ no_next plan rows p (phase.Gone f) (Gathering x) n q i idle h next = next
 no_next plan rows p (phase.Gone f) (Gone inc) n q i idle h next = next
 
 pub replica_idle : (v : ReplicaView) (q : ℕ) (i : Item) → mode_in v.phase ≢ mode.Running → (plan : PlanView) → IsRefusedSo plan (asked.Pull q i) (state.Replica v) error.NotRunning
-replica_idle v q i idle plan = λ rows p x a is s. absurd (no_next plan rows (partition_of v.role) v.phase (replica_in x) (node_of v.role) q i idle s.phase_stands is.1)
+replica_idle v q i idle plan = λ came rows p x a is s. absurd (no_next plan rows (partition_of v.role) v.phase (replica_in x) (node_of v.role) q i idle s.phase_stands is.1)
 
 -- nor have ingress and a controller one
 pub ingress_pulls_none : (v : IngressView) (q : ℕ) (i : Item) (plan : PlanView) → IsRefusedSo plan (asked.Pull q i) (state.Ingress v) error.NotRunning
-ingress_pulls_none v q i plan = λ rows p x a is h. absurd is.1
+ingress_pulls_none v q i plan = λ came rows p x a is h. absurd is.1
 
 pub control_pulls_none : (v : ControllerView) (q : ℕ) (i : Item) (plan : PlanView) → IsRefusedSo plan (asked.Pull q i) (state.Control v) error.NotRunning
-control_pulls_none v q i plan = λ rows p x a is h. absurd is.1
+control_pulls_none v q i plan = λ came rows p x a is h. absurd is.1
 
 -- what sent nothing, behind whatever lies there
 pub behind : (old new : NodeState) (t : Asked) (r : Result (Unit {0}) ApplyError) (before : Log) → HasAnswered old new t r [] [] → HasAnswered old new t r before before
@@ -231,4 +238,6 @@ behind old new t r before h =
       unchanged = on_err-map r _ _ (λ same. (same.0, refl)) h.unchanged;
       id = h.id;
       inputs = h.inputs;
+      ended = h.ended;
+      gone = h.gone;
     }

@@ -10,7 +10,7 @@ use Rattle.flux_core.specs.CoreView.{CoreView, Log, StationView, found, standing
 use Rattle.flux_core.specs.Steps.{HasActed}
 use Rattle.flux_core.specs.declared.asked.Asked.{Asked}
 use Rattle.flux_core.specs.declared.error.ApplyError.{ApplyError}
-use Rattle.flux_core.proofs.Contents.{acts_in, id_contents, inputs_contents, refused_in}
+use Rattle.flux_core.proofs.Contents.{acts_in, ended_contents, gone_contents, id_contents, inputs_contents, refused_in}
 use Rattle.flux_core.proofs.NodeActs.{if_err-map, on_err-map, on_ok-map}
 
 -- the station of a node that sent this
@@ -26,6 +26,8 @@ module _ (old new : NodeState) (t : Asked) (r : Result (Unit {0}) ApplyError) (b
   station_acted = on_ok-map r _ _ (λ acts. subst (λ at. HasActed t at (station_of new after)) is (record {
     id = id_contents new ∙ h.id ∙ sym (id_contents old);
     inputs = inputs_contents new ∙ h.inputs ∙ sym (inputs_contents old);
+    ended = ended_contents new ∙ h.ended ∙ sym (ended_contents old);
+    gone = gone_contents new ∙ h.gone ∙ sym (gone_contents old);
     sent = appended before after;
     noted = h.packets;
     acts = λ plan. acts_in plan t old new (appended before after) (acts plan);

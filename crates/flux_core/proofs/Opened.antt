@@ -1,28 +1,29 @@
 -- A core that opens stands for the opening, and one of given nodes for a state from which the drain may begin.
-use Rattle.std.proofs.Common.{◌≡◌, ◌∙◌, ◌≤◌, ◌<◌, ◌+◌, ℕ, zero, suc, ⊎_elim, Bool, true, false, List, [], ◌∷◌, ◌++◌, Some, arith, length, map, slice_index_or, take, refl, sym, ap, subst, true≢false, if◌then◌else◌}
+use Rattle.std.proofs.Common.{◌≡◌, ◌∙◌, ◌≤◌, ◌<◌, ◌+◌, ℕ, zero, suc, ⊎_elim, Bool, true, false, List, [], ◌∷◌, ◌++◌, Option, Some, arith, length, map, slice_index_or, take, refl, sym, ap, subst, true≢false, if◌then◌else◌}
 use Rattle.std.proofs.lemmas.List.{map-append}
 use Rattle.tuple_edge.specs.Input.{Input}
 use Rattle.tuple_edge.specs.declared.node.NodeId.{NodeId}
 use Rattle.tuple_edge.specs.declared.node.NodeId.TheVariants as node
 use Rattle.plan_reader.specs.PlanView.{IsPlan, PlanView}
+use Rattle.ingress_egress.specs.IngressStands.{AreCome}
 use Rattle.pair_machine.proofs.MachineLaws.{plan_opens_sound}
 use Rattle.pair_machine.proofs.Lists.{each_more}
 use Rattle.pair_machine.proofs.Names.{is_node-true, node_self}
 use Rattle.pair_machine.proofs.PlanNodes.{nodes_named}
 use Rattle.pair_machine.specs.Links.{HasNode}
-use Rattle.pair_machine.specs.Lists.{Among}
+use Rattle.pair_machine.specs.Lists.{Among, Each}
 use Rattle.pair_machine.specs.Machine.{new_node, opening}
 use Rattle.pair_machine.specs.Numbers.{is_node}
 use Rattle.replica_node.specs.Course.{AreTimely}
 use Rattle.plan_nodes.specs.NodeOrder.{nodes_of}
-use Rattle.plan_nodes.specs.States.{StandsFor as NodeStandsFor, contents_of, id_of, inputs_in}
+use Rattle.plan_nodes.specs.States.{AllCame, StandsFor as NodeStandsFor, contents_of, gone_of, has_ended, id_of, inputs_in}
 use Rattle.plan_nodes.specs.declared.state.NodeState.{NodeState}
 use Rattle.plan_nodes.specs.declared.state.NodeState.TheVariants as state
 use Rattle.plan_nodes.proofs.NodeOrder.{all_there}
-use Rattle.flux_core.specs.CoreView.{CoreView, StationView, core_of, flow_in, found, inputs_at, inputs_of, names_of, standing, station}
-use Rattle.flux_core.specs.Opening.{AreOpen, bare_core, new_station}
+use Rattle.flux_core.specs.CoreView.{CoreView, HoldsAll, StationView, core_of, ended_at, flow_in, found, gone_at, inputs_at, inputs_of, names_of, standing, station}
+use Rattle.flux_core.specs.Opening.{AreOpen, OpensSo, bare_core, new_station}
 use Rattle.flux_core.specs.Stands.{IsCore, IsGiven, StandsFor, StationStands}
-use Rattle.flux_core.proofs.Contents.{content_in, id_contents}
+use Rattle.flux_core.proofs.Contents.{content_in, ended_contents, gone_contents, id_contents}
 use Rattle.flux_core.proofs.ByName.{ingress_there}
 use Rattle.flux_core.proofs.Lists.{get-at}
 use Rattle.flux_core.proofs.Sendings.{take-next}
@@ -43,23 +44,65 @@ first_inputs plan (s ∷ nodes) d e = go s (let z : id_of s ≡ node.Ingress = c
     go (state.Control c) name = let z : ⊥ = cc name in absurd z
     go (state.Egress x) name = let z : ⊥ = cc name in absurd z
 
+-- ---- one of them, by its name
+
+-- the node of this name among nodes of each of which something holds
+pub record IsOneOf (P : NodeState → Type 0) (n : NodeId) (nodes : List NodeState) : Type 0 where
+  pub one : NodeState
+  pub name : id_of one ≡ n
+  pub fits : P one
+  pub there : found n (map new_station nodes) ≡ Some (new_station one)
+
+one_of : (P : NodeState → Type 0) (n : NodeId) (nodes : List NodeState) → Each P nodes → Among n (map id_of nodes) → IsOneOf P n nodes
+one_of P n [] each among = absurd among
+one_of P n (s ∷ nodes) each among = go (is_node (id_of (contents_of s)) n) refl (λ there. one_of P n nodes each.1 there)
+  where
+    later : is_node (id_of (contents_of s)) n ≡ false → (n ≡ id_of s) → ⊥
+    later e same = true≢false (sym (ap (λ k. is_node k n) (id_contents s ∙ sym same) ∙ node_self n) ∙ e)
+
+    choice : Bool → Option StationView
+    choice b = if b then Some (new_station s) else found n (map new_station nodes)
+
+    go : (b : Bool) → is_node (id_of (contents_of s)) n ≡ b → (Among n (map id_of nodes) → IsOneOf P n nodes) → IsOneOf P n (s ∷ nodes)
+    go true e rest = record { one = s; name = sym (id_contents s) ∙ is_node-true (id_of (contents_of s)) n e; fits = each.0; there = ap choice e }
+    go false e rest =
+        let h : IsOneOf P n nodes = ⊎_elim (λ same. absurd (later e same)) rest among in
+        record { one = h.one; name = h.name; fits = h.fits; there = ap choice e ∙ h.there }
+
+came_first : (s : NodeState) → id_of s ≡ node.Ingress → AllCame s → has_ended s ≡ true
+came_first (state.Ingress i) name came = came
+came_first (state.Replica v) name came = let z : ⊥ = cc name in absurd z
+came_first (state.Control c) name came = let z : ⊥ = cc name in absurd z
+came_first (state.Egress x) name came = let z : ⊥ = cc name in absurd z
+
+-- where no more inputs come to any node, and none handed a row on, a core of them has all
+pub all_held : (plan : PlanView) (whole : Bool) (nodes : List NodeState) → Each AllCame nodes → Each (λ s. gone_of s ≡ []) nodes → Among node.Ingress (map id_of nodes) → Among node.Egress (map id_of nodes)
+    → HoldsAll (core_of plan whole (map new_station nodes))
+all_held plan whole nodes came gone first last =
+    let i = one_of AllCame node.Ingress nodes came first in
+    let e = one_of (λ s. gone_of s ≡ []) node.Egress nodes gone last in
+    record {
+      ended = ap (λ o. ended_at (standing o).content) i.there ∙ (ended_contents i.one ∙ came_first i.one i.name i.fits);
+      rows = ap (λ o. gone_at (standing o).content) e.there ∙ (gone_contents e.one ∙ e.fits);
+    }
+
 -- ---- nodes that open
 
 module _ (plan : PlanView) (rows : List Input) where
   -- the node of a name that is one of theirs stands for its numbers at the start, and sent nothing
   open_at : (n : NodeId) (nodes : List NodeState) → AreOpen plan rows nodes → Among n (map id_of nodes) → StationStands plan rows n (standing (found n (map new_station nodes))) opening
-  open_at n [] fresh among = absurd among
-  open_at n (s ∷ nodes) fresh among = go (is_node (id_of (contents_of s)) n) refl (λ there. open_at n nodes fresh.1 there)
-    where
-      later : is_node (id_of (contents_of s)) n ≡ false → (n ≡ id_of s) → ⊥
-      later e same = true≢false (sym (ap (λ k. is_node k n) (id_contents s ∙ sym same) ∙ node_self n) ∙ e)
+  open_at n nodes fresh among =
+      let h = one_of (OpensSo plan rows) n nodes fresh among in
+      let stands : NodeStandsFor plan rows h.one (new_node n) = subst (λ k. NodeStandsFor plan rows h.one (new_node k)) h.name h.fits.stands in
+      subst (λ o. StationStands plan rows n (standing o) opening) (sym h.there) (record { content = content_in plan rows n h.one (new_node n) (h.name, stands); sent = λ to. tt })
 
-      go : (b : Bool) → is_node (id_of (contents_of s)) n ≡ b → (Among n (map id_of nodes) → StationStands plan rows n (standing (found n (map new_station nodes))) opening)
-          → StationStands plan rows n (standing (if b then Some (new_station s) else found n (map new_station nodes))) opening
-      go true e rest =
-          let name : id_of s ≡ n = sym (id_contents s) ∙ is_node-true (id_of (contents_of s)) n e in
-          record { content = content_in plan rows n s (new_node n) (name, subst (λ k. NodeStandsFor plan rows s (new_node k)) name fresh.0); sent = λ to. tt }
-      go false e rest = ⊎_elim (λ same. absurd (later e same)) rest among
+  all_came : (nodes : List NodeState) → AreOpen plan rows nodes → Each AllCame nodes
+  all_came [] fresh = tt
+  all_came (s ∷ nodes) fresh = (fresh.0.came, all_came nodes fresh.1)
+
+  none_gone : (nodes : List NodeState) → AreOpen plan rows nodes → Each (λ s. gone_of s ≡ []) nodes
+  none_gone [] fresh = tt
+  none_gone (s ∷ nodes) fresh = (fresh.0.gone, none_gone nodes fresh.1)
 
 -- the first so many nodes of a plan are there, in their order, as they open
 pub record AreOpenedTo (plan : PlanView) (rows : List Input) (ids : List NodeId) (nodes : List NodeState) (i : ℕ) : Type 0 where
@@ -74,12 +117,12 @@ opened_none plan rows ids nodes e = subst (λ ns. AreOpenedTo plan rows ids ns 0
     none (id ∷ ids) = refl
 
 pub opened_next : (plan : PlanView) (rows : List Input) (ids : List NodeId) (nodes : List NodeState) (i : ℕ) (id : NodeId) (s : NodeState) → AreOpenedTo plan rows ids nodes i → i < length ids → id ≡ slice_index_or ids i id
-    → id_of s ≡ id → NodeStandsFor plan rows s (new_node id) → AreOpenedTo plan rows ids (nodes ++ s ∷ []) (i + 1)
-opened_next plan rows ids nodes i id s h within e name stands = record {
+    → id_of s ≡ id → NodeStandsFor plan rows s (new_node id) → AllCame s → gone_of s ≡ [] → AreOpenedTo plan rows ids (nodes ++ s ∷ []) (i + 1)
+opened_next plan rows ids nodes i id s h within e name stands came gone = record {
   names =
       let next : take (i + 1) ids ≡ take i ids ++ id ∷ [] = ap (λ k. take k ids) {x = i + 1} {y = suc i} (omega arith) ∙ take-next ids i id (get-at ids i id within e) in
       map-append id_of nodes (s ∷ []) ∙ (λ j. h.names j ++ name j ∷ []) ∙ sym next;
-  opens = each_more (λ k. NodeStandsFor plan rows k (new_node (id_of k))) nodes s h.opens (subst (λ k. NodeStandsFor plan rows s (new_node k)) (sym name) stands);
+  opens = each_more (OpensSo plan rows) nodes s h.opens (record { stands = subst (λ k. NodeStandsFor plan rows s (new_node k)) (sym name) stands; came = came; gone = gone });
 }
 
 pub opened_all : (plan : PlanView) (rows : List Input) (ids : List NodeId) (nodes : List NodeState) (i : ℕ) → AreOpenedTo plan rows ids nodes i → length ids ≤ i → map id_of nodes ≡ ids
@@ -116,6 +159,7 @@ opened_bare plan rows nodes d limits times names fresh = record {
       sound = plan_opens_sound plan (inputs_of (Bare plan true nodes)) limits;
       stands = opens;
     };
+    all = all;
   };
   opens = opens;
   plan = refl;
@@ -125,10 +169,14 @@ opened_bare plan rows nodes d limits times names fresh = record {
     among : (n : NodeId) → HasNode (flow_in (Bare plan true nodes)) n → Among n (map id_of nodes)
     among n has = subst (Among n) (sym names) (all_there plan n ((nodes_named plan (inputs_of (Bare plan true nodes)) n).named has))
 
+    all : HoldsAll (Bare plan true nodes)
+    all = all_held plan true nodes (all_came plan rows nodes fresh) (none_gone plan rows nodes fresh) (among node.Ingress (tt, tt)) (among node.Egress (tt, tt))
+
     inputs : inputs_of (Bare plan true nodes) ≡ rows
     inputs =
         let i = ingress_there plan rows (station (Bare plan true nodes) node.Ingress).content (new_node node.Ingress) (open_at plan rows node.Ingress nodes fresh (among node.Ingress (tt, tt))).content in
-        ap inputs_at i.1 ∙ i.2.inputs
+        let ended : i.0.ended ≡ true = sym (ap ended_at i.1) ∙ all.ended in
+        ap inputs_at i.1 ∙ subst (λ b. AreCome b i.0.inputs rows) ended i.2.inputs
 
     opens : StandsFor (Bare plan true nodes) opening
     opens = subst (λ I. (n : NodeId) → HasNode (flow_in (Bare plan true nodes)) n → StationStands plan I n (station (Bare plan true nodes) n) opening) (sym inputs) (λ n has. open_at plan rows n nodes fresh (among n has))
@@ -152,9 +200,9 @@ pub record IsBare (core : CoreView) (bare : CoreView) : Type 0 where
   pub same : core ≡ bare
 
 pub bared : (plan copy : PlanView) (nodes : List NodeState) (d : NodeState) (stations : List StationView) → stations ≡ map new_station nodes → copy ≡ plan → IsPlan plan → d ≡ slice_index_or nodes 0 d
-    → AreTimely (inputs_in d) → map id_of nodes ≡ nodes_of plan → IsGiven (bare_core plan nodes) → IsBare (core_of copy false stations) (bare_core plan nodes)
-bared plan copy nodes d stations made same limits first times names given =
+    → AreTimely (inputs_in d) → map id_of nodes ≡ nodes_of plan → IsGiven (bare_core plan nodes) → HoldsAll (bare_core plan nodes) → IsBare (core_of copy false stations) (bare_core plan nodes)
+bared plan copy nodes d stations made same limits first times names given all =
     let as_bare : core_of copy false stations ≡ bare_core plan nodes = λ j. core_of (same j) false (made j) in
     let timely : AreTimely (inputs_in (slice_index_or nodes 0 d)) = subst (λ s. AreTimely (inputs_in s)) first times in
-    let is : IsCore (bare_core plan nodes) = record { plan = limits; times = subst AreTimely (sym (first_inputs plan nodes d names)) timely; names = names_new nodes ∙ names; known = given } in
+    let is : IsCore (bare_core plan nodes) = record { plan = limits; times = subst AreTimely (sym (first_inputs plan nodes d names)) timely; names = names_new nodes ∙ names; known = given; all = all } in
     record { is = subst IsCore (sym as_bare) is; same = as_bare }

@@ -1,7 +1,6 @@
 -- What stands under each name, where the stations are a plan's nodes in their order, and one of them changes.
-use Rattle.std.proofs.Common.{◌≡◌, ◌≢◌, ◌∙◌, ◌<◌, ℕ, zero, suc, Bool, true, false, List, [], ◌∷◌, Some, length, slice_get, slice_index_or, slice_set, refl, sym, ap, subst, true≢false, unwrap_or, if◌then◌else◌}
+use Rattle.std.proofs.Common.{◌≡◌, ◌≢◌, ◌∙◌, ◌<◌, ℕ, zero, suc, Bool, true, false, List, [], ◌∷◌, Option, Some, length, slice_get, slice_index_or, slice_set, refl, sym, ap, subst, true≢false, unwrap_or, if◌then◌else◌}
 use Rattle.std.proofs.lemmas.Option.{slice_get_within}
-use Rattle.tuple_edge.specs.Input.{Input}
 use Rattle.tuple_edge.specs.declared.node.NodeId.{NodeId}
 use Rattle.tuple_edge.specs.declared.node.NodeId.TheVariants as node
 use Rattle.pair_machine.specs.Lists.{Each}
@@ -9,8 +8,9 @@ use Rattle.pair_machine.specs.Numbers.{is_node}
 use Rattle.pair_machine.proofs.Names.{is_node-true, node_self}
 use Rattle.plan_nodes.specs.NodeOrder.{nodes_of}
 use Rattle.plan_nodes.specs.States.{id_of}
+use Rattle.plan_nodes.specs.declared.state.NodeState.{NodeState}
 use Rattle.plan_nodes.proofs.NodeOrder.{Apart, differs, nodes_apart}
-use Rattle.flux_core.specs.CoreView.{CoreView, Standing, StationView, core_of, found, inputs_at, inputs_of, names_of, standing, station}
+use Rattle.flux_core.specs.CoreView.{CoreView, HoldsAll, Standing, StationView, core_of, ended_at, found, gone_at, inputs_at, inputs_of, names_of, standing, station}
 use Rattle.flux_core.specs.Stands.{IsCore}
 use Rattle.flux_core.specs.Steps.{ActedAt, HasChanged}
 use Rattle.flux_core.specs.declared.asked.Asked.{Asked}
@@ -108,13 +108,26 @@ changed old is n t news i place h =
       acted = h.acted;
     }
 
+-- what the node that changed kept stays under each name
+stays_at : {X : Type 0} (f : Option NodeState → X) (m n : NodeId) (t : Asked) (old new : CoreView) (h : HasChanged n t old new) → f (Some h.after.node) ≡ f (Some h.before.node) → f (station new m).content ≡ f (station old m).content
+stays_at {X} f m n t old new h kept = go (is_node m n) refl
+  where
+    read : Standing → X
+    read at = f at.content
+
+    go : (b : Bool) → is_node m n ≡ b → read (station new m) ≡ read (station old m)
+    go true e =
+        let same : m ≡ n = is_node-true m n e in
+        ap (λ k. read (station new k)) same ∙ ap read h.now ∙ kept ∙ sym (ap read h.was) ∙ ap (λ k. read (station old k)) (sym same)
+    go false e = ap read (h.others m (λ same. let z : true ≡ false = sym (node_self m) ∙ ap (is_node m) same ∙ e in absurd (true≢false z)))
+
 -- the inputs stay
 pub inputs_same : (n : NodeId) (t : Asked) (old new : CoreView) → HasChanged n t old new → inputs_of new ≡ inputs_of old
-inputs_same n t old new h = go (is_node node.Ingress n) refl
-  where
-    go : (b : Bool) → is_node node.Ingress n ≡ b → inputs_of new ≡ inputs_of old
-    go true e =
-        let same : node.Ingress ≡ n = is_node-true node.Ingress n e in
-        let inputs : Standing → List Input = λ at. inputs_at at.content in
-        ap (λ m. inputs (station new m)) same ∙ ap inputs h.now ∙ h.acted.inputs ∙ sym (ap inputs h.was) ∙ ap (λ m. inputs (station old m)) (sym same)
-    go false e = ap (λ (at : Standing). inputs_at at.content) (h.others node.Ingress (λ same. let z : true ≡ false = ap (is_node node.Ingress) same ∙ e in absurd (true≢false z)))
+inputs_same n t old new h = stays_at inputs_at node.Ingress n t old new h h.acted.inputs
+
+-- it still has all
+pub all_same : (n : NodeId) (t : Asked) (old new : CoreView) → HasChanged n t old new → HoldsAll old → HoldsAll new
+all_same n t old new h all = record {
+  ended = stays_at ended_at node.Ingress n t old new h h.acted.ended ∙ all.ended;
+  rows = stays_at gone_at node.Egress n t old new h h.acted.gone ∙ all.rows;
+}

@@ -23,7 +23,7 @@ use Rattle.replica_node.specs.Course.{AreTimely}
 use Rattle.node_tasks.specs.Tasks.{event_of, packet_of}
 use Rattle.node_tasks.specs.declared.task.Task.{Task}
 use Rattle.node_tasks.specs.declared.task.Task.TheVariants as task
-use Rattle.plan_nodes.specs.States.{StandsFor, contents_of, id_of, inputs_in}
+use Rattle.plan_nodes.specs.States.{AllCame, StandsFor, contents_of, gone_of, has_ended, id_of, inputs_in}
 use Rattle.plan_nodes.specs.declared.state.NodeState.{NodeState}
 use Rattle.flux_core.specs.CoreView.{Log}
 use Rattle.flux_core.specs.Refusals.{IsRefusal}
@@ -61,9 +61,9 @@ abbrev pub ActsSo : PlanView → Asked → NodeState → NodeState → Log → T
 ActsSo plan t old new sent = (rows : List Input) → IsPlan plan → AreTimely rows → (x : Node) (a : Act) → IsActOf plan rows (id_of old) t x a → StandsFor plan rows old x → Asks (flow_of plan rows) (id_of old) x a
     → (d : Node × List Envelope) × (does (flow_of plan rows) (id_of old) a x ≡ Ok d) × StandsFor plan rows new d.0 × PacketsStand plan rows (id_of old) sent (λ to. messages_to to d.1)
 
--- the machine refuses the act, for this reason
+-- the machine refuses the act of a node to which all its inputs came, for this reason
 abbrev pub IsRefusedSo : PlanView → Asked → NodeState → ApplyError → Type 0
-IsRefusedSo plan t old e = (rows : List Input) → IsPlan plan → (x : Node) (a : Act) → IsActOf plan rows (id_of old) t x a → StandsFor plan rows old x → IsRefusal (does (flow_of plan rows) (id_of old) a x) e
+IsRefusedSo plan t old e = AllCame old → (rows : List Input) → IsPlan plan → (x : Node) (a : Act) → IsActOf plan rows (id_of old) t x a → StandsFor plan rows old x → IsRefusal (does (flow_of plan rows) (id_of old) a x) e
 
 -- What came of what was asked of a node, where packets may lie in its outbox: they stay, and what it sent lies behind them.
 pub record HasAnswered (old new : NodeState) (t : Asked) (result : Result (Unit {0}) ApplyError) (before after : Log) : Type 0 where
@@ -73,6 +73,8 @@ pub record HasAnswered (old new : NodeState) (t : Asked) (result : Result (Unit 
   pub unchanged : OnErr result ((contents_of new ≡ contents_of old) × (after ≡ before))
   pub id : id_of new ≡ id_of old
   pub inputs : inputs_in new ≡ inputs_in old
+  pub ended : has_ended new ≡ has_ended old
+  pub gone : gone_of new ≡ gone_of old
 
 -- ---- answers
 

@@ -1,5 +1,5 @@
 -- What contracts see of a core: the nodes of a plan in their order, each with every packet that it ever sent. The room that edges have is left aside.
-use Rattle.std.specs.Prelude.{ℕ, Bool, List, [], ◌∷◌, Option, None, Some, if◌then◌else◌, map, slice_get}
+use Rattle.std.specs.Prelude.{◌≡◌, ℕ, Bool, true, false, List, [], ◌∷◌, Option, None, Some, if◌then◌else◌, map, slice_get}
 use Rattle.tuple_edge.specs.declared.node.NodeId.{NodeId}
 use Rattle.tuple_edge.specs.declared.node.NodeId.TheVariants as node
 use Rattle.tuple_edge.specs.declared.packet.Body.{Body}
@@ -12,7 +12,7 @@ use Rattle.pair_machine.specs.Numbers.{is_node}
 use Rattle.ingress_egress.specs.IngressView.{IngressView, contents_in}
 use Rattle.replica_node.specs.ReplicaView.{ReplicaView}
 use Rattle.replica_node.specs.Rules as replica
-use Rattle.plan_nodes.specs.States.{id_of, inputs_in, rows_of}
+use Rattle.plan_nodes.specs.States.{gone_of, has_ended, id_of, inputs_in, rows_of}
 use Rattle.plan_nodes.specs.declared.state.NodeState.{NodeState}
 
 -- the packets that a node ever sent, each with its receiver, in order
@@ -65,15 +65,25 @@ standing_at stations place = standing (slice_get stations place)
 
 -- ---- of the whole
 
--- the inputs that a node makes into items
+-- the inputs that came to a node
 abbrev pub inputs_at : Option NodeState → List Input
 inputs_at None = []
 inputs_at (Some s) = inputs_in s
+
+-- whether it was said to a node that no more come
+abbrev pub ended_at : Option NodeState → Bool
+ended_at None = false
+ended_at (Some s) = has_ended s
 
 -- the rows that a node emitted
 abbrev pub rows_at : Option NodeState → List Row
 rows_at None = []
 rows_at (Some s) = rows_of s
+
+-- the rows that a node handed on
+abbrev pub gone_at : Option NodeState → List Row
+gone_at None = []
+gone_at (Some s) = gone_of s
 
 -- the inputs of a core, and the numbers of its plan
 abbrev pub inputs_of : CoreView → List Input
@@ -85,6 +95,11 @@ flow_in core = flow_of core.plan (inputs_of core)
 -- the rows that egress of a core emitted
 abbrev pub emitted_by : CoreView → List Row
 emitted_by core = rows_at (station core node.Egress).content
+
+-- a core has all its inputs and all its rows: no more inputs come to ingress, and egress handed no row on
+pub record HoldsAll (core : CoreView) : Type 0 where
+  pub ended : ended_at (station core node.Ingress).content ≡ true
+  pub rows : gone_at (station core node.Egress).content ≡ []
 
 -- ---- the room of edges left aside
 

@@ -9,7 +9,7 @@ use Rattle.pair_machine.specs.Machine.{State, act_of, at_node, step}
 use Rattle.pair_machine.specs.Messages.{Act}
 use Rattle.pair_machine.specs.Sound.{IsSound}
 use Rattle.plan_reader.specs.PlanView.{PlanView}
-use Rattle.plan_nodes.specs.States.{id_of, inputs_in}
+use Rattle.plan_nodes.specs.States.{gone_of, has_ended, id_of, inputs_in}
 use Rattle.flux_core.specs.Acts.{ActsSo, IsActOf}
 use Rattle.flux_core.specs.CoreView.{CoreView, Log, StationView, flow_in, inputs_of, names_of, standing, station}
 use Rattle.flux_core.specs.Stands.{StandsFor}
@@ -23,6 +23,8 @@ IsTaskOf core e t = (s : State) → StandsFor core s → (a : Act) × (act_of (f
 pub record HasActed (t : Asked) (old new : StationView) : Type 0 where
   pub id : id_of new.node ≡ id_of old.node
   pub inputs : inputs_in new.node ≡ inputs_in old.node
+  pub ended : has_ended new.node ≡ has_ended old.node
+  pub gone : gone_of new.node ≡ gone_of old.node
   pub sent : Log
   pub noted : new.sent ≡ old.sent ++ sent
   pub acts : (plan : PlanView) → ActsSo plan t old.node new.node sent

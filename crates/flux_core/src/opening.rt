@@ -1,5 +1,5 @@
 // How a core is made: one station after another.
-ghost use Rattle.flux_core.specs.CoreView.{inputs_of};
+ghost use Rattle.flux_core.specs.CoreView.{HoldsAll, inputs_of};
 ghost use Rattle.flux_core.specs.Opening.{AreOpen, bare_core, new_station};
 ghost use Rattle.flux_core.specs.Stands.{IsGiven, StandsFor};
 ghost use Rattle.pair_machine.specs.Machine.{opening};
@@ -33,7 +33,7 @@ fn open_nodes(alloc: Global, plan: &Plan, trades: &Trades) -> Result<Vec<NodeSta
     Ok(nodes)
 }
 
-// The times of the inputs that a node makes into items are within their limits.
+// The times of the inputs that came to a node are within their limits.
 fn times_of(node: &NodeState)
     ensures { AreTimely (inputs_of_node node.now) }
 {
@@ -83,10 +83,12 @@ impl Core {
         })
     }
 
-    /// A core of these nodes, which are the plan's in their order, with no packet sent.
+    /// A core of these nodes, which are the plan's in their order, with no packet sent. All inputs came to their ingress,
+    /// and their egress holds each row that it emitted.
     pub fn of(alloc: Global, plan: &Plan, nodes: Vec<NodeState>) -> Result<Core, OutOfMemory>
         requires names { map id_of nodes.items ≡ nodes_of plan.now }
         requires given { IsGiven (bare_core plan.now nodes.items) }
+        requires all { HoldsAll (bare_core plan.now nodes.items) }
         ensures { IfOk result (λ core. core ≡ bare_core plan.now nodes.items) }
     {
         times_of(&nodes[0]);

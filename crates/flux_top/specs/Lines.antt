@@ -4,7 +4,7 @@ use Rattle.std.specs.Fmt.{decimal}
 use Rattle.pair_machine.specs.Numbers.{Partition}
 
 abbrev pub usage_line : List ℕ
-usage_line = codes "flux: usage: eval PLAN TRADES [--cash C] | run PLAN TRADES [options] | replay PLAN TRADES EVENTS [--cash C] | make START COUNT | trial PLAN START COUNT [options] | move PLAN TRADES MOVES | trio PLAN TRADES EVENTS\n"
+usage_line = codes "flux: usage: eval PLAN TRADES [--cash C] | run PLAN TRADES [options] | replay PLAN TRADES EVENTS [--cash C] | make START COUNT | trial PLAN START COUNT [options] | trio PLAN TRADES EVENTS | move PLAN TRADES MOVES\n"
 
 abbrev pub cannot_write_line : List ℕ
 cannot_write_line = codes "flux: cannot write\n"

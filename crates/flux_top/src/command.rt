@@ -118,7 +118,7 @@ pub fn flux<R: Threads + Sync, F: Files, S: Sink, E: Sink, G: Gate>(
 
 /// What is said of words without a form.
 const USAGE: &str =
-    "flux: usage: eval PLAN TRADES [--cash C] | run PLAN TRADES [options] | replay PLAN TRADES EVENTS [--cash C] | make START COUNT | trial PLAN START COUNT [options] | move PLAN TRADES MOVES | trio PLAN TRADES EVENTS\n";
+    "flux: usage: eval PLAN TRADES [--cash C] | run PLAN TRADES [options] | replay PLAN TRADES EVENTS [--cash C] | make START COUNT | trial PLAN START COUNT [options] | trio PLAN TRADES EVENTS | move PLAN TRADES MOVES\n";
 
 // Runs the command of the words: all is read and computed before anything is saved or written.
 #[tactic(auto, using(crate::proofs::Requests::short_at_once, crate::proofs::Courses::wants_for, crate::proofs::Courses::wants_on))]

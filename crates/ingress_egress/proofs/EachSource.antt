@@ -1,5 +1,5 @@
 -- What loops over the sources of ingress keep.
-use Rattle.std.proofs.Common.{◌≡◌, ◌<◌, ◌≤◌, ◌+◌, ◌⊎◌, inl, inr, ℕ, zero, suc, List, [], ◌∷◌, ◌++◌, false, Option, None, Some, length, map, refl, sym, ap, ◌∙◌, subst, arith}
+use Rattle.std.proofs.Common.{◌≡◌, ◌<◌, ◌≤◌, ◌+◌, ◌⊎◌, inl, inr, ℕ, zero, suc, List, [], ◌∷◌, ◌++◌, false, Option, Some, length, map, refl, sym, ap, ◌∙◌, subst, arith}
 use Rattle.std.specs.Prelude.{◌%◌, ◌==◌, if◌then◌else◌, slice_get, slice_index_or, slice_set}
 use Rattle.std.proofs.Math.ListN.{length-set}
 use Rattle.std.proofs.Math.Seq.{map-set_same}
@@ -8,7 +8,7 @@ use Rattle.tuple_edge.specs.declared.item.Item.{Item}
 use Rattle.tuple_edge.specs.declared.item.Item.TheVariants as item
 use Rattle.flux_producer.specs.ProducerView.{HasRoom, ProducerView, contents_of}
 use Rattle.node_edges.specs.OutEdges.{HasMade}
-use Rattle.ingress_egress.specs.IngressStands.{IsMade}
+use Rattle.ingress_egress.specs.IngressStands.{IsAtHand, IsMade}
 use Rattle.ingress_egress.specs.IngressView.{AreWide, IngressView, MayMake, producer_in}
 use Rattle.ingress_egress.specs.IngressView as code
 use Rattle.tuple_edge.specs.declared.event.Worked.TheVariants as worked
@@ -20,10 +20,8 @@ use Rattle.plan_reader.specs.declared.stage.Stage.{Stage}
 use Rattle.pair_machine.specs.Edges.{edge_to}
 use Rattle.tuple_edge.specs.Input.{Input}
 use Rattle.tuple_edge.specs.Limits.{number_limit}
-use Rattle.trade_text.specs.TradesView.{paired}
 use Rattle.flux_producer.specs.OutEdge.{OutEdgeView, unused}
 use Rattle.flux_producer.specs.ProducerView.{without_room}
-use Rattle.tuple_edge.specs.declared.row.Row.{Row}
 
 -- what stands at a place of a list after a write
 pub at_set : (xs : List ProducerView) (i : ℕ) (x : ProducerView) (q : ℕ) → i < length xs
@@ -127,33 +125,16 @@ wide_made parts news old new many m w = record {
   copies = λ q l. (m q (omega arith)).copies ∙ w.copies q (omega arith);
 }
 
--- ---- inputs
-
-pub none_paired : (rows : List Row) (sources : List ℕ) (n : ℕ) → slice_get rows n ≡ None → slice_get (paired rows sources) n ≡ None
-none_paired [] sources n e = refl
-none_paired (r ∷ rows) sources zero e = let z : ⊥ = cc e in absurd z
-none_paired (r ∷ rows) [] (suc n) e = none_paired rows [] n e
-none_paired (r ∷ rows) (s ∷ sources) (suc n) e = none_paired rows sources n e
-
-pub paired_many : (rows : List Row) (sources : List ℕ) → length (paired rows sources) ≡ length rows
-paired_many [] sources = refl
-paired_many (r ∷ rows) [] = ap suc (paired_many rows [])
-paired_many (r ∷ rows) (s ∷ sources) = ap suc (paired_many rows sources)
-
-pub at_get : (rows : List Row) (n : ℕ) (d : Row) → n < length rows → slice_get rows n ≡ Some (slice_index_or rows n d)
-at_get [] n d l = absurd (omega arith)
-at_get (r ∷ rows) zero d l = refl
-at_get (r ∷ rows) (suc n) d l = at_get rows n d (omega arith)
-
 -- ---- a make
 
-pub make_is : (i : IngressView) (z : List ProducerView) (o : Option Input) (stamp : ℕ) → stamp ≡ i.makes + 1 → o ≡ slice_get i.inputs i.makes → i.makes ≤ length i.inputs → length z ≡ length i.producers
+pub make_is : (i : IngressView) (z : List ProducerView) (o : Option Input) (stamp : ℕ) → stamp ≡ i.makes + 1 → o ≡ slice_get i.inputs i.makes → IsAtHand i → length z ≡ length i.producers
     → ((q : ℕ) → q < length i.producers → HasMade (λ t. edge_to (Some i.first) t (made_for q i.mark stamp o)) (producer_in i.producers q) (producer_in z q))
     → IsMade i (record i { makes = stamp; producers = z }) worked.Did
 make_is i z o stamp next input within many m = (
   within,
   record {
     inputs = refl;
+    ended = refl;
     first = refl;
     mark = refl;
     makes = next;

@@ -49,7 +49,7 @@ offer_edges m q n i = go (n == mark_of m q + 1)
     go true = length-set m.marks q n
     go false = refl
 
-pub opens_of_plan : (plan : PlanView) (e : EgressView) → e ≡ record { stages = length plan.stages; consumer = over (opening (sources_of plan (length plan.stages + 1))); emitted = []; done = false }
+pub opens_of_plan : (plan : PlanView) (e : EgressView) → e ≡ record { stages = length plan.stages; consumer = over (opening (sources_of plan (length plan.stages + 1))); emitted = []; gone = []; done = false }
     → IsOfPlan plan e
 opens_of_plan plan e same = subst (IsOfPlan plan) (sym same) (record { stages = refl; edges = length-replicate (sources_of plan (length plan.stages + 1)) 0 })
 

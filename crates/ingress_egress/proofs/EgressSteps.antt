@@ -63,7 +63,7 @@ module _ (plan : PlanView) (rows : List Input) where
       let some = (consumers.form_is plan rows is (length plan.stages + 1) 0 (omega arith)).some in
       let many = consumers.many_are plan rows (length plan.stages + 1) 0 (omega arith) (omega arith) in omega arith
 
-  pub opens : IsPlan plan → (e : EgressView) → e ≡ record { stages = length plan.stages; consumer = over (opening (sources_of plan (length plan.stages + 1))); emitted = []; done = false }
+  pub opens : IsPlan plan → (e : EgressView) → e ≡ record { stages = length plan.stages; consumer = over (opening (sources_of plan (length plan.stages + 1))); emitted = []; gone = []; done = false }
       → StandsFor plan rows e (new_node node.Egress)
   opens is e same = subst (λ z. StandsFor plan rows z (new_node node.Egress)) (sym same) (record {
     stages = refl;

@@ -79,7 +79,7 @@ works_of_plan plan i = alike_of_plan plan i (working i).after (works_alike i (so
 
 made_of_plan : (plan : PlanView) (old new : IngressView) (m : Worked) → IsMade old new m → IsOfPlan plan old → IsOfPlan plan new
 made_of_plan plan old new worked.Did m = alike_of_plan plan old new (record { first = m.1.first; sources = m.1.sources })
-made_of_plan plan old new worked.Idle m = subst (IsOfPlan plan) (sym m.1)
+made_of_plan plan old new worked.Idle m = subst (IsOfPlan plan) (sym m.0)
 
 -- also where only the room changed
 pub make_of_plan : (r : Result Worked OutOfMemory) (old new : IngressView) → IfOk r (IsMade old new) → OnErr r (contents_in new ≡ contents_in old)

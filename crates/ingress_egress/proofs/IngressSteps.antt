@@ -1,5 +1,6 @@
 -- Each event of ingress in code is a step of the machine's ingress, and a step in a course.
-use Rattle.std.proofs.Common.{◌≡◌, ◌<◌, ◌≤◌, ◌+◌, ◌⊎◌, inl, inr, ℕ, zero, suc, Bool, true, false, List, [], ◌∷◌, ◌++◌, Option, None, Some, Result, Ok, Err, length, refl, sym, ap, ◌∙◌, subst, arith}
+use mathlib.Core.List.{IsPrefix}
+use Rattle.std.proofs.Common.{append_assoc, ◌≡◌, ◌<◌, ◌≤◌, ◌+◌, ◌⊎◌, inl, inr, ℕ, zero, suc, Bool, true, false, List, [], ◌∷◌, ◌++◌, Option, None, Some, Result, Ok, Err, length, refl, sym, ap, ◌∙◌, subst, arith}
 use Rattle.std.specs.Prelude.{◌==◌, IfOk, OnOk, if◌then◌else◌, is_some, nat_lt, slice_get, slice_index_or, take}
 use Rattle.std.specs.Option.{option_or}
 use Rattle.std.proofs.Math.ListN.{length-set}
@@ -47,8 +48,8 @@ use Rattle.pair_machine.proofs.Tests.{nat_not}
 use Rattle.node_edges.specs.OutEdges.{AreNext, ProducerStands, any_due_in, copy_of, due_in, which_at}
 use Rattle.node_edges.proofs.Producers as producers
 use Rattle.node_edges.proofs.Producers.{few_in_pairs, few_of_pair}
-use Rattle.ingress_egress.specs.IngressStands.{IsAdmitted, IsDone, IsMade, IsMadeIn, IsRefused, IsTaken, IsWorked, StandsFor}
-use Rattle.ingress_egress.specs.IngressView.{AreWide, HasMadeNext, IngressView, made_next, new_producer, new_producers, producer_at, producer_in, sending_due, sending_first, taking, tuple_of, tuples_of, with_producer, working}
+use Rattle.ingress_egress.specs.IngressStands.{AreCome, IsAtHand, IsAdmitted, IsDone, IsMade, IsMadeIn, IsRefused, IsTaken, IsWorked, StandsFor}
+use Rattle.ingress_egress.specs.IngressView.{AreWide, HasMadeNext, IngressView, fed, made_next, new_producer, new_producers, producer_at, producer_in, sending_due, sending_first, taking, tuple_of, tuples_of, with_producer, working}
 use Rattle.ingress_egress.specs.IngressView as code
 
 -- ---- searches
@@ -105,6 +106,19 @@ open_wide parts n = record {
   copies = λ q l. ap (λ (y : ProducerView). y.copies) (opened_at parts n q (let m = many parts n in omega arith));
 }
 
+-- the first of inputs are found where they stand
+front_get : (came rest : List Input) (k : ℕ) → k < length came → slice_get (came ++ rest) k ≡ slice_get came k
+front_get [] rest k l = absurd (omega arith)
+front_get (x ∷ came) rest zero l = refl
+front_get (x ∷ came) rest (suc k) l = front_get came rest k (omega arith)
+
+-- an input that is at hand is the next one of all
+next_come : (ended : Bool) (came rows : List Input) (k : ℕ) → AreCome ended came rows → k ≤ length came → (ended ≡ false → k < length came) → (k < length rows + 1) × (slice_get rows k ≡ slice_get came k)
+next_come true came rows k is within more = (let z = ap length is in omega arith, ap (λ xs. slice_get xs k) (sym is))
+next_come false came rows k p within more =
+    let l = more refl in
+    (let z = ap length p.1 in omega (arith, length-append came p.0), ap (λ xs. slice_get xs k) (sym p.1) ∙ front_get came p.0 k l)
+
 module _ (plan : PlanView) (rows : List Input) where
   sources_are : (flow_of plan rows).sources 1 ≡ plan.version
   unfolding flow_of
@@ -136,7 +150,7 @@ module _ (plan : PlanView) (rows : List Input) where
       (subst (λ n. ProducerStands f (items_on plan rows) (ingress_source q) (λ t. 0) (new_ingress.producers q) (opening 0 q parts n true)) two
       (subst (λ n. ProducerStands f (items_on plan rows) (ingress_source q) (λ t. 0) (new_ingress.producers q) (opening 0 q n (copies f (ingress_source q)) true)) (sym same) opened))
 
-  pub opens : IsPlan plan → (i : IngressView) → i.inputs ≡ rows → slice_get plan.stages 0 ≡ Some i.first → i.mark ≡ plan.mark → i.makes ≡ 0 → i.producers ≡ new_producers i.first.parts plan.version
+  pub opens : IsPlan plan → (i : IngressView) → AreCome i.ended i.inputs rows → slice_get plan.stages 0 ≡ Some i.first → i.mark ≡ plan.mark → i.makes ≡ 0 → i.producers ≡ new_producers i.first.parts plan.version
       → StandsFor plan rows i (new_node node.Ingress)
   opens is i inputs first mark makes new = record {
     inputs = inputs;
@@ -269,23 +283,25 @@ module _ (plan : PlanView) (rows : List Input) where
   unfolding flow_of
   makes_all = refl
 
-  next_made : IsPlan plan → (i : IngressView) (n : Node) (q t : ℕ) → q < plan.version → i.makes ≤ length i.inputs → StandsFor plan rows i n
+  next_made : IsPlan plan → (i : IngressView) (n : Node) (q t : ℕ) → q < plan.version → IsAtHand i → StandsFor plan rows i n
       → AreNext (items_on plan rows (ingress_edge q t)) (source_made (flow_of plan rows) (ingress_in n) q t) (source_made (flow_of plan rows) (later (ingress_in n)) q t) (made_next i q t)
   unfolding flow_of
   next_made is i n q t l within s =
       let m = (all_made plan rows is).by_ingress q t l in
       let x = ingress_in n in
-      let fewer : x.makes < length rows + 1 = let e = s.makes in let z = ap length s.inputs in omega arith in
+      let came = next_come i.ended i.inputs rows i.makes s.inputs within.0 within.1 in
+      let fewer : x.makes < length rows + 1 = let e = s.makes in let z = came.0 in omega arith in
       record {
         some = m.most x.makes;
         most = m.most (x.makes + 1);
         front = m.front (x.makes + 1) ∙ m.next x.makes fewer ∙ ap (λ xs. xs ++ edge_to (slice_get plan.stages 0) t (made_for q plan.mark (x.makes + 1) (slice_get rows x.makes))) (sym (m.front x.makes))
-            ∙ (λ j. take (source_made (flow_of plan rows) x q t) (items_on plan rows (ingress_edge q t)) ++ edge_to (s.first j) t (made_for q (sym s.mark j) (sym s.makes j + 1) (slice_get (sym s.inputs j) (sym s.makes j))));
+            ∙ (λ j. take (source_made (flow_of plan rows) x q t) (items_on plan rows (ingress_edge q t)) ++ edge_to (s.first j) t (made_for q (sym s.mark j) (sym s.makes j + 1) (slice_get rows (sym s.makes j))))
+            ∙ ap (λ o. take (source_made (flow_of plan rows) x q t) (items_on plan rows (ingress_edge q t)) ++ edge_to (Some i.first) t (made_for q i.mark (i.makes + 1) o)) came.1;
       }
 
-  make_stands : IsPlan plan → (old new : IngressView) (n : Node) → old.makes ≤ length old.inputs → HasMadeNext old new → StandsFor plan rows old n → StandsFor plan rows new (IngressNode (later (ingress_in n)))
+  make_stands : IsPlan plan → (old new : IngressView) (n : Node) → IsAtHand old → HasMadeNext old new → StandsFor plan rows old n → StandsFor plan rows new (IngressNode (later (ingress_in n)))
   make_stands is old new n within m s = record {
-    inputs = m.inputs ∙ s.inputs;
+    inputs = subst (λ e. AreCome e new.inputs rows) (sym m.ended) (subst (λ came. AreCome old.ended came rows) (sym m.inputs) s.inputs);
     first = s.first ∙ ap (λ z. Some z) (sym m.first);
     mark = m.mark ∙ s.mark;
     makes = m.makes ∙ ap (λ k. k + 1) s.makes;
@@ -296,29 +312,41 @@ module _ (plan : PlanView) (rows : List Input) where
         (λ t k. next_made is old n q t l within s) (s.producers q l);
   }
 
-  pub make_course : IsPlan plan → (old new : IngressView) → old.makes ≤ length old.inputs → HasMadeNext old new → IsDone plan rows old new [] event.Make
+  pub make_course : IsPlan plan → (old new : IngressView) → IsAtHand old → HasMadeNext old new → IsDone plan rows old new [] event.Make
   make_course is old new within m = λ clock a act n s asks.
-      let more : (ingress_in n).makes < (flow_of plan rows).makes = let e = s.makes in let z = ap length s.inputs in let w = makes_all in omega arith in (
+      let more : (ingress_in n).makes < (flow_of plan rows).makes = let e = s.makes in let z = (next_come old.ended old.inputs rows old.makes s.inputs within.0 within.1).0 in let w = makes_all in omega arith in (
         (IngressNode (later (ingress_in n)), []),
         (λ j. does (flow_of plan rows) node.Ingress (act j) n) ∙ ap (λ b. as_ingress (if b then Ok (later (ingress_in n), []) else Err NoMoreRows)) (lt-ltb (ingress_in n).makes (flow_of plan rows).makes more),
         make_stands is old new n within m s,
         λ to. tt,
       )
 
-  -- where the end was made, no input is left
-  pub make_refused : (i : IngressView) → length i.inputs < i.makes → IsRefused plan rows i Makes NoMoreRows
-  make_refused i past n s =
+  all_come : (i : IngressView) → i.ended ≡ true → AreCome i.ended i.inputs rows → i.inputs ≡ rows
+  all_come i ended came = rw ended at came
+
+  -- where all came and the end was made, no input is left
+  pub make_refused : (i : IngressView) → (IsAtHand i → ⊥) → i.ended ≡ true → IsRefused plan rows i Makes NoMoreRows
+  make_refused i none ended n s =
+      let no : i.makes ≤ length i.inputs → ⊥ = λ within. none (within, λ still. let z : true ≡ false = sym ended ∙ still in cc) in
       let all = makes_all in
-      let many = ap length s.inputs in
+      let many = ap length (all_come i ended s.inputs) in
       let made = s.makes in
-      ap (λ b. as_ingress (if b then Ok (later (ingress_in n), []) else Err NoMoreRows)) (ltb-not (ingress_in n).makes (flow_of plan rows).makes (omega arith))
+      ap (λ b. as_ingress (if b then Ok (later (ingress_in n), []) else Err NoMoreRows)) (ltb-not (ingress_in n).makes (flow_of plan rows).makes (omega (arith, no)))
+
+  -- ---- inputs that come
+
+  -- one more came
+  pub feed_admits : (i : IngressView) (input : Input) → i.ended ≡ false → AreCome i.ended (i.inputs ++ input ∷ []) rows → AreCome i.ended i.inputs rows
+  feed_admits i input more may =
+      let p : IsPrefix (i.inputs ++ input ∷ []) rows = subst (λ e. AreCome e (i.inputs ++ input ∷ []) rows) more may in
+      subst (λ e. AreCome e i.inputs rows) (sym more) (input ∷ p.0, sym (append_assoc i.inputs (input ∷ []) p.0) ∙ p.1)
 
 -- ---- what calls have found and done
 
 -- what was made is a step of the machine
 pub make_done : (r : Result Worked OutOfMemory) (old new : IngressView) → IfOk r (IsMade old new) → IfOk r (λ m. (plan : PlanView) (rows : List Input) → IsPlan plan → IsMadeIn plan rows old new m)
 make_done (Ok worked.Did) old new h = λ plan rows is. make_course plan rows is old new h.0 h.1
-make_done (Ok worked.Idle) old new h = λ plan rows is. make_refused plan rows old h.0
+make_done (Ok worked.Idle) old new h = λ plan rows is ended. make_refused plan rows old h.1 ended
 make_done (Err e) old new h = tt
 
 -- the first number of which a test holds, below any bound above it

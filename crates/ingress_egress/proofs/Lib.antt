@@ -4,3 +4,5 @@ mod EachSource
 mod Admitting
 pub mod EgressPlan
 pub mod IngressPlan
+pub mod Handing
+pub mod Coming

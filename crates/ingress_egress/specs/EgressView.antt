@@ -17,11 +17,12 @@ use Rattle.flux_consumer.specs.ConsumerView.{ConsumerView, report_of, telling, w
 use Rattle.stream_ops.specs.Answers.{rows_of}
 
 -- the number of stages of the plan, the merge of what the last of them sends with what was acknowledged of it, the rows that were
--- merged, and whether the end was
+-- merged, those of them that were handed on, and whether the end was merged
 pub record EgressView : Type 0 where
   pub stages : ℕ
   pub consumer : ConsumerView
   pub emitted : List Row
+  pub gone : List Row
   pub done : Bool
 
 abbrev pub is_end : Item → Bool

@@ -1,5 +1,6 @@
 -- What ingress and its packets stand for in the machine.
-use Rattle.std.specs.Prelude.{◌≡◌, ◌<◌, ◌≤◌, ℕ, List, [], None, Some, Err, length, slice_get}
+use mathlib.Core.List.{IsPrefix}
+use Rattle.std.specs.Prelude.{◌≡◌, ◌<◌, ◌≤◌, ℕ, Bool, true, false, List, [], None, Some, Err, length, slice_get}
 use Rattle.tuple_edge.specs.Input.{Input}
 use Rattle.tuple_edge.specs.Limits.{number_limit}
 use Rattle.tuple_edge.specs.declared.event.Event.{Event}
@@ -23,10 +24,15 @@ use Rattle.pair_machine.specs.Numbers.{Node}
 use Rattle.node_edges.specs.OutEdges.{ProducerStands}
 use Rattle.ingress_egress.specs.IngressView.{HasMadeNext, IngressView, producer_at}
 
--- ingress stands for a node's numbers: it has the plan's inputs, first stage and mark, and the producer of each source stands for its
--- numbers, where so many items were made as the first makes give
+-- the inputs that came are the first of these, and all of them where no more come
+abbrev pub AreCome : Bool → List Input → List Input → Type 0
+AreCome true came rows = came ≡ rows
+AreCome false came rows = IsPrefix came rows
+
+-- ingress stands for a node's numbers: the inputs that came are the first of the plan's, it has the plan's first stage and mark, and the
+-- producer of each source stands for its numbers, where so many items were made as the first makes give
 pub record StandsFor (plan : PlanView) (rows : List Input) (i : IngressView) (n : Node) : Type 0 where
-  pub inputs : i.inputs ≡ rows
+  pub inputs : AreCome i.ended i.inputs rows
   pub first : slice_get plan.stages 0 ≡ Some i.first
   pub mark : i.mark ≡ plan.mark
   pub makes : i.makes ≡ (ingress_in n).makes
@@ -62,15 +68,19 @@ abbrev pub IsWorked : PlanView → List Input → IngressView → IngressView �
 IsWorked plan rows old new sent worked.Did = IsDone plan rows old new sent (event.Work node.Ingress)
 IsWorked plan rows old new sent worked.Idle = IsRefused plan rows old Works NothingDue
 
--- a make; where there was none, all was made
+-- a make; where there was none and all came, all was made
 abbrev pub IsMadeIn : PlanView → List Input → IngressView → IngressView → Worked → Type 0
 IsMadeIn plan rows old new worked.Did = IsDone plan rows old new [] event.Make
-IsMadeIn plan rows old new worked.Idle = IsRefused plan rows old Makes NoMoreRows
+IsMadeIn plan rows old new worked.Idle = old.ended ≡ true → IsRefused plan rows old Makes NoMoreRows
 
--- the next input, or the end, was made into items; there was none where the end was made already
+-- the next input has come, or, where all came, the end is to be made
+abbrev pub IsAtHand : IngressView → Type 0
+IsAtHand i = (i.makes ≤ length i.inputs) × (i.ended ≡ false → i.makes < length i.inputs)
+
+-- the next input, or the end, was made into items; there was none where the next one hasn't come, or the end was made already
 abbrev pub IsMade : IngressView → IngressView → Worked → Type 0
-IsMade old new worked.Did = (old.makes ≤ length old.inputs) × HasMadeNext old new
-IsMade old new worked.Idle = (length old.inputs < old.makes) × (new ≡ old)
+IsMade old new worked.Did = IsAtHand old × HasMadeNext old new
+IsMade old new worked.Idle = (new ≡ old) × (IsAtHand old → ⊥)
 
 -- ---- which packets it may be given
 

@@ -1,5 +1,5 @@
 -- What contracts see of ingress, and what each event makes of it.
-use Rattle.std.specs.Prelude.{◌≡◌, ◌<◌, ◌≤◌, ◌+◌, ◌*◌, ℕ, zero, suc, true, List, [], ◌∷◌, ◌++◌, All, Option, None, Some, is_some, length, map, slice_get, slice_index_or, slice_set}
+use Rattle.std.specs.Prelude.{◌≡◌, ◌<◌, ◌≤◌, ◌+◌, ◌*◌, ◌^◌, ℕ, zero, suc, Bool, true, false, List, [], ◌∷◌, ◌++◌, All, Option, None, Some, is_some, drop, length, map, slice_get, slice_index_or, slice_set}
 use Rattle.tuple_edge.specs.Input.{Input}
 use Rattle.tuple_edge.specs.Limits.{edge_limit}
 use Rattle.tuple_edge.specs.declared.event.Worked.TheVariants as worked
@@ -8,15 +8,12 @@ use Rattle.tuple_edge.specs.declared.node.NodeId.{NodeId}
 use Rattle.tuple_edge.specs.declared.node.NodeId.TheVariants as node
 use Rattle.tuple_edge.specs.declared.packet.Body.{Body}
 use Rattle.tuple_edge.specs.declared.packet.Body.TheVariants as body
-use Rattle.tuple_edge.specs.declared.row.Row.{Row}
 use Rattle.ack_buffer.specs.Buffer.{item_at}
 use Rattle.flux_producer.specs.Due.{due_of}
 use Rattle.flux_producer.specs.ProducerView.{HasRoom, ProducerView, acked, buffer_at, contents_of, opening, sent_on, wanted_from}
 use Rattle.flux_producer.specs.declared.due.Due.{Due}
 use Rattle.plan_reader.specs.declared.stage.Stage.{Stage}
 use Rattle.stream_ops.specs.Times.{IsTime}
-use Rattle.trade_text.specs.Limits.{max_inputs}
-use Rattle.trade_text.specs.TradesView.{paired}
 use Rattle.pair_machine.specs.Consumers.{first_below}
 use Rattle.pair_machine.specs.CountLaws.{made_for}
 use Rattle.pair_machine.specs.Edges.{edge_to}
@@ -25,10 +22,11 @@ use Rattle.node_edges.specs.OutEdges.{HasMade, copy_of, which_at}
 pub use Rattle.node_edges.specs.OutEdges.{MayMakeMore}
 use Rattle.ingress_egress.specs.EgressView.{WorkDone}
 
--- the inputs, the first stage, after how many inputs there is a mark, how many inputs, or the end, were made into items, and a producer
--- for each source
+-- the inputs that came, whether they are all, the first stage, after how many inputs there is a mark, how many inputs, or the end, were
+-- made into items, and a producer for each source
 pub record IngressView : Type 0 where
   pub inputs : List Input
+  pub ended : Bool
   pub first : Stage
   pub mark : ℕ
   pub makes : ℕ
@@ -66,18 +64,41 @@ HasMadeAtMost most y = (t : ℕ) → t < length y.edges → (buffer_at y t).prod
 abbrev pub HaveMadeAtMost : ℕ → List ProducerView → Type 0
 HaveMadeAtMost most producers = (q : ℕ) → q < length producers → HasMadeAtMost most (producer_in producers q)
 
--- what is true of each ingress: of its rows and the source of each, its first stage, after how many inputs there is a mark, how many makes
--- there were, and the producer of each source. There are few inputs, and a make gives at most two items to an edge, so no number of an item
--- ever passes its limit. The time of each is within its limits, as it is in the trades.
-pub record IsIngress (rows : List Row) (sources : List ℕ) (first : Stage) (every makes : ℕ) (producers : List ProducerView) : Type 0 where
+-- the most inputs that may come
+abbrev pub most_inputs : ℕ
+most_inputs = 2 ^ 60
+
+-- What is true of each ingress: of all inputs that came, those that wait, how many came, whether they are all, its first stage, after how
+-- many inputs there is a mark, how many makes there were, and the producer of each source. A make gives at most two items to an edge, so
+-- no number of an item ever passes its limit. The time of each input is within its limits.
+pub record IsIngress (came waiting : List Input) (count : ℕ) (ended : Bool) (first : Stage) (every makes : ℕ) (producers : List ProducerView) : Type 0 where
   pub parts : 1 ≤ first.parts
   pub mark : 1 ≤ every
-  pub few_inputs : length rows ≤ max_inputs
-  pub made : makes ≤ length rows + 1
+  pub counted : count ≡ length came
+  pub few_inputs : count ≤ most_inputs
+  pub held : waiting ≡ drop makes came
+  pub made : makes ≤ count + 1
+  pub open_made : ended ≡ false → makes ≤ count
   pub few_sources : length producers < edge_limit
   pub wide : AreWide first.parts producers
   pub produced : HaveMadeAtMost (2 * makes) producers
-  pub times : All (λ (input : Input). IsTime input.row.time) (paired rows sources)
+  pub times : All (λ (input : Input). IsTime input.row.time) came
+
+-- ---- inputs
+
+-- one more input may come: no end was said, the input's time is within its limits, and a number is left for it
+pub record MayFeed (i : IngressView) (input : Input) : Type 0 where
+  pub open_yet : i.ended ≡ false
+  pub time : IsTime input.row.time
+  pub few : length i.inputs < most_inputs
+
+-- one more input came
+abbrev pub fed : IngressView → Input → IngressView
+fed i input = record i { inputs = i.inputs ++ input ∷ [] }
+
+-- no more come
+abbrev pub ended_at : IngressView → IngressView
+ended_at i = record i { ended = true }
 
 -- ---- packets
 
@@ -126,6 +147,7 @@ made_next i q t = edge_to (Some i.first) t (made_for q i.mark (i.makes + 1) (sli
 -- the next input, or the end, was made into items
 pub record HasMadeNext (old new : IngressView) : Type 0 where
   pub inputs : new.inputs ≡ old.inputs
+  pub ended : new.ended ≡ old.ended
   pub first : new.first ≡ old.first
   pub mark : new.mark ≡ old.mark
   pub makes : new.makes ≡ old.makes + 1

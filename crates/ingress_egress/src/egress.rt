@@ -10,13 +10,16 @@ ghost use Rattle.pair_machine.specs.Numbers.{EgressNode, Node, in_edge};
 ghost use Rattle.pair_machine.specs.Output.{output};
 ghost use Rattle.pair_machine.specs.Receivers.{GoOverLinks, appended};
 ghost use Rattle.plan_reader.specs.PlanView.{IsPlan, PlanView};
-ghost use Rattle.std.specs.Prelude.{◌≡◌, ◌<◌, ◌≤◌, ◌+◌, ◌↔◌, ◌++◌, ◌∷◌, [], List, None, Some, IfOk, OnErr, OnOk, IsTrue, length, vec_capacity, vec_len};
+ghost use Rattle.std.specs.Prelude.{◌≡◌, ◌<◌, ◌≤◌, ◌+◌, ◌↔◌, ◌++◌, ◌∷◌, [], List, None, Some, IfOk, OnErr, OnOk, IsTrue, MatchOption, drop, length, slice_get, vec_capacity, vec_len};
+ghost use mathlib.Core.List.{IsPrefix};
+ghost use Rattle.tuple_edge.specs.declared.row.Row.{Row};
 ghost use Rattle.stream_ops.specs.Answers.{rows_of};
 ghost use Rattle.tuple_edge.specs.Input.{Input};
 ghost use Rattle.tuple_edge.specs.declared.event.Worked.TheVariants.{Idle};
 ghost use Rattle.tuple_edge.specs.declared.node.NodeId.TheVariants as node;
 
 use flux_consumer::Consumer;
+use past::Past;
 use plan_reader::Plan;
 use std::alloc::Global;
 use std::marker::Model;
@@ -29,19 +32,29 @@ use tuple_edge::{
 pub struct Egress {
     stages: u32,
     consumer: Consumer,
-    emitted: Vec<Row>,
+    // The rows that were handed on. Proofs alone read them.
+    gone: Past<Row>,
+    // The rows that were merged behind them, and before these the last `skipped` ones of those that were handed on.
+    held: Vec<Row>,
+    skipped: usize,
     done: bool,
 }
 
 impl Model for Egress {
     ghost use Rattle.ingress_egress.specs.EgressView.{EgressView};
-    ghost use Rattle.std.specs.Prelude.{◌≤◌};
+    ghost use Rattle.std.specs.Prelude.{◌≤◌, ◌++◌, drop, length};
 
     ghost Value = { EgressView };
 
-    ghost view = { λ e. record { stages = e.stages; consumer = e.consumer; emitted = e.emitted.items; done = e.done } };
+    ghost view = { λ e. record {
+      stages = e.stages;
+      consumer = e.consumer;
+      emitted = e.gone.items ++ drop e.skipped e.held.items;
+      gone = e.gone.items;
+      done = e.done;
+    } };
 
-    ghost invariant = { λ e. 1 ≤ e.stages };
+    ghost invariant = { λ e. (1 ≤ e.stages) × (e.skipped ≤ length e.held.items) };
 }
 
 impl Egress {
@@ -49,13 +62,17 @@ impl Egress {
     pub fn new(alloc: Global, plan: &Plan) -> Result<Egress, OutOfMemory>
         ensures of_plan { IfOk result (IsOfPlan plan.now) }
         ensures stands { IfOk result (λ e. (rows : List Input) → StandsFor plan.now rows e (new_node node.Egress)) }
+        // No row was handed on.
+        ensures gone { IfOk result (λ e. e.gone ≡ []) }
     {
         let stages = plan.stages().len() as u32;
         let consumer = Consumer::new(alloc, plan.sources(stages + 1))?;
         Ok(Egress {
             stages,
             consumer,
-            emitted: Vec::new(alloc),
+            gone: Past::new(),
+            held: Vec::new(alloc),
+            skipped: 0,
             done: false,
         })
     }
@@ -73,6 +90,7 @@ impl Egress {
         ensures taken { OnOk result (self.new ≡ taking self.old body.now) }
         ensures unchanged { OnErr result (self.new ≡ self.old) }
         ensures emitted { self.new.emitted ≡ self.old.emitted }
+        ensures gone { self.new.gone ≡ self.old.gone }
         ensures of_plan { (plan : PlanView) → IsOfPlan plan self.old → IsOfPlan plan self.new }
         // For the machine's laws: in each plan, whatever message the body stands for.
         ensures course { OnOk result ((plan : PlanView) (rows : List Input) → IsPlan plan → IsTaken plan rows self.old self.new from body.now) }
@@ -93,6 +111,7 @@ impl Egress {
         ensures taken { OnOk result (self.new ≡ pulling self.old edge item) }
         ensures unchanged { OnErr result (self.new ≡ self.old) }
         ensures emitted { self.new.emitted ≡ self.old.emitted }
+        ensures gone { self.new.gone ≡ self.old.gone }
         ensures of_plan { (plan : PlanView) → IsOfPlan plan self.old → IsOfPlan plan self.new }
         // In each plan where that is the edge's next item, the machine's egress takes it.
         ensures stands { OnOk result ((plan : PlanView) (rows : List Input) (n : Node) → IsPlan plan → StandsFor plan rows self.old n
@@ -125,12 +144,13 @@ impl Egress {
         // Where nothing is due, or memory is wanting, nothing changes.
         ensures idle { IfOk result (λ w. w ≡ Idle → (self.new ≡ self.old) × (out.new ≡ out.old)) }
         ensures unchanged { OnErr result ((self.new ≡ self.old) × (out.new ≡ out.old)) }
-        // It sends over links of its plan alone, and the rows emitted stay.
+        // It sends over links of its plan alone, the rows emitted stay, and none is handed on.
         ensures few { length out.new.packets ≤ length out.old.packets + 2 }
         ensures linked { (plan : PlanView) → IsOfPlan plan self.old
             → GoOverLinks plan node.Egress (appended out.old.packets out.new.packets) }
         ensures of_plan { (plan : PlanView) → IsOfPlan plan self.old → IsOfPlan plan self.new }
         ensures emitted { IsFrontOf self.old.emitted self.new.emitted }
+        ensures gone { self.new.gone ≡ self.old.gone }
         // For the machine's laws, in each plan.
         ensures course { IfOk result (λ w. (plan : PlanView) (rows : List Input) → IsPlan plan
             → IsWorked plan rows self.old self.new (working self.old).sent w) }
@@ -139,6 +159,7 @@ impl Egress {
     }
 
     // Does the first piece of work that is due.
+    #[tactic(auto, using(crate::proofs::Handing::append_held))]
     fn do_first(&mut self, out: &mut Outbox) -> Result<Worked, OutOfMemory>
         requires fits { MayWork self.old }
         ensures worked { IfOk result (λ w. w ≡ (working self.old).worked) }
@@ -149,9 +170,9 @@ impl Egress {
         ensures some { 1 ≤ self.old.stages }
     {
         if let Some(head) = self.consumer.least() {
-            self.emitted.reserve(1)?;
+            self.held.reserve(1)?;
             self.consumer.pass(&head);
-            let ended = emit(&mut self.emitted, head.item);
+            let ended = emit(&mut self.held, head.item);
             self.done = self.done || ended;
             return Ok(Worked::Did);
         }
@@ -189,11 +210,48 @@ impl Egress {
         self.stages
     }
 
-    /// The rows that were merged, in order.
+    /// The rows that were merged, in order, where none of them was handed on.
     pub fn emitted(&self) -> &[Row]
+        requires { self.now.gone ≡ [] }
         ensures { result.now ≡ self.now.emitted }
     {
-        &self.emitted
+        self.held()
+    }
+
+    /// The rows that were merged and not handed on, in order.
+    pub fn held(&self) -> &[Row]
+        ensures { self.now.gone ++ result.now ≡ self.now.emitted }
+    {
+        &self.held[self.skipped..]
+    }
+
+    /// The first row that was merged and not handed on. None where all were handed on.
+    pub fn first(&self) -> Option<Row>
+        ensures { MatchOption result (self.now.gone ≡ self.now.emitted) (λ row. IsPrefix (self.now.gone ++ row ∷ []) self.now.emitted) }
+    {
+        row_at(&self.held, self.skipped)
+    }
+
+    /// The first row that was merged and not handed on is handed on: it is held no longer. None where all were. It is no event
+    /// of the machine, and takes no memory. Each call does a few steps, but for one after many calls.
+    pub fn let_go(&mut self) -> Option<Row>
+        ensures gone { MatchOption result ((self.new ≡ self.old) × (self.old.gone ≡ self.old.emitted))
+            (λ row. self.new ≡ record self.old { gone = self.old.gone ++ row ∷ [] }) }
+        // So the row is the first that was not handed on.
+        ensures first { IsPrefix self.new.gone self.new.emitted }
+        ensures emitted { self.new.emitted ≡ self.old.emitted }
+        ensures stands { (plan : PlanView) (rows : List Input) (n : Node) → StandsFor plan rows self.old n → StandsFor plan rows self.new n }
+        ensures of_plan { (plan : PlanView) → IsOfPlan plan self.old → IsOfPlan plan self.new }
+    {
+        let row = row_at(&self.held, self.skipped)?;
+        self.gone = self.gone.and(&row);
+        self.skipped += 1;
+        // Half of them at least are gone, so that each row that is moved pays for one that went.
+        if self.held.len() - self.skipped <= self.skipped {
+            drop_front(&mut self.held, self.skipped);
+            self.skipped = 0;
+        }
+        Some(row)
     }
 
     /// Whether the end was merged.
@@ -214,6 +272,24 @@ impl Egress {
     {
         &self.consumer
     }
+}
+
+// The row at a place, from 0, if there is one.
+fn row_at(rows: &[Row], nth: usize) -> Option<Row>
+    ensures { result ≡ slice_get rows.now nth }
+{
+    match rows.get(nth) {
+        None => None,
+        Some(row) => Some(*row),
+    }
+}
+
+// Drops the first rows. The others take their place.
+fn drop_front(rows: &mut Vec<Row>, count: usize)
+    requires { count ≤ vec_len rows.old }
+    ensures { rows.new.items ≡ drop count rows.old.items }
+{
+    let _dropped = rows.drain(..count);
 }
 
 // Acknowledges what was taken of an edge to both replicas that send it.

@@ -1,32 +1,44 @@
 // Ingress as a node: what it is, and what can be read of it.
 ghost use Rattle.flux_producer.specs.Due.{due_of};
-ghost use Rattle.ingress_egress.specs.IngressStands.{IsAdmitted, IsMade, IsMadeIn, IsOfPlan, IsTaken, IsWorked, StandsFor};
-ghost use Rattle.ingress_egress.specs.IngressView.{AreWide, contents_in, new_producers, producer_at, source_due, taking, tuple_of, working};
-ghost use Rattle.trade_text.specs.TradesView.{inputs_in};
+ghost use Rattle.ingress_egress.specs.IngressStands.{AreCome, IsAdmitted, IsAtHand, IsMade, IsMadeIn, IsOfPlan, IsTaken, IsWorked, StandsFor};
+ghost use Rattle.ingress_egress.specs.IngressView.{AreWide, MayFeed, contents_in, ended_at, fed, new_producers, producer_at, source_due, taking, tuple_of, working};
 ghost use Rattle.pair_machine.specs.Machine.{new_node};
+ghost use Rattle.pair_machine.specs.Numbers.{Node};
 ghost use Rattle.pair_machine.specs.Receivers.{GoOverLinks, appended};
 ghost use Rattle.plan_reader.specs.PlanView.{IsPlan, PlanView};
 ghost use Rattle.stream_ops.specs.Times.{IsTime};
-ghost use Rattle.std.specs.Prelude.{◌≡◌, ◌<◌, ◌≤◌, ◌+◌, ◌++◌, ◌∷◌, [], All, List, None, Some, IfNone, IfOk, IfSome, OnErr, OnOk, length, slice_get};
+ghost use Rattle.trade_text.specs.TradesView.{inputs_in};
+ghost use Rattle.std.specs.Prelude.{◌≡◌, ◌<◌, ◌≤◌, ◌+◌, ◌-◌, ◌++◌, ◌∷◌, [], All, List, None, Some, IfNone, IfOk, IfSome, IsTrue, ◌↔◌, OnErr, OnOk, true, false, length, slice_get};
 ghost use Rattle.tuple_edge.specs.Input.{Input};
 ghost use Rattle.tuple_edge.specs.declared.event.Worked.TheVariants.{Did, Idle};
 ghost use Rattle.tuple_edge.specs.declared.node.NodeId.TheVariants as node;
 
-use crate::making::{input_at, make_with_room};
+use crate::making::make_with_room;
 use flux_producer::{Due, Producer};
 use node_edges::{copy_of, which_at};
+use past::Past;
 use plan_reader::{Plan, Stage};
 use std::alloc::Global;
+use std::collections::VecDeque;
 use std::marker::Model;
+use stream_ops::is_timely;
 use trade_text::Trades;
-use tuple_edge::{Body, EdgeId, Item, NodeId, OutOfMemory, Outbox, Row, Worked};
+use tuple_edge::{Body, EdgeId, Input, Item, NodeId, OutOfMemory, Outbox, Worked};
+
+// No more inputs come to one ingress, so that the numbers of its items stay small.
+const MOST_INPUTS: u64 = 1 << 60;
 
 /// Ingress: it makes the inputs into items, one after another, and each of its sources sends its own
 /// rows, with the marks and the end, to the first stage.
 #[derive(Drop)]
 pub struct Ingress {
-    rows: Vec<Row>,
-    sources: Vec<u32>,
+    // The inputs that came and weren't made yet, in order.
+    waiting: VecDeque<Input>,
+    // All that came. Proofs alone read them.
+    came: Past<Input>,
+    count: u64,
+    // Whether no more come.
+    ended: bool,
     first: Stage,
     mark: u64,
     makes: u64,
@@ -35,13 +47,12 @@ pub struct Ingress {
 
 impl Model for Ingress {
     ghost use Rattle.ingress_egress.specs.IngressView.{IngressView, IsIngress};
-    ghost use Rattle.trade_text.specs.TradesView.{paired};
 
     ghost Value = { IngressView };
 
-    ghost view = { λ i. record { inputs = paired i.rows.items i.sources.items; first = i.first; mark = i.mark; makes = i.makes; producers = i.producers.items } };
+    ghost view = { λ i. record { inputs = i.came.items; ended = i.ended; first = i.first; mark = i.mark; makes = i.makes; producers = i.producers.items } };
 
-    ghost invariant = { λ i. IsIngress i.rows.items i.sources.items i.first i.mark i.makes i.producers.items };
+    ghost invariant = { λ i. IsIngress i.came.items i.waiting.items i.count i.ended i.first i.mark i.makes i.producers.items };
 }
 
 // The first stage of a plan.
@@ -64,25 +75,117 @@ fn new_producers(alloc: Global, sources: u32, parts: u32) -> Result<Vec<Producer
     Ok(producers)
 }
 
+// The input at a place, from 0.
+fn input_at(trades: &Trades, nth: usize) -> Input
+    requires { nth < length trades.now.rows }
+    ensures { slice_get (inputs_in trades.now) nth ≡ Some result }
+{
+    let row = trades.rows()[nth];
+    let source = trades.source(nth);
+    Input { source, row }
+}
+
 impl Ingress {
-    /// Ingress of a plan and its trades, as it opens: nothing was made.
+    /// Ingress of a plan and its trades, as it opens: all of them came, no more come, and nothing was made.
     pub fn new(alloc: Global, plan: &Plan, trades: &Trades) -> Result<Ingress, OutOfMemory>
         ensures of_plan { IfOk result (IsOfPlan plan.now) }
         ensures stands { IfOk result (λ i. StandsFor plan.now (inputs_in trades.now) i (new_node node.Ingress)) }
+        ensures inputs { IfOk result (λ i. i.inputs ≡ inputs_in trades.now) }
+        ensures ended { IfOk result (λ i. i.ended ≡ true) }
+    {
+        let mut ingress = Ingress::streamed(alloc, plan)?;
+        ingress.feed_all(trades)?;
+        ingress.end();
+        Ok(ingress)
+    }
+
+    /// Ingress of a plan, as it opens, to which inputs come one by one by [`Ingress::feed`] until [`Ingress::end`]: nothing came
+    /// yet. So it stands for the opening of every list of inputs.
+    pub fn streamed(alloc: Global, plan: &Plan) -> Result<Ingress, OutOfMemory>
+        ensures of_plan { IfOk result (IsOfPlan plan.now) }
+        ensures stands { IfOk result (λ i. (rows : List Input) → StandsFor plan.now rows i (new_node node.Ingress)) }
+        ensures inputs { IfOk result (λ i. i.inputs ≡ []) }
+        ensures ended { IfOk result (λ i. i.ended ≡ false) }
     {
         let first = first_stage(plan);
         let mark = plan.mark();
-        let rows = Vec::from_slice(alloc, trades.rows())?;
-        let sources = Vec::from_slice(alloc, trades.sources())?;
         let producers = new_producers(alloc, plan.version(), first.parts)?;
         Ok(Ingress {
-            rows,
-            sources,
+            waiting: VecDeque::new(alloc),
+            came: Past::new(),
+            count: 0,
+            ended: false,
             first,
             mark,
             makes: 0,
             producers,
         })
+    }
+
+    // Takes all inputs of trades, where nothing came yet.
+    fn feed_all(&mut self, trades: &Trades) -> Result<(), OutOfMemory>
+        requires none { self.old.inputs ≡ [] }
+        requires open { self.old.ended ≡ false }
+        ensures { OnOk result (self.new ≡ record self.old { inputs = inputs_in trades.now }) }
+    {
+        let count = trades.rows().len();
+        self.waiting.reserve_exact(count)?;
+        for nth in 0..count {
+            self.feed(input_at(trades, nth))?;
+        }
+        Ok(())
+    }
+
+    // Whether one more input may come.
+    fn may_feed(&self, input: &Input) -> bool
+        ensures { IsTrue result ↔ MayFeed self.now input.now }
+    {
+        let item = Item::Row {
+            stamp: 0,
+            row: input.row,
+        };
+        !self.ended && self.count < MOST_INPUTS && is_timely(&item)
+    }
+
+    /// Takes the next input that comes, which waits until it is made, and says whether it did: not after the end, nor where the
+    /// input's time is past its limits or no number is left for it. It is no event of the machine: ingress stands for the same
+    /// numbers, of each list of inputs with which those that came begin.
+    pub fn feed(&mut self, input: Input) -> Result<bool, OutOfMemory>
+        ensures takes { IfOk result (λ taken. IsTrue taken ↔ MayFeed self.old input) }
+        ensures fed { IfOk result (λ taken. IsTrue taken → self.new ≡ fed self.old input) }
+        ensures left { IfOk result (λ taken. taken ≡ false → self.new ≡ self.old) }
+        ensures unchanged { OnErr result (self.new ≡ self.old) }
+        // What may be the inputs now might have been before.
+        ensures admits { (rows : List Input) → AreCome self.new.ended self.new.inputs rows → AreCome self.old.ended self.old.inputs rows }
+        ensures stands { (plan : PlanView) (rows : List Input) (n : Node) → AreCome self.new.ended self.new.inputs rows
+            → StandsFor plan rows self.old n → StandsFor plan rows self.new n }
+        ensures of_plan { (plan : PlanView) → IsOfPlan plan self.old → IsOfPlan plan self.new }
+    {
+        if !self.may_feed(&input) {
+            return Ok(false);
+        }
+        self.waiting.push_back(input)?;
+        self.came = self.came.and(&input);
+        self.count += 1;
+        Ok(true)
+    }
+
+    /// No more inputs come: those that came are all. It is no event of the machine.
+    pub fn end(&mut self)
+        ensures ended { self.new ≡ ended_at self.old }
+        ensures admits { (rows : List Input) → AreCome self.new.ended self.new.inputs rows → AreCome self.old.ended self.old.inputs rows }
+        ensures stands { (plan : PlanView) (rows : List Input) (n : Node) → AreCome self.new.ended self.new.inputs rows
+            → StandsFor plan rows self.old n → StandsFor plan rows self.new n }
+        ensures of_plan { (plan : PlanView) → IsOfPlan plan self.old → IsOfPlan plan self.new }
+    {
+        self.ended = true;
+    }
+
+    /// How many inputs came and were not made yet.
+    pub fn waiting(&self) -> usize
+        ensures { result ≡ length self.now.inputs - self.now.makes }
+    {
+        self.waiting.len()
     }
 
     /// Its name in every plan.
@@ -118,10 +221,10 @@ impl Ingress {
         }
     }
 
-    /// Makes the next input into an item on the edge of its source that routing names, and where a mark
-    /// is due into one on every edge of every source; after the inputs it makes the end on every edge. Idle exactly
-    /// where the end was made before. It sends nothing, and may always be called. After want of memory only the room of the buffers may
-    /// have changed. A row that no mark follows costs the same however many edges there are.
+    /// Makes the next input that came into an item on the edge of its source that routing names, and where a mark
+    /// is due into one on every edge of every source; after all inputs it makes the end on every edge. Idle exactly
+    /// where the next one hasn't come, or the end was made before. It sends nothing, and may always be called. After want of
+    /// memory only the room of the buffers may have changed. A row that no mark follows costs the same however many edges there are.
     pub fn make(&mut self) -> Result<Worked, OutOfMemory>
         ensures made { IfOk result (IsMade self.old self.new) }
         ensures unchanged { OnErr result (contents_in self.new ≡ contents_in self.old) }
@@ -132,17 +235,36 @@ impl Ingress {
         self.make_next()
     }
 
+    // Whether the next input has come, or the end is to be made.
+    fn is_at_hand(&self) -> bool
+        ensures { IsTrue result ↔ IsAtHand self.now }
+    {
+        if self.ended {
+            self.makes <= self.count
+        } else {
+            self.makes < self.count
+        }
+    }
+
+    // The next input; none where all were made.
+    fn next(&self) -> Option<Input>
+        ensures { result ≡ slice_get self.now.inputs self.now.makes }
+    {
+        self.waiting.front().copied()
+    }
+
     // Makes the next input, or the end, into items.
     fn make_next(&mut self) -> Result<Worked, OutOfMemory>
         ensures made { IfOk result (IsMade self.old self.new) }
         ensures unchanged { OnErr result (contents_in self.new ≡ contents_in self.old) }
     {
-        if self.makes > self.rows.len() as u64 {
+        if !self.is_at_hand() {
             return Ok(Worked::Idle);
         }
-        let input = input_at(&self.rows, &self.sources, self.makes as usize);
+        let input = self.next();
         let stamp = self.makes + 1;
         make_with_room(&mut self.producers, &self.first, self.mark, stamp, input)?;
+        self.waiting.pop_front();
         self.makes = stamp;
         Ok(Worked::Did)
     }

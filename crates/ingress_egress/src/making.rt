@@ -1,12 +1,11 @@
 // One make at ingress: what is produced on the edges of each source.
 ghost use Rattle.flux_producer.specs.ProducerView.{HasRoom, MayGrow, contents_of};
 ghost use Rattle.ingress_egress.specs.IngressView.{AreWide, EachHasRoom, MayMake, MayMakeMore, producer_in};
-ghost use Rattle.trade_text.specs.TradesView.{paired};
 ghost use Rattle.node_edges.specs.OutEdges.{HasMade};
 ghost use Rattle.pair_machine.specs.CountLaws.{made_for};
 ghost use Rattle.pair_machine.specs.Edges.{edge_to};
 ghost use Rattle.pair_machine.specs.Ingress.{mark_after, row_of_source};
-ghost use Rattle.std.specs.Prelude.{◌≡◌, ◌<◌, ◌≤◌, ◌∷◌, [], ℕ, OnErr, OnOk, Some, length, map, slice_get, slice_index_or};
+ghost use Rattle.std.specs.Prelude.{◌≡◌, ◌<◌, ◌≤◌, ◌∷◌, [], ℕ, OnErr, OnOk, Some, length, map};
 ghost use Rattle.tuple_edge.specs.Limits.{edge_limit};
 ghost use Rattle.tuple_edge.specs.declared.item.Item.TheVariants as item;
 
@@ -200,27 +199,4 @@ pub(crate) fn make_with_room(
         return make_on_all(producers, first, mark, stamp, input);
     }
     make_row_alone(producers, first, stamp, given)
-}
-
-// The input at a place, from 0, if there is one.
-pub(crate) fn input_at(rows: &[Row], sources: &[u32], nth: usize) -> Option<Input>
-    ensures { result ≡ slice_get (paired rows.now sources.now) nth }
-{
-    match rows.get(nth) {
-        None => None,
-        Some(row) => Some(Input {
-            source: source_at(sources, nth),
-            row: *row,
-        }),
-    }
-}
-
-// The source that is listed at a place, or the first one.
-fn source_at(sources: &[u32], nth: usize) -> u32
-    ensures { result ≡ slice_index_or sources.now nth 0 }
-{
-    match sources.get(nth) {
-        None => 0,
-        Some(source) => *source,
-    }
 }

@@ -3,6 +3,7 @@ pub mod HeaderFacts
 pub mod LeadsOn
 pub mod Orders
 pub mod Places
+pub mod Ranges
 pub mod ScanFacts
 pub mod ShownFacts
 pub mod SpotFacts

@@ -1,6 +1,7 @@
 pub mod Laws
 pub mod Numbers
 pub mod Places
+pub mod Ranges
 pub mod RecordFaults
 pub mod Records
 pub mod Scans

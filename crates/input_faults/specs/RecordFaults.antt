@@ -1,11 +1,11 @@
 -- What is said of trades and of cash movements that are refused.
-use Rattle.std.specs.Prelude.{ℕ, Bool, ◌+◌, ◌||◌, ◌==◌, List, ◌++◌, length, Option, position, unwrap_or, codes, if◌then◌else◌}
+use Rattle.std.specs.Prelude.{ℕ, Bool, ◌+◌, ◌/◌, ◌||◌, ◌==◌, List, ◌++◌, length, Option, position, unwrap_or, codes, if◌then◌else◌}
 use Rattle.std.specs.Fmt.{decimal}
 use Rattle.csv.specs.Reading.{strip_bom}
 use Rattle.trade_text.specs.Cash.{cash_of}
 use Rattle.trade_text.specs.Columns.{is_column_of}
 use Rattle.trade_text.specs.Kinds.{Kind, cash_kind, trades_kind}
-use Rattle.trade_text.specs.Limits.{max_input_bytes, max_inputs}
+use Rattle.trade_text.specs.Limits.{max_account, max_amount, max_cents, max_input_bytes, max_inputs, max_qty, max_seconds, max_symbol_bytes, max_symbols}
 use Rattle.trade_text.specs.Records.{starts_with_mark}
 use Rattle.trade_text.specs.Trades.{trades_of}
 use Rattle.trade_text.specs.declared.error.CashField.{CashField}
@@ -68,20 +68,38 @@ header_line name text columns =
 abbrev pub room_line : List ℕ → List ℕ → ℕ → List ℕ → List ℕ
 room_line name text room rows = record_front name text (room + 2) ++ (codes ": at most " ++ (decimal room ++ (codes " " ++ (rows ++ codes " may be"))))
 
+-- ---- ranges, in words
+
+-- a number between two limits
+abbrev pub range_text : ℕ → ℕ → List ℕ
+range_text low high = codes "a number from " ++ (decimal low ++ (codes " to " ++ decimal high))
+
+-- an amount of whole units, of a hundred cents each
+abbrev pub units_text : ℕ → List ℕ
+units_text cents = decimal (cents / 100) ++ codes ".00"
+
+-- a time up to a limit of seconds
+abbrev pub time_text : ℕ → List ℕ
+time_text seconds = codes "seconds from 0 to " ++ (decimal seconds ++ codes ", or a time of day as 9:30:00")
+
+-- money between two amounts
+abbrev pub money_text : List ℕ → List ℕ → List ℕ
+money_text low high = low ++ (codes " to " ++ (high ++ codes ", with at most two digits behind the point"))
+
 -- ---- trades
 
 -- what may stand in a field of a trade
 abbrev pub trade_form : Field → List ℕ
-trade_form field.Time = codes "seconds from 0 to 9999999999, or a time of day as 9:30:00"
-trade_form field.Account = codes "a number from 1 to 1000000"
-trade_form field.Symbol = codes "1 to 32 printed characters, none of them a comma or a double quote"
+trade_form field.Time = time_text max_seconds
+trade_form field.Account = range_text 1 max_account
+trade_form field.Symbol = codes "1 to " ++ (decimal max_symbol_bytes ++ codes " printed characters, none of them a comma or a double quote")
 trade_form field.Side = codes "B, BUY, S, SELL"
-trade_form field.Qty = codes "a number from 1 to 100000"
-trade_form field.Price = codes "0 to 1000000.00, with at most two digits behind the point"
+trade_form field.Qty = range_text 1 max_qty
+trade_form field.Price = money_text (codes "0") (units_text max_cents)
 
 -- what may stand in a field of a trade that is of its form and out of range: no new symbol where there is no room for it
 abbrev pub trade_range : Field → List ℕ
-trade_range field.Symbol = codes "one of the 4096 symbols that stand before"
+trade_range field.Symbol = codes "one of the " ++ (decimal max_symbols ++ codes " symbols that stand before")
 trade_range what = trade_form what
 
 -- the line that is said of refused trades
@@ -102,9 +120,9 @@ trades_fault name bytes = told (trades_line_in name (strip_bom bytes)) (trades_o
 
 -- what may stand in a field of a movement
 abbrev pub cash_form : CashField → List ℕ
-cash_form cash_field.Time = codes "seconds from 0 to 9999999999, or a time of day as 9:30:00"
-cash_form cash_field.Account = codes "a number from 1 to 1000000"
-cash_form cash_field.Amount = codes "-100000000.00 to 100000000.00, with at most two digits behind the point"
+cash_form cash_field.Time = time_text max_seconds
+cash_form cash_field.Account = range_text 1 max_account
+cash_form cash_field.Amount = money_text (codes "-" ++ units_text max_amount) (units_text max_amount)
 
 -- the line that is said of refused movements, of which so many have room
 abbrev pub cash_line_in : List ℕ → List ℕ → ℕ → ReadError CashField → List ℕ

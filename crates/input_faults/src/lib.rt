@@ -22,6 +22,6 @@ mod spot;
 mod told;
 
 pub use files::{cash_fault, trades_fault};
-pub use law::{columns_are_of_words, each_word_leads_on, places_are_the_grammar};
+pub use law::{columns_are_of_words, each_word_leads_on, places_are_the_grammar, ranges_are_read};
 pub use plans::plan_fault;
 pub use scripts::script_fault;

@@ -17,6 +17,7 @@ Word = List ℕ
 pub record MarkView : Type 0 where
   pub column : ℕ
   pub weight : Weight
+  pub rank : ℕ
   pub letter : Word
   pub title : Word
 
@@ -49,7 +50,7 @@ pub record ChartView : Type 0 where
 
 -- what a mark shows
 abbrev pub mark_shown : Mark → MarkView
-mark_shown m = record { column = m.column; weight = m.weight; letter = m.letter.now; title = string_bytes m.title }
+mark_shown m = record { column = m.column; weight = m.weight; rank = m.rank; letter = m.letter.now; title = string_bytes m.title }
 
 -- what a lane shows
 abbrev pub lane_shown : Lane → LaneView

@@ -1,5 +1,5 @@
 -- A chart as SVG. Lengths are in pixels, and the columns fill 960 of them.
-use Rattle.std.specs.Prelude.{ℕ, ◌+◌, ◌-◌, ◌*◌, ◌/◌, ◌%◌, List, [], ◌∷◌, ◌++◌, codes, length, max, min}
+use Rattle.std.specs.Prelude.{ℕ, ◌+◌, ◌-◌, ◌*◌, ◌/◌, ◌%◌, List, [], ◌∷◌, ◌++◌, codes, if◌then◌else◌, length, max, nat_lt}
 use Rattle.std.specs.Fmt.{decimal}
 use Rattle.std.specs.List.{flat_map}
 use Rattle.lane_chart.specs.declared.chart.Cell.{Cell}
@@ -10,6 +10,7 @@ use Rattle.lane_chart.specs.declared.chart.Weight.TheVariants as weight
 use Rattle.lane_chart.specs.declared.runs.Run.{Run}
 use Rattle.lane_chart.specs.ChartView.{CellKeyView, ChartView, LaneView, LetterKeyView, MarkView, Word}
 use Rattle.lane_chart.specs.Escape.{escaped}
+use Rattle.lane_chart.specs.Heaviest.{heavier, lighter}
 use Rattle.lane_chart.specs.Places.{placed, scaled}
 use Rattle.lane_chart.specs.Runs.{runs}
 use Rattle.lane_chart.specs.Text.{last_of}
@@ -53,21 +54,38 @@ stroke at room =
     codes "<path d='M" ++ decimal at ++ codes " 31V17L" ++ decimal room ++ codes " 14'/><circle cx='" ++ decimal room ++ codes "' cy='7' r='7'/><text x='"
     ++ decimal room ++ codes "' y='11'>"
 
+-- the beginning of a mark: its colour and its title
+unfoldable pub badge_head : Weight → (title : Word) → List ℕ
+badge_head weight title = codes "<g class='" ++ colour weight ++ codes "'><title>" ++ escaped title ++ codes "</title>"
+
 -- a mark: its colour, its title, and its letter where there is room for it
 unfoldable pub badge : (at room : ℕ) → MarkView → List ℕ
-badge at room mark =
-    codes "<g class='" ++ colour mark.weight ++ codes "'><title>" ++ escaped mark.title ++ codes "</title>" ++ stroke at room ++ escaped mark.letter ++ codes "</text></g>\n"
+badge at room mark = badge_head mark.weight mark.title ++ stroke at room ++ escaped mark.letter ++ codes "</text></g>\n"
 
--- where there is room for a mark: at its own place, or right of the mark before it, as far as the page goes
+-- the last place of the page where a mark has room
+abbrev pub last_room : ℕ
+last_room = 1070
+
+-- a mark at the last place
+abbrev pub last_badge : (columns : ℕ) → MarkView → List ℕ
+last_badge columns mark = badge (across columns mark.column) last_room mark
+
+-- the marks that share the last place, of which one is held and the others come: the heaviest of them is drawn last, so that it lies on top
+abbrev pub last_badges : (columns : ℕ) → (held : MarkView) → List MarkView → List ℕ
+last_badges columns held [] = last_badge columns held
+last_badges columns held (mark ∷ marks) = last_badge columns (lighter held mark) ++ last_badges columns (heavier held mark) marks
+
+-- where there is room for a mark: at its own place, or right of the mark before it
 abbrev pub room_at : (free at : ℕ) → ℕ
-room_at free at = min 1070 (max free at)
+room_at free at = max free at
 
--- the marks of a lane, where there is room from this place on
+-- the marks of a lane, where there is room from this place on; those that would leave the page share its last place
 abbrev pub badges : (columns free : ℕ) → List MarkView → List ℕ
 badges columns free [] = []
 badges columns free (mark ∷ marks) =
-    badge (across columns mark.column) (room_at free (across columns mark.column)) mark
-    ++ badges columns (room_at free (across columns mark.column) + 15) marks
+    let at = across columns mark.column in
+    let room = room_at free at in
+    if nat_lt room last_room then badge at room mark ++ badges columns (room + 15) marks else last_badges columns mark marks
 
 -- ---- lanes
 
@@ -120,16 +138,27 @@ steps_drawn counted steps = steps_name counted ++ placed (step_drawn (length ste
 unfoldable pub key_place : ℕ → List ℕ
 key_place place = group_at ((place % 8) * 124) ((place / 8) * 23)
 
+-- the words of an entry of the key, and its end
+unfoldable pub key_words : Word → List ℕ
+key_words name = escaped name ++ codes "</text></g>\n"
+
+-- the sample of a kind of cell
+unfoldable pub cell_sample : Cell → List ℕ
+cell_sample kind = codes "<rect " ++ shape kind ++ codes " x='0' width='24'/><text class='word' x='30' y='27'>"
+
 -- what a kind of cell means, by its place in the key
 unfoldable pub cell_drawn : ℕ → CellKeyView → List ℕ
-cell_drawn place key =
-    key_place place ++ codes "<rect " ++ shape key.cell ++ codes " x='0' width='24'/><text class='word' x='30' y='27'>" ++ escaped key.name ++ codes "</text></g>\n"
+cell_drawn place key = key_place place ++ cell_sample key.cell ++ key_words key.name
+
+-- the sample of a letter
+unfoldable pub letter_sample : Weight → Word → List ℕ
+letter_sample weight letter =
+    codes "<g class='" ++ colour weight ++ codes "'><circle cx='12' cy='46' r='7'/><text x='12' y='50'>" ++ escaped letter
+    ++ codes "</text></g><text class='word' x='30' y='50'>"
 
 -- what a letter means, by its place in the key
 unfoldable pub letter_drawn : ℕ → LetterKeyView → List ℕ
-letter_drawn place key =
-    key_place place ++ codes "<g class='" ++ colour key.weight ++ codes "'><circle cx='12' cy='46' r='7'/><text x='12' y='50'>" ++ escaped key.letter
-    ++ codes "</text></g><text class='word' x='30' y='50'>" ++ escaped key.name ++ codes "</text></g>\n"
+letter_drawn place key = key_place place ++ letter_sample key.weight key.letter ++ key_words key.name
 
 -- ---- the page
 

@@ -6,6 +6,7 @@ use Rattle.lane_chart.specs.declared.chart.Cell.{Cell}
 use Rattle.lane_chart.specs.declared.chart.Cell.TheVariants as cell
 use Rattle.lane_chart.specs.declared.chart.Tick.{Tick}
 use Rattle.lane_chart.specs.ChartView.{CellKeyView, ChartView, LaneView, LetterKeyView, MarkView, Word}
+use Rattle.lane_chart.specs.Heaviest.{heaviest, in_column}
 use Rattle.lane_chart.specs.Places.{placed, scaled}
 
 -- so many blanks
@@ -29,10 +30,14 @@ glyph cell.Absent = codes "."
 glyph cell.Active = codes "+"
 glyph cell.Idle = codes "-"
 
--- the letter of the first mark of a column, and where there is none that of its cell
+-- the letter of the heaviest of some marks, and where there are none that of a cell
+abbrev pub letter_among : List MarkView → Cell → Word
+letter_among [] cell = glyph cell
+letter_among (mark ∷ marks) cell = (heaviest mark marks).letter
+
+-- the letter of a column: that of its heaviest mark, and where it has none that of its cell
 abbrev pub letter_at : List MarkView → ℕ → Cell → Word
-letter_at [] column cell = glyph cell
-letter_at (mark ∷ marks) column cell = if mark.column == column then mark.letter else letter_at marks column cell
+letter_at marks column cell = letter_among (in_column column marks) cell
 
 -- the line of a lane
 abbrev pub lane_line : LaneView → List ℕ
@@ -82,8 +87,18 @@ cell_meaning place key = meaning place (glyph key.cell) key.name
 abbrev pub letter_meaning : ℕ → LetterKeyView → List ℕ
 letter_meaning place key = meaning place key.letter key.name
 
--- The text of a chart: its title, its scale, a line for each lane and one for the number that rises, and the key.
+-- which of several marks of a column is shown: the key has the heaviest kind first
+abbrev pub key_rule : Word
+key_rule = codes "\n        of several in a column the first of these is shown\n"
+
+-- what stands above the key: a chart's title, its scale, a line for each lane and one for the number that rises
+abbrev pub drawing : ChartView → List ℕ
+drawing c = c.title ++ codes "\n\n" ++ scale_lines c.ticks ++ flat_map lane_line c.lanes ++ steps_line c.counted c.steps
+
+-- the key of a chart
+abbrev pub key : ChartView → List ℕ
+key c = placed cell_meaning 0 c.cells ++ placed letter_meaning 0 c.letters ++ key_rule
+
+-- The text of a chart, and under it the key.
 unfoldable pub chart_text : ChartView → List ℕ
-chart_text c =
-    c.title ++ codes "\n\n" ++ scale_lines c.ticks ++ flat_map lane_line c.lanes ++ steps_line c.counted c.steps ++ placed cell_meaning 0 c.cells
-    ++ placed letter_meaning 0 c.letters ++ codes "\n"
+chart_text c = drawing c ++ key c

@@ -19,11 +19,18 @@ lines texts = flat_map (λ line. line ++ codes "\n") texts
 abbrev pub six_cells : List Cell
 six_cells = cell.Strong ∷ cell.Strong ∷ cell.Absent ∷ cell.Weak ∷ cell.Plain ∷ cell.Plain ∷ []
 
--- what happens in its third column, twice
+-- what happens in its third column: the heavier comes behind the other
 abbrev pub two_marks : List MarkView
 two_marks =
-    record { column = 2; weight = weight.Alarm; letter = codes "X"; title = codes "a < b" }
-    ∷ record { column = 2; weight = weight.Note; letter = codes "B"; title = codes "back" } ∷ []
+    record { column = 2; weight = weight.Note; rank = 7; letter = codes "B"; title = codes "back" }
+    ∷ record { column = 2; weight = weight.Alarm; rank = 1; letter = codes "X"; title = codes "a < b" } ∷ []
+
+-- three marks of the last of 96 columns, behind seven of it
+abbrev pub three_marks : List MarkView
+three_marks =
+    record { column = 95; weight = weight.Note; rank = 7; letter = codes "B"; title = codes "back" }
+    ∷ record { column = 95; weight = weight.Alarm; rank = 1; letter = codes "X"; title = codes "failed" }
+    ∷ record { column = 95; weight = weight.Turn; rank = 3; letter = codes "L"; title = codes "leads" } ∷ []
 
 -- a chart of six columns and twelve events
 abbrev pub six_columns : ChartView
@@ -42,7 +49,7 @@ abbrev pub run : Cell → (start end : ℕ) → Run
 run kind start end = record { cell = kind; start = start; end = end }
 
 pub record WorkedCharts : Type 0 where
-  -- the letter of a column is that of its first mark
+  -- the letter of a column is that of its heaviest mark
   pub as_text : chart_text six_columns ≡ lines (
       codes "twelve events"
       ∷ codes ""
@@ -54,6 +61,7 @@ pub record WorkedCharts : Type 0 where
       ∷ codes ""
       ∷ codes "        # leads   . gone"
       ∷ codes "        X failed"
+      ∷ codes "        of several in a column the first of these is shown"
       ∷ [])
   -- cells that are alike are one run
   pub in_runs : runs six_cells ≡ run cell.Strong 0 2 ∷ run cell.Absent 2 3 ∷ run cell.Weak 3 4 ∷ run cell.Plain 4 6 ∷ []
@@ -61,8 +69,14 @@ pub record WorkedCharts : Type 0 where
   pub as_bar : bar 6 (run cell.Absent 2 3) ≡ codes "<rect class='absent' y='22' height='2' x='320' width='160'/>\n"
   -- the second mark of a column stands right of the first one, and a stroke leads from each to the column
   pub as_marks : badges 6 0 two_marks ≡ lines (
-      codes "<g class='alarm'><title>a &lt; b</title><path d='M320 31V17L320 14'/><circle cx='320' cy='7' r='7'/><text x='320' y='11'>X</text></g>"
-      ∷ codes "<g class='note'><title>back</title><path d='M320 31V17L335 14'/><circle cx='335' cy='7' r='7'/><text x='335' y='11'>B</text></g>"
+      codes "<g class='note'><title>back</title><path d='M320 31V17L320 14'/><circle cx='320' cy='7' r='7'/><text x='320' y='11'>B</text></g>"
+      ∷ codes "<g class='alarm'><title>a &lt; b</title><path d='M320 31V17L335 14'/><circle cx='335' cy='7' r='7'/><text x='335' y='11'>X</text></g>"
+      ∷ [])
+  -- marks that would leave the page share its last place, and the heaviest of them lies on top of the others
+  pub at_the_end : badges 96 1060 three_marks ≡ lines (
+      codes "<g class='note'><title>back</title><path d='M950 31V17L1060 14'/><circle cx='1060' cy='7' r='7'/><text x='1060' y='11'>B</text></g>"
+      ∷ codes "<g class='turn'><title>leads</title><path d='M950 31V17L1070 14'/><circle cx='1070' cy='7' r='7'/><text x='1070' y='11'>L</text></g>"
+      ∷ codes "<g class='alarm'><title>failed</title><path d='M950 31V17L1070 14'/><circle cx='1070' cy='7' r='7'/><text x='1070' y='11'>X</text></g>"
       ∷ [])
   -- what markup is made of is named
   pub in_names : escaped (codes "<a b='&'>") ≡ codes "&lt;a b=&#39;&amp;&#39;&gt;"

@@ -1,15 +1,16 @@
 // The marks of a lane.
 ghost use Rattle.lane_chart.specs.ChartView.{mark_shown};
-ghost use Rattle.lane_chart.specs.SvgText.{across, badge, badges, colour, room_at, stroke};
-ghost use Rattle.std.specs.Prelude.{◌≡◌, ◌≤◌, ◌++◌, OnOk, map};
+ghost use Rattle.lane_chart.specs.SvgText.{across, badge, badge_head, badges, colour, last_badge, last_badges, room_at, stroke};
+ghost use Rattle.std.specs.Prelude.{◌≡◌, ◌++◌, OnOk, map};
 
 use crate::bars::across;
 use crate::chart::{Mark, Weight};
 use crate::escape::{push_escaped, push_text};
+use crate::heaviest::{heavier, lighter};
 use std::alloc::Global;
 use tuple_edge::OutOfMemory;
 
-// The last place where a mark has room.
+// The last place of the page where a mark has room.
 const LAST_ROOM: u32 = 1_070;
 
 // How much room a mark takes.
@@ -26,12 +27,11 @@ pub(crate) fn colour(weight: Weight) -> &'static str
     }
 }
 
-// Where there is room for a mark: at its own place, or right of the mark before it, as far as the page goes.
+// Where there is room for a mark: at its own place, or right of the mark before it.
 fn room_at(free: u32, at: u32) -> u32
-    ensures value { result ≡ room_at free at }
-    ensures within { result ≤ 1070 }
+    ensures { result ≡ room_at free at }
 {
-    free.max(at).min(LAST_ROOM)
+    free.max(at)
 }
 
 // Appends the stroke of a mark and the disc of its letter.
@@ -42,6 +42,18 @@ fn push_stroke(out: &mut Vec<u8>, alloc: Global, at: u32, room: u32) -> Result<(
         "<path d='M{at} 31V17L{room} 14'/><circle cx='{room}' cy='7' r='7'/><text x='{room}' y='11'>"
     )?;
     push_text(out, &piece)
+}
+
+// Appends the beginning of a mark.
+#[tactic(auto, unfolding(crate::specs::SvgText::badge_head))]
+fn push_badge_head(out: &mut Vec<u8>, weight: Weight, title: &str) -> Result<(), OutOfMemory>
+    ensures { OnOk result (out.new.items ≡ out.old.items ++ badge_head weight title.now) }
+{
+    push_text(out, "<g class='")?;
+    push_text(out, colour(weight))?;
+    push_text(out, "'><title>")?;
+    push_escaped(out, title)?;
+    push_text(out, "</title>")
 }
 
 // Appends a mark.
@@ -55,15 +67,40 @@ fn push_badge(
 ) -> Result<(), OutOfMemory>
     ensures { OnOk result (out.new.items ≡ out.old.items ++ badge at room (mark_shown mark.now)) }
 {
-    push_text(out, "<g class='")?;
-    push_text(out, colour(mark.weight))?;
-    push_text(out, "'><title>")?;
-    push_escaped(out, &mark.title)?;
-    push_text(out, "</title>")?;
+    push_badge_head(out, mark.weight, &mark.title)?;
     push_stroke(out, alloc, at, room)?;
     push_escaped(out, mark.letter)?;
-    push_text(out, "</text></g>\n")?;
-    Ok(())
+    push_text(out, "</text></g>\n")
+}
+
+// Appends a mark at the last place of the page.
+fn push_last_badge(
+    out: &mut Vec<u8>,
+    alloc: Global,
+    columns: usize,
+    mark: &Mark,
+) -> Result<(), OutOfMemory>
+    ensures { OnOk result (out.new.items ≡ out.old.items ++ last_badge columns (mark_shown mark.now)) }
+{
+    push_badge(out, alloc, across(columns, mark.column), LAST_ROOM, mark)
+}
+
+// Appends the marks that share the last place, the heaviest of them on top.
+fn push_last_badges(
+    out: &mut Vec<u8>,
+    alloc: Global,
+    columns: usize,
+    first: &Mark,
+    marks: &[Mark],
+) -> Result<(), OutOfMemory>
+    ensures { OnOk result (out.new.items ≡ out.old.items ++ last_badges columns (mark_shown first.now) (map mark_shown marks.now)) }
+{
+    let mut held = first;
+    for mark in marks {
+        push_last_badge(out, alloc, columns, lighter(held, mark))?;
+        held = heavier(held, mark);
+    }
+    push_last_badge(out, alloc, columns, held)
 }
 
 // Appends the marks of a lane, each where there is room for it.
@@ -76,9 +113,12 @@ pub(crate) fn push_badges(
     ensures { OnOk result (out.new.items ≡ out.old.items ++ badges columns 0 (map mark_shown marks.now)) }
 {
     let mut free = 0;
-    for mark in marks {
+    for (place, mark) in marks.iter().enumerate() {
         let at = across(columns, mark.column);
         let room = room_at(free, at);
+        if room >= LAST_ROOM {
+            return push_last_badges(out, alloc, columns, mark, &marks[place + 1..]);
+        }
         push_badge(out, alloc, at, room, mark)?;
         free = room + ROOM;
     }

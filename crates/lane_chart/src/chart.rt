@@ -34,6 +34,8 @@ pub struct Mark {
     /// The column, from 0.
     pub column: usize,
     pub weight: Weight,
+    /// How heavy its kind is beside others: 0 is the heaviest. Kinds stand in this order in the key.
+    pub rank: u8,
     /// The letter that stands for it, which the key explains.
     pub letter: &'static str,
     /// What happened, in words.
@@ -84,5 +86,6 @@ pub struct Chart {
     /// The number at each column's end. There are as many columns as it has numbers.
     pub steps: Vec<u64>,
     pub cells: Vec<CellKey>,
+    /// What the letters mean, the heaviest kind first.
     pub letters: Vec<LetterKey>,
 }

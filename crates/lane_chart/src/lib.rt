@@ -11,6 +11,7 @@ mod chart;
 mod escape;
 mod glyphs;
 mod groups;
+mod heaviest;
 mod keys;
 mod lanes;
 mod law;

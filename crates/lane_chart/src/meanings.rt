@@ -1,12 +1,12 @@
 // What cells and letters mean, as SVG.
 ghost use Rattle.lane_chart.specs.ChartView.{cell_key_shown, letter_key_shown};
 ghost use Rattle.lane_chart.specs.Places.{placed};
-ghost use Rattle.lane_chart.specs.SvgText.{cell_drawn, key_place, letter_drawn};
+ghost use Rattle.lane_chart.specs.SvgText.{cell_drawn, cell_sample, key_place, key_words, letter_drawn, letter_sample};
 ghost use Rattle.std.specs.Prelude.{◌≡◌, ◌++◌, OnOk, map};
 
 use crate::badges::colour;
 use crate::bars::shape;
-use crate::chart::{CellKey, LetterKey};
+use crate::chart::{Cell, CellKey, LetterKey, Weight};
 use crate::escape::{push_escaped, push_text};
 use crate::groups::push_group;
 use std::alloc::Global;
@@ -30,6 +30,25 @@ fn push_key_place(out: &mut Vec<u8>, alloc: Global, place: usize) -> Result<(), 
     push_group(out, alloc, right, down)
 }
 
+// Appends the words of an entry of the key, and its end.
+#[tactic(auto, unfolding(crate::specs::SvgText::key_words))]
+fn push_key_words(out: &mut Vec<u8>, name: &str) -> Result<(), OutOfMemory>
+    ensures { OnOk result (out.new.items ≡ out.old.items ++ key_words name.now) }
+{
+    push_escaped(out, name)?;
+    push_text(out, "</text></g>\n")
+}
+
+// Appends the sample of a kind of cell.
+#[tactic(auto, unfolding(crate::specs::SvgText::cell_sample))]
+fn push_cell_sample(out: &mut Vec<u8>, cell: Cell) -> Result<(), OutOfMemory>
+    ensures { OnOk result (out.new.items ≡ out.old.items ++ cell_sample cell) }
+{
+    push_text(out, "<rect ")?;
+    push_text(out, shape(cell))?;
+    push_text(out, " x='0' width='24'/><text class='word' x='30' y='27'>")
+}
+
 // Appends what a kind of cell means.
 #[tactic(auto, unfolding(crate::specs::SvgText::cell_drawn))]
 fn push_cell(
@@ -41,12 +60,8 @@ fn push_cell(
     ensures { OnOk result (out.new.items ≡ out.old.items ++ cell_drawn place (cell_key_shown key.now)) }
 {
     push_key_place(out, alloc, place)?;
-    push_text(out, "<rect ")?;
-    push_text(out, shape(key.cell))?;
-    push_text(out, " x='0' width='24'/><text class='word' x='30' y='27'>")?;
-    push_escaped(out, key.name)?;
-    push_text(out, "</text></g>\n")?;
-    Ok(())
+    push_cell_sample(out, key.cell)?;
+    push_key_words(out, key.name)
 }
 
 // Appends what the kinds of cells mean.
@@ -63,6 +78,18 @@ pub(crate) fn push_cells(
     Ok(())
 }
 
+// Appends the sample of a letter.
+#[tactic(auto, unfolding(crate::specs::SvgText::letter_sample))]
+fn push_letter_sample(out: &mut Vec<u8>, weight: Weight, letter: &str) -> Result<(), OutOfMemory>
+    ensures { OnOk result (out.new.items ≡ out.old.items ++ letter_sample weight letter.now) }
+{
+    push_text(out, "<g class='")?;
+    push_text(out, colour(weight))?;
+    push_text(out, "'><circle cx='12' cy='46' r='7'/><text x='12' y='50'>")?;
+    push_escaped(out, letter)?;
+    push_text(out, "</text></g><text class='word' x='30' y='50'>")
+}
+
 // Appends what a letter means.
 #[tactic(auto, unfolding(crate::specs::SvgText::letter_drawn))]
 fn push_letter(
@@ -74,14 +101,8 @@ fn push_letter(
     ensures { OnOk result (out.new.items ≡ out.old.items ++ letter_drawn place (letter_key_shown key.now)) }
 {
     push_key_place(out, alloc, place)?;
-    push_text(out, "<g class='")?;
-    push_text(out, colour(key.weight))?;
-    push_text(out, "'><circle cx='12' cy='46' r='7'/><text x='12' y='50'>")?;
-    push_escaped(out, key.letter)?;
-    push_text(out, "</text></g><text class='word' x='30' y='50'>")?;
-    push_escaped(out, key.name)?;
-    push_text(out, "</text></g>\n")?;
-    Ok(())
+    push_letter_sample(out, key.weight, key.letter)?;
+    push_key_words(out, key.name)
 }
 
 // Appends what the letters mean.

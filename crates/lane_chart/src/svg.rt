@@ -96,20 +96,27 @@ fn push_key_part(
     push_text(out, "</g>\n</svg>\n")
 }
 
-/// The SVG of a chart, for up to 960 columns: its title, its scale, for each lane a bar whose colours and heights tell
-/// its cells apart, with its marks, each with its title; under them the number that rises as a line of steps, and the
-/// key. It has a light and a dark scheme, no script, and fetches nothing.
+// Appends the page of a chart.
 #[tactic(auto, unfolding(crate::specs::SvgText::chart_svg))]
-pub fn write_svg(alloc: Global, chart: &Chart) -> Result<Vec<u8>, OutOfMemory>
-    ensures { IfOk result (λ text. text.items ≡ chart_svg (chart_shown chart.now)) }
+fn push_page(out: &mut Vec<u8>, alloc: Global, chart: &Chart) -> Result<(), OutOfMemory>
+    ensures { OnOk result (out.new.items ≡ out.old.items ++ chart_svg (chart_shown chart.now)) }
 {
     let end = lanes_end(chart);
     let columns = chart.steps.len();
+    push_head(out, alloc, end + 173, &chart.title)?;
+    push_ticks(out, alloc, columns, end + 80, &chart.ticks)?;
+    push_lanes_drawn(out, alloc, columns, &chart.lanes)?;
+    push_steps_part(out, alloc, end, chart.counted, &chart.steps)?;
+    push_key_part(out, alloc, end, &chart.cells, &chart.letters)
+}
+
+/// The SVG of a chart, for up to 960 columns: its title, its scale, for each lane a bar whose colours and heights tell
+/// its cells apart, with its marks, each with its title, and the heaviest on top where they share a place; under them the number that rises as a line of steps, and the
+/// key. It has a light and a dark scheme, no script, and fetches nothing.
+pub fn write_svg(alloc: Global, chart: &Chart) -> Result<Vec<u8>, OutOfMemory>
+    ensures { IfOk result (λ text. text.items ≡ chart_svg (chart_shown chart.now)) }
+{
     let mut out = Vec::new(alloc);
-    push_head(&mut out, alloc, end + 173, &chart.title)?;
-    push_ticks(&mut out, alloc, columns, end + 80, &chart.ticks)?;
-    push_lanes_drawn(&mut out, alloc, columns, &chart.lanes)?;
-    push_steps_part(&mut out, alloc, end, chart.counted, &chart.steps)?;
-    push_key_part(&mut out, alloc, end, &chart.cells, &chart.letters)?;
+    push_page(&mut out, alloc, chart)?;
     Ok(out)
 }

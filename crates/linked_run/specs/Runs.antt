@@ -1,14 +1,17 @@
 -- What nodes leave that are linked: the joint course of their histories is legal and within the script, and each of them stands for its
 -- numbers in the state that it reaches.
-use Rattle.std.specs.Prelude.{◌≡◌, ◌<◌, ◌||◌, ℕ, Bool, false, length, map, slice_get, List, [], ◌∷◌, Option, None, Some, if◌then◌else◌}
+use Rattle.std.specs.Prelude.{◌≡◌, ◌<◌, ◌||◌, ℕ, Bool, false, length, map, slice_get, List, [], ◌∷◌, Option, None, Some, if◌then◌else◌, is_some}
+use Rattle.std.specs.Option.{option_or}
 use mathlib.Core.List.{IsPrefix}
 use Rattle.flux_link.specs.Arrivals.{WasSent}
 use Rattle.tuple_edge.specs.Input.{Input}
 use Rattle.tuple_edge.specs.declared.event.Stamped.{Stamped}
 use Rattle.tuple_edge.specs.declared.node.NodeId.{NodeId}
 use Rattle.tuple_edge.specs.declared.row.Row.{Row}
+use Rattle.event_log.specs.Views.{LogView}
 use Rattle.plan_reader.specs.PlanView.{PlanView}
 use Rattle.pair_machine.specs.Counts.{flow_of}
+use Rattle.pair_machine.specs.Courses.{Pairwise}
 use Rattle.pair_machine.specs.Joint.{AreRising, IsLog, Logged, logged_events}
 use Rattle.pair_machine.specs.Legal.{IsLegal}
 use Rattle.pair_machine.specs.Lists.{Among, Each}
@@ -31,6 +34,10 @@ history_in id (p ∷ ps) n = if is_node (id p.0) n then p.1 else history_in id p
 abbrev pub ids_in : {A : Type 0} → (A → NodeId) → List (A × List Stamped) → List NodeId
 ids_in id parts = map (λ p. id p.0) parts
 
+-- these may be the inputs, as far as each of these parts knows
+abbrev pub AllAdmit : {A : Type 0} → (A → List Input → Type 0) → List Input → List (A × List Stamped) → Type 0
+AllAdmit admits inputs parts = Each (λ p. admits p.0 inputs) parts
+
 module _ {A : Type 0} (id : A → NodeId) (stands : PlanView → List Input → A → Node → Type 0) (plan : PlanView) (inputs : List Input) (script : List Order) where
   -- the events of all histories, in the order of their clocks, are legal and within the script, and lead to a sound state in which each node
   -- stands for its numbers
@@ -51,14 +58,30 @@ module _ {A : Type 0} (id : A → NodeId) (stands : PlanView → List Input → 
     pub joint : IsJointCourse parts
 
 -- the parts that a run leaves
-abbrev pub parts_in : {A : Type 0} → List (Part A) → List (A × List Stamped)
-parts_in [] = []
-parts_in (p ∷ ps) = (p.state, p.history.entries) ∷ parts_in ps
+abbrev pub parts_in : {A K : Type 0} → (K → LogView) → List (Part A K) → List (A × List Stamped)
+parts_in kept [] = []
+parts_in kept (p ∷ ps) = (p.state, (kept p.history).entries) ∷ parts_in kept ps
 
 -- a tap gave on the first of the rows that one of these parts emitted
 abbrev pub TapOfSome : {A T : Type 0} → (T → List Row) → (A → List Row) → Option T → List (A × List Stamped) → Type 0
 TapOfSome given rows None parts = Unit {0}
 TapOfSome given rows (Some t) parts = (p : _) × Among p parts × IsPrefix (given t) (rows p.0)
+
+-- the last of the taps that nodes have
+abbrev pub last_tap : {T : Type 0} → List (Option T) → Option T
+last_tap [] = None
+last_tap (o ∷ os) = option_or (last_tap os) o
+
+-- Each of these parts fits the tap that its node has, of which the last one is left.
+pub record FitTheirTaps {A T : Type 0} (Fits : Option T → A → Type 0) (tapped : List Bool) (left : Option T) (parts : List (A × List Stamped)) : Type 0 where
+  pub taps : List (Option T)
+  pub whose : map is_some taps ≡ tapped
+  pub last : left ≡ last_tap taps
+  pub fit : Pairwise (λ tap p. Fits tap p.0) taps parts
+
+-- which of these nodes have a tap
+abbrev pub taps_of : List NodeName → List Bool
+taps_of names = map (λ n. n.tapped) names
 
 -- whether one of these nodes has a tap
 abbrev pub any_tapped : List NodeName → Bool

@@ -8,12 +8,12 @@ ghost use Rattle.std.specs.Prelude.{◌≡◌, ◌<◌, OnOk, Some, length, slic
 
 use node_tasks::Acts;
 use plan_reader::Plan;
-use run_node::{Draft, Links, RunNames, Tap};
+use run_node::{Draft, Draws, Links, RunNames};
 use std::alloc::Global;
 use tuple_edge::{LinkId, OutOfMemory};
 
 /// Makes a link from each of these nodes to each other one to which the plan has a link.
-pub fn connect_all<N: RunNames, A: Acts, M: Links, T: Tap>(
+pub fn connect_all<N: RunNames, A: Acts, M: Links, T: Draws>(
     alloc: Global,
     plan: &Plan,
     drafts: &mut [Draft<N, A, M, T>],
@@ -32,7 +32,7 @@ pub fn connect_all<N: RunNames, A: Acts, M: Links, T: Tap>(
 }
 
 // Makes the links from one node.
-fn connect_from<N: RunNames, A: Acts, M: Links, T: Tap>(
+fn connect_from<N: RunNames, A: Acts, M: Links, T: Draws>(
     alloc: Global,
     plan: &Plan,
     drafts: &mut [Draft<N, A, M, T>],
@@ -53,7 +53,7 @@ fn connect_from<N: RunNames, A: Acts, M: Links, T: Tap>(
 }
 
 // Makes the link from one node to another, where the plan has it and it isn't there yet.
-fn connect<N: RunNames, A: Acts, M: Links, T: Tap>(
+fn connect<N: RunNames, A: Acts, M: Links, T: Draws>(
     alloc: Global,
     plan: &Plan,
     drafts: &mut [Draft<N, A, M, T>],

@@ -6,17 +6,26 @@ ghost use Rattle.std.specs.Prelude.{◌≡◌, ◌<◌, ℕ, All, length, map, s
 use crate::gate::Gate;
 use crate::worker::{Shared, work};
 use claim_board::{Board, BoardSeat};
+use event_log::Keeps;
 use node_tasks::Acts;
-use run_node::{Links, Node, RunNames, Tap};
+use run_node::{Draws, Links, Node, RunNames};
 use std::thread;
 use std::thread::Threads;
 use tuple_edge::MAX_THREADS;
 
 // Each seat in a thread of its own.
-fn work_each<N: RunNames, A: Acts + Send, M: Links, T: Tap + Send, R: Threads + Sync, G: Gate>(
+fn work_each<
+    N: RunNames,
+    A: Acts + Send,
+    K: Keeps + Send,
+    M: Links,
+    T: Draws + Send,
+    R: Threads + Sync,
+    G: Gate,
+>(
     rt: &R,
-    board: &Board<Node<N, A, M, T>>,
-    seats: &mut [BoardSeat<Node<N, A, M, T>>],
+    board: &Board<Node<N, A, K, M, T>>,
+    seats: &mut [BoardSeat<Node<N, A, K, M, T>>],
     nodes: usize,
     shared: &Shared<'_, G>,
 )
@@ -33,7 +42,7 @@ fn work_each<N: RunNames, A: Acts + Send, M: Links, T: Tap + Send, R: Threads + 
         rt,
         seats,
         threads,
-        &|index: usize, seat: &mut BoardSeat<Node<N, A, M, T>>|
+        &|index: usize, seat: &mut BoardSeat<Node<N, A, K, M, T>>|
             requires { (IsSeatOf board.now seat.old × HoldsNone seat.old) × ((0 < nodes) × (length (opening_of board.now) ≡ nodes)) × (shared.now.script.now ≡ N.script) }
             ensures { IsBack board.entry.now seat.old seat.new }
         {
@@ -45,10 +54,18 @@ fn work_each<N: RunNames, A: Acts + Send, M: Links, T: Tap + Send, R: Threads + 
 }
 
 // The same, of all seats of the board.
-fn work_all<N: RunNames, A: Acts + Send, M: Links, T: Tap + Send, R: Threads + Sync, G: Gate>(
+fn work_all<
+    N: RunNames,
+    A: Acts + Send,
+    K: Keeps + Send,
+    M: Links,
+    T: Draws + Send,
+    R: Threads + Sync,
+    G: Gate,
+>(
     rt: &R,
-    board: &Board<Node<N, A, M, T>>,
-    seats: &mut Vec<BoardSeat<Node<N, A, M, T>>>,
+    board: &Board<Node<N, A, K, M, T>>,
+    seats: &mut Vec<BoardSeat<Node<N, A, K, M, T>>>,
     nodes: usize,
     shared: &Shared<'_, G>,
 )
@@ -64,17 +81,18 @@ fn work_all<N: RunNames, A: Acts + Send, M: Links, T: Tap + Send, R: Threads + S
 pub(crate) fn float<
     N: RunNames,
     A: Acts + Send,
+    K: Keeps + Send,
     M: Links,
-    T: Tap + Send,
+    T: Draws + Send,
     R: Threads + Sync,
     G: Gate,
 >(
     rt: &R,
-    board: Board<Node<N, A, M, T>>,
-    seats: Vec<BoardSeat<Node<N, A, M, T>>>,
+    board: Board<Node<N, A, K, M, T>>,
+    seats: Vec<BoardSeat<Node<N, A, K, M, T>>>,
     nodes: usize,
     shared: &Shared<'_, G>,
-) -> Vec<Node<N, A, M, T>>
+) -> Vec<Node<N, A, K, M, T>>
     requires places { (0 < nodes) × (length (opening_of board) ≡ nodes) }
     requires seats { AreAll board seats.items × AllHoldNone seats.items }
     requires script { shared.now.script.now ≡ N.script }

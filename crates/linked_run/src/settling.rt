@@ -6,13 +6,14 @@ ghost use Rattle.run_node.specs.Ends.{InLink};
 ghost use Rattle.run_node.specs.NodeView.{NodeView, name_of};
 ghost use Rattle.std.specs.Prelude.{◌≡◌, ◌<◌, MatchOption, None, Some, length, map, slice_get};
 
+use event_log::Keeps;
 use node_tasks::Acts;
-use run_node::{Links, Node, RunNames, Tap};
+use run_node::{Draws, Links, Node, RunNames};
 use tuple_edge::NodeId;
 
 // The place of the first node with an id.
-fn place_of<N: RunNames, A: Acts, M: Links, T: Tap>(
-    nodes: &[Node<N, A, M, T>],
+fn place_of<N: RunNames, A: Acts, K: Keeps, M: Links, T: Draws>(
+    nodes: &[Node<N, A, K, M, T>],
     id: NodeId,
 ) -> Option<usize>
     ensures { MatchOption result (view_at A.id nodes.now id ≡ None) (λ place. IsFirstWith A.id nodes.now id place) }
@@ -27,9 +28,9 @@ fn place_of<N: RunNames, A: Acts, M: Links, T: Tap>(
 }
 
 // Settles one in-link of one node.
-fn settle_link<N: RunNames, A: Acts, M: Links, T: Tap>(
+fn settle_link<N: RunNames, A: Acts, K: Keeps, M: Links, T: Draws>(
     links: &mut M,
-    nodes: &mut [Node<N, A, M, T>],
+    nodes: &mut [Node<N, A, K, M, T>],
     to: usize,
     inlet: usize,
 )
@@ -54,9 +55,9 @@ fn settle_link<N: RunNames, A: Acts, M: Links, T: Tap>(
 }
 
 // Settles all in-links of one node.
-fn settle_node<N: RunNames, A: Acts, M: Links, T: Tap>(
+fn settle_node<N: RunNames, A: Acts, K: Keeps, M: Links, T: Draws>(
     links: &mut M,
-    nodes: &mut [Node<N, A, M, T>],
+    nodes: &mut [Node<N, A, K, M, T>],
     to: usize,
 )
     requires to { to < length nodes.old }
@@ -71,9 +72,9 @@ fn settle_node<N: RunNames, A: Acts, M: Links, T: Tap>(
 }
 
 /// Settles all links: what all nodes took was sent.
-pub(crate) fn settle_all<N: RunNames, A: Acts, M: Links, T: Tap>(
+pub(crate) fn settle_all<N: RunNames, A: Acts, K: Keeps, M: Links, T: Draws>(
     links: &mut M,
-    nodes: &mut [Node<N, A, M, T>],
+    nodes: &mut [Node<N, A, K, M, T>],
 )
     requires { AreLinked (map (name_of A.id) nodes.old) (map (name_of A.id) nodes.old) }
     ensures same { nodes.new ≡ nodes.old }

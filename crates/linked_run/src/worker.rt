@@ -5,10 +5,11 @@ ghost use Rattle.std.specs.Prelude.{◌≡◌, ◌<◌, length};
 use crate::gate::Gate;
 use claim_board::{Board, BoardSeat};
 use crossbeam_utils::CachePadded;
+use event_log::Keeps;
 use failure_script::Script;
 use node_tasks::Acts;
 use plan_reader::Plan;
-use run_node::{Links, Node, RunNames, Tap};
+use run_node::{Draws, Links, Node, RunNames};
 use std::hint::spin_loop;
 use std::sync::atomic::AtomicBool;
 use std::sync::atomic::Ordering::SeqCst;
@@ -44,9 +45,9 @@ pub struct Shared<'a, G: Gate> {
 }
 
 // Takes a node, where no other worker has it, gives it a turn and puts it back.
-fn turn_at<N: RunNames, A: Acts + Send, M: Links, T: Tap + Send, G: Gate>(
-    board: &Board<Node<N, A, M, T>>,
-    seat: &mut BoardSeat<Node<N, A, M, T>>,
+fn turn_at<N: RunNames, A: Acts + Send, K: Keeps + Send, M: Links, T: Draws + Send, G: Gate>(
+    board: &Board<Node<N, A, K, M, T>>,
+    seat: &mut BoardSeat<Node<N, A, K, M, T>>,
     place: usize,
     shared: &Shared<'_, G>,
 ) -> Turned
@@ -73,9 +74,9 @@ fn turn_at<N: RunNames, A: Acts + Send, M: Links, T: Tap + Send, G: Gate>(
 }
 
 // Looks at the halt word, the more often the longer there was nothing to do. Whether it is set.
-fn look<N: RunNames, A: Acts + Send, M: Links, T: Tap + Send>(
-    board: &Board<Node<N, A, M, T>>,
-    seat: &mut BoardSeat<Node<N, A, M, T>>,
+fn look<N: RunNames, A: Acts + Send, K: Keeps + Send, M: Links, T: Draws + Send>(
+    board: &Board<Node<N, A, K, M, T>>,
+    seat: &mut BoardSeat<Node<N, A, K, M, T>>,
     idle: u64,
 ) -> bool
     requires { IsSeatOf board.now seat.old × HoldsNone seat.old }
@@ -94,9 +95,16 @@ fn look<N: RunNames, A: Acts + Send, M: Links, T: Tap + Send>(
 /// The turns of one worker: in turn number k it tries the place of its own number and k. It ends after
 /// its turns, or where the halt word is set. Once it found nothing to do at any place it gives its processor
 /// back after each idle turn, since another thread may have to run before there is.
-pub(crate) fn work<N: RunNames, A: Acts + Send, M: Links, T: Tap + Send, G: Gate>(
-    board: &Board<Node<N, A, M, T>>,
-    seat: &mut BoardSeat<Node<N, A, M, T>>,
+pub(crate) fn work<
+    N: RunNames,
+    A: Acts + Send,
+    K: Keeps + Send,
+    M: Links,
+    T: Draws + Send,
+    G: Gate,
+>(
+    board: &Board<Node<N, A, K, M, T>>,
+    seat: &mut BoardSeat<Node<N, A, K, M, T>>,
     worker: u32,
     nodes: usize,
     shared: &Shared<'_, G>,

@@ -9,7 +9,7 @@ ghost use Rattle.tuple_edge.specs.declared.row.Row.{Row};
 
 use drained_run::{Ended, finish_run};
 use failure_script::Script;
-use partition_runner::Left;
+use partition_runner::{Left, Unwritten};
 use plan_reader::Plan;
 use std::alloc::Global;
 use trade_text::Trades;
@@ -21,8 +21,8 @@ pub(crate) fn end_of(
     plan: &Plan,
     trades: &Trades,
     script: &Script,
-    left: Result<Left, OutOfMemory>,
-) -> Result<Ended, OutOfMemory>
+    left: Result<Left<Unwritten>, OutOfMemory>,
+) -> Result<Ended<Unwritten>, OutOfMemory>
     requires { IfOk left (IsLegalLeft plan.now (inputs_in trades.now) script.now) }
     ensures { (given : List Row) → MatchResult left (λ left. IsPrefix given (emitted_in left.nodes.items)) (λ _. IsPrefix given (output plan.now (inputs_in trades.now))) → HasRun plan.now (inputs_in trades.now) script.now given result }
 {

@@ -5,9 +5,10 @@ ghost use Rattle.live_feed.specs.Sides.{HasRun};
 ghost use Rattle.live_feed.specs.declared.answer.Live.TheVariants as live;
 ghost use Rattle.drained_run.specs.Ended.{IsEnded};
 ghost use Rattle.flux_outside.specs.Outside.{Rose};
+ghost use Rattle.flux_outside.specs.Told.{SinkTold};
 ghost use Rattle.pair_machine.specs.Scripts.{IsSafe};
 ghost use Rattle.row_channel.specs.Ends.{receives_from, rows_got, rows_sent, sends_to};
-ghost use Rattle.row_wire.specs.Written.{IsWritten, TakesFront, Told};
+ghost use Rattle.row_wire.specs.Written.{IsWritten, OffersFront, TakesFront};
 ghost use Rattle.std.specs.Prelude.{◌≡◌, ◌≤◌, ◌⊎◌, [], IsTrue, is_some, length, take};
 ghost use Rattle.trade_text.specs.Text.{part_text};
 ghost use Rattle.trade_text.specs.TradesView.{inputs_in};
@@ -18,7 +19,7 @@ use crate::end::end_of;
 use crate::tap::{RowTap, SendingTap};
 use drained_run::Ended;
 use failure_script::Script;
-use partition_runner::{Gate, RunNames, Tapped, ready_tapped, run_tapped};
+use partition_runner::{FedNames, Gate, Tapped, Unwritten, ready_tapped, run_tapped};
 use plan_reader::Plan;
 use row_channel::{ChannelNames, RowReceiver, RowSender, row_channel};
 use row_wire::{Wire, Written, write_received, write_rest};
@@ -32,12 +33,12 @@ use tuple_edge::{Drained, OutOfMemory};
 // What the side leaves that runs.
 #[derive(Drop)]
 struct RunSide {
-    end: Result<Ended, OutOfMemory>,
+    end: Result<Ended<Unwritten>, OutOfMemory>,
     sender: RowSender,
 }
 
 // Runs what is ready, drains it, and says that no row comes any more.
-fn run_side<N: RunNames, T: SendingTap + Send, R: Threads + Wait + Sync, G: Gate>(
+fn run_side<N: FedNames, T: SendingTap + Send, R: Threads + Wait + Sync, G: Gate>(
     rt: &R,
     alloc: Global,
     plan: &Plan,
@@ -86,18 +87,18 @@ fn is_whole(drained: Drained) -> bool
 }
 
 // Writes what is missing of the text, once the run has ended, behind the lines of the rows that were written first.
-fn finish<N: RunNames, W: Wire>(
+fn finish<N: FedNames, W: Wire>(
     alloc: Global,
     trades: &Trades,
-    ended: &Ended,
+    ended: &Ended<Unwritten>,
     first: usize,
     written: Written,
     out: &mut W,
 ) -> Live
     requires ended { IsEnded N.plan N.inputs N.script ended.now }
     requires first { first ≤ length ended.now.rows }
-    ensures { (start : Told) → IsWritten start (record { taken = W.taken out.old; faults = W.faults out.old }) (part_text trades.now.symbols (take first ended.now.rows)) written
-        → LivesSo N.plan N.inputs N.script trades.now.symbols start (record { taken = W.taken out.new; faults = W.faults out.new }) result }
+    ensures { (start : SinkTold) → IsWritten start (W.told out.old) (part_text trades.now.symbols (take first ended.now.rows)) written
+        → LivesSo N.plan N.inputs N.script trades.now.symbols start (W.told out.new) result }
 {
     let drained = ended.drained();
     let whole = is_whole(drained);
@@ -106,7 +107,7 @@ fn finish<N: RunNames, W: Wire>(
 }
 
 // What a run and its writing come to, once both have ended: what the writer received is known then.
-fn close<N: RunNames, W: Wire>(
+fn close<N: FedNames, W: Wire>(
     alloc: Global,
     trades: &Trades,
     side: RunSide,
@@ -116,8 +117,8 @@ fn close<N: RunNames, W: Wire>(
 ) -> Live
     requires run { HasRun N.plan N.inputs N.script (rows_sent side.sender) side.end }
     requires channel { receives_from receiver ≡ sends_to side.sender }
-    ensures { (start : Told) → IsWritten start (record { taken = W.taken out.old; faults = W.faults out.old }) (part_text trades.now.symbols (rows_got receiver)) written
-        → LivesSo N.plan N.inputs N.script trades.now.symbols start (record { taken = W.taken out.new; faults = W.faults out.new }) result }
+    ensures { (start : SinkTold) → IsWritten start (W.told out.old) (part_text trades.now.symbols (rows_got receiver)) written
+        → LivesSo N.plan N.inputs N.script trades.now.symbols start (W.told out.new) result }
 {
     let RunSide { end, mut sender } = side;
     let first = sender.settle(receiver);
@@ -128,7 +129,7 @@ fn close<N: RunNames, W: Wire>(
 }
 
 // Runs what is ready on one side, and writes what it sends on the other, with the symbols of these trades.
-fn fork<N: RunNames, T: SendingTap + Send, R: Threads + Wait + Sync, W: Wire + Send, G: Gate>(
+fn fork<N: FedNames, T: SendingTap + Send, R: Threads + Wait + Sync, W: Wire + Send, G: Gate>(
     rt: &R,
     alloc: Global,
     plan: &Plan,
@@ -149,7 +150,7 @@ fn fork<N: RunNames, T: SendingTap + Send, R: Threads + Wait + Sync, W: Wire + S
     ensures run { HasRun N.plan N.inputs N.script (rows_sent result.0.sender) result.0.end }
     ensures sends { sends_to result.0.sender ≡ T.channel }
     ensures receives { receives_from receiver.new ≡ receives_from receiver.old }
-    ensures written { IsWritten (record { taken = W.taken out.old; faults = W.faults out.old }) (record { taken = W.taken out.new; faults = W.faults out.new }) (part_text named.now.symbols (rows_got receiver.new)) result.1 }
+    ensures written { IsWritten (W.told out.old) (W.told out.new) (part_text named.now.symbols (rows_got receiver.new)) result.1 }
 {
     // Each side has an allocator of its own to borrow.
     let for_writing = alloc;
@@ -159,14 +160,14 @@ fn fork<N: RunNames, T: SendingTap + Send, R: Threads + Wait + Sync, W: Wire + S
     { run_side(rt, alloc, plan, trades, script, turns, gate, ready) };
     let mut write = || -> Written
         requires { rows_got receiver.now ≡ [] }
-        ensures { IsWritten (record { taken = W.taken out.entry.now; faults = W.faults out.entry.now }) (record { taken = W.taken out.exit.now; faults = W.faults out.exit.now }) (part_text named.entry.now.symbols (rows_got receiver.exit.now)) result
+        ensures { IsWritten (W.told out.entry.now) (W.told out.exit.now) (part_text named.entry.now.symbols (rows_got receiver.exit.now)) result
             × (receives_from receiver.exit.now ≡ receives_from receiver.entry.now) }
     { write_received(rt, for_writing, named, receiver, out) };
     join_mut(rt, &mut run, &mut write)
 }
 
 // Runs what is ready and writes meanwhile what its tap sends, and then what is missing.
-fn live_ready<N: RunNames, T: SendingTap + Send, R: Threads + Wait + Sync, W: Wire + Send, G: Gate>(
+fn live_ready<N: FedNames, T: SendingTap + Send, R: Threads + Wait + Sync, W: Wire + Send, G: Gate>(
     rt: &R,
     alloc: Global,
     plan: &Plan,
@@ -183,7 +184,7 @@ fn live_ready<N: RunNames, T: SendingTap + Send, R: Threads + Wait + Sync, W: Wi
     requires script { script.now ≡ N.script }
     requires receives { receives_from receiver ≡ T.channel }
     requires got { rows_got receiver ≡ [] }
-    ensures { LivesSo N.plan N.inputs N.script trades.now.symbols (record { taken = W.taken out.old; faults = W.faults out.old }) (record { taken = W.taken out.new; faults = W.faults out.new }) result }
+    ensures { LivesSo N.plan N.inputs N.script trades.now.symbols (W.told out.old) (W.told out.new) result }
 {
     let mut ready = Some(ready);
     let mut receiver = receiver;
@@ -204,7 +205,8 @@ fn live_ready<N: RunNames, T: SendingTap + Send, R: Threads + Wait + Sync, W: Wi
 }
 
 // Runs a plan on one side and writes on the other, over the two ends of a channel.
-fn live_over<N: RunNames, C: ChannelNames, R: Threads + Wait + Sync, W: Wire + Send, G: Gate>(
+#[tactic(auto, using(crate::proofs::Texts::lives_unstarted))]
+fn live_over<N: FedNames, C: ChannelNames, R: Threads + Wait + Sync, W: Wire + Send, G: Gate>(
     rt: &R,
     alloc: Global,
     plan: &Plan,
@@ -226,7 +228,7 @@ fn live_over<N: RunNames, C: ChannelNames, R: Threads + Wait + Sync, W: Wire + S
     requires receives { receives_from receiver ≡ C.channel }
     requires sent { rows_sent sender ≡ [] }
     requires got { rows_got receiver ≡ [] }
-    ensures { LivesSo N.plan N.inputs N.script trades.now.symbols (record { taken = W.taken out.old; faults = W.faults out.old }) (record { taken = W.taken out.new; faults = W.faults out.new }) result }
+    ensures { LivesSo N.plan N.inputs N.script trades.now.symbols (W.told out.old) (W.told out.new) result }
 {
     let tap: RowTap<'_, R, C> = RowTap {
         rt,
@@ -243,7 +245,8 @@ fn live_over<N: RunNames, C: ChannelNames, R: Threads + Wait + Sync, W: Wire + S
 }
 
 // The same for names that are the plan's, over a channel that is made first.
-fn live_named<N: RunNames, R: Threads + Wait + Sync, W: Wire + Send, G: Gate>(
+#[tactic(auto, using(crate::proofs::Texts::lives_unstarted))]
+fn live_named<N: FedNames, R: Threads + Wait + Sync, W: Wire + Send, G: Gate>(
     rt: &R,
     alloc: Global,
     plan: &Plan,
@@ -259,7 +262,7 @@ fn live_named<N: RunNames, R: Threads + Wait + Sync, W: Wire + Send, G: Gate>(
     requires script { script.now ≡ N.script }
     requires some { 1 ≤ threads }
     requires few { threads ≤ max_threads }
-    ensures { LivesSo N.plan N.inputs N.script trades.now.symbols (record { taken = W.taken out.old; faults = W.faults out.old }) (record { taken = W.taken out.new; faults = W.faults out.new }) result }
+    ensures { LivesSo N.plan N.inputs N.script trades.now.symbols (W.told out.old) (W.told out.new) result }
 {
     let Ok((sender, receiver)) = row_channel(alloc) else {
         return Live::OutOfMemory;
@@ -289,12 +292,14 @@ pub fn live<R: Threads + Wait + Sync, W: Wire + Send, G: Gate>(
     requires few { threads ≤ max_threads }
     // Why the answer is given: Done where the whole text was put; Lost where that pair is the first lost one of a state that a legal list within the script
     // reaches, and just that state's rows were put; WriteFault where the wire's count of faults rose and a proper front of the text was put.
-    ensures answers { AnswersSo plan.now (inputs_in trades.now) script.now trades.now.symbols (record { taken = W.taken out.old; faults = W.faults out.old }) (record { taken = W.taken out.new; faults = W.faults out.new }) result }
+    ensures answers { AnswersSo plan.now (inputs_in trades.now) script.now trades.now.symbols (W.told out.old) (W.told out.new) result }
     // Whatever the answer, what was put is a front of the text of the output.
-    ensures front { TakesFront (W.taken out.old) (W.taken out.new) (output_text plan.now (inputs_in trades.now) trades.now.symbols) }
-    ensures later { W.faults out.old ≤ W.faults out.new }
+    ensures front { TakesFront (W.told out.old).taken (W.told out.new).taken (output_text plan.now (inputs_in trades.now) trades.now.symbols) }
+    // A front of that text was offered, some lines after the others: each put was given what the one before it left, or the next lines where it left nothing.
+    ensures offers { OffersFront (W.told out.old).offered (W.told out.new).offered (output_text plan.now (inputs_in trades.now) trades.now.symbols) }
+    ensures later { (W.told out.old).faults ≤ (W.told out.new).faults }
     // Under a safe script no pair is lost, so where no fault of the wire was counted, all is put, or no memory was to be had.
-    ensures complete { IsSafe script.now → (Rose (W.faults out.old) (W.faults out.new) → ⊥) → (result ≡ live.Done) ⊎ (result ≡ live.OutOfMemory) }
+    ensures complete { IsSafe script.now → (Rose (W.told out.old).faults (W.told out.new).faults → ⊥) → (result ≡ live.Done) ⊎ (result ≡ live.OutOfMemory) }
 {
     live_named::<Brand, R, W, G>(rt, alloc, plan, trades, script, threads, turns, gate, out)
 }

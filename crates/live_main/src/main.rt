@@ -3,6 +3,7 @@
 #![tactic(auto)]
 
 use flux_outside::{StdFiles, StdSink};
+use live_feed::FreeGate;
 use live_top::flux_live;
 use std::alloc::{AllocError, Global};
 use std::env;
@@ -21,7 +22,9 @@ fn main(rt: HostRuntime) -> ExitCode {
     let mut files = StdFiles::new(&rt, alloc);
     let mut out = StdSink::new(rt.stdout());
     let mut err = StdSink::new(rt.stderr());
-    ExitCode::from(flux_live(&rt, alloc, &words, &mut files, &mut out, &mut err))
+    ExitCode::from(flux_live(
+        &rt, alloc, &words, &mut files, &mut out, &mut err, &FreeGate,
+    ))
 }
 
 // The words after the program's name. Words that are no text have no form, so they count as none.

@@ -15,7 +15,7 @@ use Rattle.live_top.specs.Runs.{ComesToRun, Lived, RunLives}
 module _ (feed : FeedView) (script : List Order) (old new : SinkTold) where
   -- what was put is a front of the text also where no memory was to be had for the line
   falls_short : (answer : Live) → RunLives feed script old new answer → RunLives feed script old new live.OutOfMemory
-  falls_short answer lives = record { answers = tt; front = lives.front; later = lives.later }
+  falls_short answer lives = record { answers = tt; front = lives.front; offers = lives.offers; later = lives.later }
 
   pub lost_stops : (stage part : ℕ) (why : Stop) → NamesLost stage part why → RunLives feed script old new (live.Lost stage part) → StopsLive feed script old new why
   lost_stops stage part why names lives = ⊎_elim

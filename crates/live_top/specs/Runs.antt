@@ -6,7 +6,6 @@ use Rattle.command_course.specs.FeedView.{FeedView}
 use Rattle.command_course.specs.Feeds.{feed_of}
 use Rattle.flux_outside.specs.Told.{FilesTold, SinkTold}
 use Rattle.flux_top.specs.Outcome.{AsksFor}
-use Rattle.row_wire.specs.Written.{Told}
 use Rattle.live_feed.specs.Lives.{LivesSo}
 use Rattle.live_feed.specs.declared.answer.Live.{Live}
 use Rattle.live_top.specs.Words.{as_run}
@@ -20,13 +19,9 @@ run_with feed script = record { feed = feed; script = script; journal = None; su
 abbrev pub ComesToRun : FilesTold → FilesTold → List (List ℕ) → FeedView → List Order → Type 0
 ComesToRun before after words feed script = AsksFor (as_run words) (λ course. Came before after course (Runs (run_with feed script)))
 
--- what a sink tells as a wire
-abbrev pub as_wire : SinkTold → Told
-as_wire told = record { taken = told.taken; faults = told.faults }
-
 -- a run ended so: this was put of the text of its output
 abbrev pub RunLives : FeedView → List Order → SinkTold → SinkTold → Live → Type 0
-RunLives feed script old new answer = LivesSo feed.plan feed.inputs script feed.symbols (as_wire old) (as_wire new) answer
+RunLives feed script old new answer = LivesSo feed.plan feed.inputs script feed.symbols old new answer
 
 -- the words came to a run, and it ended so
 pub record Lived (before after : FilesTold) (words : List (List ℕ)) (old new : SinkTold) (answer : Live) : Type 0 where

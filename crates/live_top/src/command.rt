@@ -18,6 +18,7 @@ use crate::lived::lived;
 use command_course::Stop;
 use flux_outside::{Files, Sink};
 use flux_top::say;
+use live_feed::Gate;
 use std::alloc::Global;
 use std::sync::Wait;
 use std::thread::Threads;
@@ -29,18 +30,20 @@ const USAGE: &str = "flux_live: usage: PLAN TRADES [SCRIPT]\n";
 /// while the run goes on. It gives the status: 0 where all was written, 2 where the words have no form, 3 where an input
 /// is refused, 4 where a file can't be read, 5 where `out` took not all, 6 where a pair was lost before all was emitted,
 /// 8 where no memory was to be had. One line goes to `err` for each status but 0: that of `flux`, with the own name in
-/// front. The call may never return, as it waits for the workers and for `out`; where it does, this holds.
+/// front. The gate is called as each turn begins, and tells the run nothing. The call may never return, as it waits for the
+/// workers and for `out`; where it does, this holds.
 ///
-/// What `out` took is a front of the text of the plan's output, whatever the status: each clause that speaks of a run
-/// says so.
+/// What `out` took is a front of the text of the plan's output, whatever the status, and each put was given what the one
+/// before it left, or the next lines where it left nothing: each clause that speaks of a run says so.
 #[tactic(auto, using(crate::proofs::Completeness::accepted_unrefused, crate::proofs::Completeness::accepted_asked, crate::proofs::Completeness::rejected_asked, crate::proofs::Inputs::wants_for))]
-pub fn flux_live<R: Threads + Wait + Sync, F: Files, S: Sink + Send, E: Sink>(
+pub fn flux_live<R: Threads + Wait + Sync, F: Files, S: Sink + Send, E: Sink, G: Gate>(
     rt: &R,
     alloc: Global,
     words: &[String],
     files: &mut F,
     out: &mut S,
     err: &mut E,
+    gate: &G,
 ) -> u8
     // 0: the run is done. All of the plan's output was written, each row once and in order. Nothing is said.
     ensures done { result ≡ 0 → Lived (F.told files.old) (F.told files.new) (texts words.now) (S.told out.old) (S.told out.new) live.Done }
@@ -85,7 +88,7 @@ pub fn flux_live<R: Threads + Wait + Sync, F: Files, S: Sink + Send, E: Sink>(
         → (Rose (S.told out.old).faults (S.told out.new).faults → ⊥) → (result ≡ 0) ⊎ (result ≡ 6) ⊎ (result ≡ 8) }
     ensures rejects { Rejects (F.told files.old).contents (as_run (texts words.now)) → (Rose (F.told files.old).read_faults (F.told files.new).read_faults → ⊥) → (result ≡ 3) ⊎ (result ≡ 8) }
 {
-    match run(rt, alloc, words, files, out) {
+    match run(rt, alloc, words, files, out, gate) {
         Ok(()) => 0,
         Err(Stop::Usage) => {
             say(err, USAGE);
@@ -115,12 +118,13 @@ pub fn flux_live<R: Threads + Wait + Sync, F: Files, S: Sink + Send, E: Sink>(
 }
 
 // Reads all inputs, and then runs what they say.
-fn run<R: Threads + Wait + Sync, F: Files, S: Sink + Send>(
+fn run<R: Threads + Wait + Sync, F: Files, S: Sink + Send, G: Gate>(
     rt: &R,
     alloc: Global,
     words: &[String],
     files: &mut F,
     out: &mut S,
+    gate: &G,
 ) -> Result<(), Stop>
     ensures done { OnOk result (Lived (F.told files.old) (F.told files.new) (texts words.now) (S.told out.old) (S.told out.new) live.Done) }
     ensures usage { asked (as_run (texts words.now)) ≡ None → result ≡ Err Usage }
@@ -134,7 +138,7 @@ fn run<R: Threads + Wait + Sync, F: Files, S: Sink + Send>(
     ensures quiet { IfErr result (λ stop. IsQuiet out.old out.new stop) }
 {
     match read_inputs(alloc, words, files) {
-        Ok(given) => lived(rt, alloc, &given, out),
+        Ok(given) => lived(rt, alloc, &given, gate, out),
         Err(stop) => Err(stop),
     }
 }

@@ -14,7 +14,7 @@ use crate::own::own_line;
 use command_course::Stop;
 use flux_outside::Sink;
 use flux_top::line_of_loss;
-use live_feed::{FreeGate, Live, live};
+use live_feed::{Gate, Live, live};
 use std::alloc::Global;
 use std::sync::Wait;
 use std::thread::Threads;
@@ -35,10 +35,11 @@ fn line_of(alloc: Global, stage: u32, part: u32) -> Result<String, OutOfMemory>
 }
 
 // A live run.
-fn answer<R: Threads + Wait + Sync, S: Sink + Send>(
+fn answer<R: Threads + Wait + Sync, S: Sink + Send, G: Gate>(
     rt: &R,
     alloc: Global,
     given: &Given,
+    gate: &G,
     out: &mut S,
 ) -> Live
     ensures { RunLives (feed_of given.now.feed) given.now.script (S.told out.old) (S.told out.new) result }
@@ -51,22 +52,23 @@ fn answer<R: Threads + Wait + Sync, S: Sink + Send>(
         &given.script,
         THREADS,
         TURNS,
-        &FreeGate,
+        gate,
         out,
     )
 }
 
 /// Runs what was given, and writes its rows meanwhile.
-pub(crate) fn lived<R: Threads + Wait + Sync, S: Sink + Send>(
+pub(crate) fn lived<R: Threads + Wait + Sync, S: Sink + Send, G: Gate>(
     rt: &R,
     alloc: Global,
     given: &Given,
+    gate: &G,
     out: &mut S,
 ) -> Result<(), Stop>
     ensures done { OnOk result (RunLives (feed_of given.now.feed) given.now.script (S.told out.old) (S.told out.new) live.Done) }
     ensures stops { IfErr result (λ stop. StopsLive (feed_of given.now.feed) given.now.script (S.told out.old) (S.told out.new) stop) }
 {
-    match answer(rt, alloc, given, out) {
+    match answer(rt, alloc, given, gate, out) {
         Live::Done => Ok(()),
         Live::Lost { stage, part } => Err(lost(alloc, stage, part)),
         Live::WriteFault => Err(Stop::CannotWrite),

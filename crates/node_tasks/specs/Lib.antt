@@ -2,3 +2,4 @@ pub mod Timely
 pub mod Tasks
 pub mod Steps
 pub mod Acted
+pub mod Limits

@@ -8,7 +8,7 @@ ghost use Rattle.pair_machine.specs.Machine.{replica_in};
 ghost use Rattle.pair_machine.specs.Numbers.{Node};
 ghost use Rattle.pair_machine.specs.Scripts.{HasMerged};
 ghost use Rattle.plan_reader.specs.PlanView.{PlanView};
-ghost use Rattle.std.specs.Prelude.{◌≡◌, ◌≤◌, ◌*◌, ◌↔◌, [], Bool, List, IfOk, IfSome, Ok, OnErr, IsTrue, length, replicate};
+ghost use Rattle.std.specs.Prelude.{◌≡◌, ◌≤◌, ◌*◌, ◌↔◌, ◌++◌, ◌∷◌, [], Bool, List, IfOk, IfSome, MatchOption, Ok, OnErr, IsTrue, length, replicate};
 ghost use Rattle.tuple_edge.specs.Input.{Input};
 ghost use Rattle.tuple_edge.specs.Limits.{most_packets};
 ghost use Rattle.tuple_edge.specs.declared.event.Worked.TheVariants.{Idle};
@@ -17,7 +17,7 @@ ghost use Rattle.tuple_edge.specs.declared.row.Row.{Row};
 
 use crate::task::Task;
 use plan_reader::Plan;
-use tuple_edge::{NodeId, OutOfMemory, Outbox, Packet, Row, Worked};
+use tuple_edge::{Input, NodeId, OutOfMemory, Outbox, Packet, Row, Worked};
 
 /// Pieces of work that were done one after another, each of which sent as many packets as the others.
 #[derive(Clone, Copy, Debug, PartialEq, Eq)]
@@ -39,11 +39,17 @@ pub trait Acts: Send + Drop {
     /// It stands for a node's numbers, under a plan and its inputs.
     ghost stands: { PlanView → List Input → Self → Node → Type 0 };
 
+    /// These may be the inputs: of ingress, all that came to it is a front of them, or all of them where no more come.
+    ghost admits: { Self → List Input → Type 0 };
+
     /// It may do this.
     ghost may: { Self → Task → Type 0 };
 
     /// The rows that it emitted.
     ghost rows: { Self → List Row };
+
+    /// The first of these rows: those that it handed on, and holds no longer.
+    ghost gone: { Self → List Row };
 
     /// It is egress, and has merged its end.
     ghost done: { Self → Bool };
@@ -66,7 +72,7 @@ pub trait Acts: Send + Drop {
         requires may { may self.old task.now }
         requires empty { out.old.packets ≡ [] }
         requires room { most_packets ≤ out.old.spare }
-        ensures { HasActed id of_plan stands rows self.old self.new task.now result out.new.packets };
+        ensures { HasActed id of_plan stands rows gone admits self.old self.new task.now result out.new.packets };
 
     /// Takes a packet that a node sent to it at this index, where it may be given that, as `may` and `act` would together. Idle
     /// where it may not.
@@ -79,7 +85,7 @@ pub trait Acts: Send + Drop {
     ) -> Result<Worked, OutOfMemory>
         requires empty { out.old.packets ≡ [] }
         requires room { most_packets ≤ out.old.spare }
-        ensures acted { HasActed id of_plan stands rows self.old self.new (task.Take from index packet.now) result out.new.packets }
+        ensures acted { HasActed id of_plan stands rows gone admits self.old self.new (task.Take from index packet.now) result out.new.packets }
         // It is left only where it may not be given.
         ensures left { result ≡ Ok Idle → may self.old (task.Take from index packet.now) → ⊥ };
 
@@ -97,10 +103,12 @@ pub trait Acts: Send + Drop {
         // It fails only where there is no memory for the first one. Then it stands for the same numbers, and nothing is sent.
         ensures unsent { OnErr result (out.new.packets ≡ []) }
         ensures unchanged { OnErr result ((plan : PlanView) (inputs : List Input) (x : Node) → stands plan inputs self.old x → stands plan inputs self.new x) }
+        ensures inputs { (inputs : List Input) → admits self.new inputs → admits self.old inputs }
         // It stays the same node of the same plans, and the rows that it emitted stay.
         ensures id { id self.new ≡ id self.old }
         ensures of_plan { (plan : PlanView) → of_plan plan self.old → of_plan plan self.new }
-        ensures rows { IsPrefix (rows self.old) (rows self.new) };
+        ensures rows { IsPrefix (rows self.old) (rows self.new) }
+        ensures gone { gone self.new ≡ gone self.old };
 
     /// Makes inputs into items, one after another and at most so many, while each of its edges holds fewer items than the plan
     /// says, and says how many they were. It ends where all are made, and before one for which there is no memory.
@@ -110,10 +118,22 @@ pub trait Acts: Send + Drop {
         ensures most { IfOk result (λ count. count ≤ most) }
         // It fails only where there is no memory for the first one. Then it stands for the same numbers.
         ensures unchanged { OnErr result ((plan : PlanView) (inputs : List Input) (x : Node) → stands plan inputs self.old x → stands plan inputs self.new x) }
+        ensures inputs { (inputs : List Input) → admits self.new inputs → admits self.old inputs }
         // It stays the same node of the same plans, and the rows that it emitted stay.
         ensures id { id self.new ≡ id self.old }
         ensures of_plan { (plan : PlanView) → of_plan plan self.old → of_plan plan self.new }
-        ensures rows { IsPrefix (rows self.old) (rows self.new) };
+        ensures rows { IsPrefix (rows self.old) (rows self.new) }
+        ensures gone { gone self.new ≡ gone self.old };
+
+    /// Takes the next input that comes, which waits until it is made. It is no event of the machine. False where it takes none.
+    fn feed(&mut self, input: Input) -> Result<bool, OutOfMemory>
+        ensures inputs { (inputs : List Input) → admits self.new inputs → admits self.old inputs }
+        // It stands for the same numbers, of each list of inputs with which all that came begins.
+        ensures stands { (plan : PlanView) (inputs : List Input) (x : Node) → admits self.new inputs → stands plan inputs self.old x → stands plan inputs self.new x }
+        ensures id { id self.new ≡ id self.old }
+        ensures of_plan { (plan : PlanView) → of_plan plan self.old → of_plan plan self.new }
+        ensures rows { rows self.new ≡ rows self.old }
+        ensures gone { gone self.new ≡ gone self.old };
 
     /// How many items it has merged, where it is a replica that runs.
     fn merged(&self) -> Option<u64>
@@ -123,7 +143,22 @@ pub trait Acts: Send + Drop {
     fn is_done(&self) -> bool
         ensures { result ≡ done self.now };
 
-    /// The rows that egress emitted.
+    /// The rows that egress emitted, where it handed none of them on.
     fn emitted(&self) -> &[Row]
+        requires { gone self.now ≡ [] }
         ensures { result.now ≡ rows self.now };
+
+    /// The first row that egress emitted and did not hand on.
+    fn first(&self) -> Option<Row>
+        ensures { MatchOption result (gone self.now ≡ rows self.now) (λ row. IsPrefix (gone self.now ++ row ∷ []) (rows self.now)) };
+
+    /// Hands on the first row that it holds, and holds it no longer. It is no event of the machine.
+    fn let_go(&mut self) -> Option<Row>
+        ensures gone { MatchOption result ((gone self.new ≡ gone self.old) × (gone self.old ≡ rows self.old)) (λ row. gone self.new ≡ gone self.old ++ row ∷ []) }
+        ensures rows { rows self.new ≡ rows self.old }
+        // It stands for the same numbers, and is the same node of the same plans.
+        ensures stands { (plan : PlanView) (inputs : List Input) (x : Node) → stands plan inputs self.old x → stands plan inputs self.new x }
+        ensures inputs { (inputs : List Input) → admits self.new inputs → admits self.old inputs }
+        ensures id { id self.new ≡ id self.old }
+        ensures of_plan { (plan : PlanView) → of_plan plan self.old → of_plan plan self.new };
 }

@@ -8,7 +8,9 @@
 #![tactic(auto)]
 
 mod acts;
+mod limits;
 mod task;
 
 pub use acts::{Acts, Steps};
+pub use limits::PORTION;
 pub use task::Task;

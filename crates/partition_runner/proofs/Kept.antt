@@ -57,10 +57,12 @@ module _ {H K : Type 0} (node_in : H → NodeId) (entries_in : H → List Stampe
         distinct = subst AreDistinct (sym named) legal.distinct;
         rising = same_rising hs ks e legal.rising;
         nodes_are = legal.nodes_are;
+        came = legal.came;
+        held = legal.held;
         joint = λ log l. legal.joint log (record { in_order = l.in_order; whole = λ n. l.whole n ∙ same_history hs ks n e });
       }
 
-pub legal_told : (plan : PlanView) (inputs : List Input) (script : List Order) (left : Left) (ran : Ran) → IsLegalLeft plan inputs script left → IsToldOf left ran → IsLegalRun plan inputs script ran
+pub legal_told : (plan : PlanView) (inputs : List Input) (script : List Order) (left : Left LogView) (ran : Ran) → IsLegalLeft plan inputs script left → IsToldOf left ran → IsLegalRun plan inputs script ran
 legal_told plan inputs script left ran legal told =
     legal_kept (λ (h : History). h.node) (λ (h : History). h.entries.items) (λ (l : LogView). l.node) (λ (l : LogView). l.entries) plan inputs script ran.nodes.items ran.histories.items left.logs.items told.histories
     (subst (λ ns. IsLegalWith plan inputs script (λ (l : LogView). l.node) (λ (l : LogView). l.entries) ns left.logs.items) (sym told.nodes) legal)

@@ -3,3 +3,4 @@ pub mod Unlinked
 pub mod Kept
 pub mod Parts
 pub mod TapLaw
+pub mod AllFed

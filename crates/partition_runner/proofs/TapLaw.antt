@@ -8,6 +8,7 @@ use Rattle.tuple_edge.specs.declared.event.Stamped.{Stamped}
 use Rattle.tuple_edge.specs.declared.node.NodeId.{NodeId}
 use Rattle.tuple_edge.specs.declared.node.NodeId.TheVariants as node
 use Rattle.tuple_edge.specs.declared.row.Row.{Row}
+use Rattle.event_log.specs.Views.{LogView}
 use Rattle.plan_reader.specs.PlanView.{PlanView}
 use Rattle.pair_machine.specs.CountLaws.{output_first}
 use Rattle.pair_machine.specs.Joint.{AreRising, IsLog, log_by_clocks}
@@ -109,5 +110,6 @@ module _ (plan : PlanView) (inputs : List Input) (script : List Order) (parts : 
           (λ is. true≢false (sym (ap (λ n. is_node n node.Egress) (sym (ap (λ (x : NodeState × List Stamped). id_of x.0) same) ∙ is)) ∙ e))
       go false e (inr later) rest = rest later
 
-  pub tap_of_left : (given : List Row) (p : NodeState × List Stamped) → Among p parts → IsPrefix given (rows_of p.0) → (left : Left) → IsLeftOf parts left → IsPrefix given (emitted_in left.nodes.items)
-  tap_of_left given p among front left of_parts = subst (λ ns. IsPrefix given (emitted_in ns)) (sym of_parts.nodes) (tap_of_nodes given p parts parts_apart among front)
+  pub tap_of_left : {K : Type 0} (kept : K → LogView) (given : List Row) (p : NodeState × List Stamped) → Among p parts → IsPrefix given (rows_of p.0) → (left : Left K) → IsLeftOf kept parts left
+      → IsPrefix given (emitted_in left.nodes.items)
+  tap_of_left kept given p among front left of_parts = subst (λ ns. IsPrefix given (emitted_in ns)) (sym of_parts.nodes) (tap_of_nodes given p parts parts_apart among front)

@@ -19,7 +19,7 @@ use Rattle.linked_run.specs.Linked.{AreDistinct, AreLinked, IsLinkFrom, ids_of}
 use Rattle.run_node.specs.FirstLinks.{identity_to}
 use Rattle.plan_nodes.specs.NodeOrder.{nodes_before_egress, nodes_of}
 use Rattle.run_node.specs.NodeView.{NodeName}
-use Rattle.partition_runner.specs.Ready.{HaveTheirLinks}
+use Rattle.partition_runner.specs.Ready.{AreNodesOf, HaveTheirLinks}
 use Rattle.linked_run.specs.Runs.{any_tapped}
 use Rattle.linked_run.proofs.Joining.{same_ids}
 use Rattle.plan_nodes.proofs.NodeOrder.{Apart, all_there, nodes_apart, nodes_there}
@@ -100,6 +100,11 @@ have_links plan xs ys e g linked leads =
       };
       leads = subst (λ ns. Each (λ m. LeadsToAll plan m ns) ys) ids leads;
     }
+
+-- a plan has nodes
+pub some_nodes : {X : Type 0} (name : X → NodeName) (plan : PlanView) (xs : List X) → AreNodesOf plan (map name xs) → 0 < length xs
+some_nodes name plan [] h = let e : [] ≡ nodes_of plan = h.ids in let z : ⊥ = cc e in absurd z
+some_nodes name plan (x ∷ xs) h = omega arith
 
 -- ---- a node that has its links
 

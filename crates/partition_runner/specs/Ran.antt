@@ -17,7 +17,7 @@ use Rattle.pair_machine.specs.Numbers.{is_node}
 use Rattle.pair_machine.specs.Scripts.{AreWithin}
 use Rattle.pair_machine.specs.declared.order.Order.{Order}
 use Rattle.plan_nodes.specs.NodeOrder.{nodes_of}
-use Rattle.plan_nodes.specs.States.{StandsFor, id_of, rows_of}
+use Rattle.plan_nodes.specs.States.{AllCame, StandsFor, gone_of, id_of, rows_of}
 use Rattle.plan_nodes.specs.declared.state.NodeState.{NodeState}
 use Rattle.partition_runner.specs.declared.ran.Left.{Left}
 use Rattle.partition_runner.specs.declared.ran.Ran.{Ran}
@@ -32,12 +32,8 @@ abbrev pub history_among : {H : Type 0} → (H → NodeId) → (H → List Stamp
 history_among node_in entries_in [] n = []
 history_among node_in entries_in (h ∷ hs) n = if is_node (node_in h) n then entries_in h else history_among node_in entries_in hs n
 
--- the history of a node among logs
-abbrev pub history_in_logs : List LogView → NodeId → List Stamped
-history_in_logs logs = history_among (λ (l : LogView). l.node) (λ (l : LogView). l.entries) logs
-
 -- the same run, with the history of each node as a list
-pub record IsToldOf (left : Left) (ran : Ran) : Type 0 where
+pub record IsToldOf (left : Left LogView) (ran : Ran) : Type 0 where
   pub nodes : ran.nodes.items ≡ left.nodes.items
   pub histories : named_histories ran.histories.items ≡ named_logs left.logs.items
 
@@ -54,19 +50,25 @@ module _ (plan : PlanView) (inputs : List Input) (script : List Order) where
     pub stand : AllStand nodes reached
 
   -- What a run promises of its nodes, and of what happened at each, however that is kept. The nodes are those of the plan in their order, and
-  -- there is one history for each, with rising clocks. All events in the order of their clocks are legal and within the script, and each node
-  -- stands for its numbers in the state that they reach.
+  -- there is one history for each, with rising clocks. No more inputs come to them, and each holds all rows that it emitted. All events in the
+  -- order of their clocks are legal and within the script, and each node stands for its numbers in the state that they reach.
   pub record IsLegalWith {H : Type 0} (node_in : H → NodeId) (entries_in : H → List Stamped) (nodes : List NodeState) (kept : List H) : Type 0 where
     pub histories : map node_in kept ≡ nodes_of plan
     pub distinct : AreDistinct (map node_in kept)
     pub rising : Each (λ h. AreRising (entries_in h)) kept
     pub nodes_are : map id_of nodes ≡ nodes_of plan
+    pub came : Each AllCame nodes
+    pub held : Each (λ n. gone_of n ≡ []) nodes
     pub joint : (log : List Logged) → IsLog (history_among node_in entries_in kept) log → ReachesNodes nodes log
 
   -- what is promised of a run whose histories are logs
-  abbrev pub IsLegalLeft : Left → Type 0
+  abbrev pub IsLegalLeft : Left LogView → Type 0
   IsLegalLeft left = IsLegalWith (λ (l : LogView). l.node) (λ (l : LogView). l.entries) left.nodes.items left.logs.items
 
   -- what is promised of a run whose histories are lists
   abbrev pub IsLegalRun : Ran → Type 0
   IsLegalRun ran = IsLegalWith (λ (h : History). h.node) (λ (h : History). h.entries.items) ran.nodes.items ran.histories.items
+
+-- what is promised of a run whose histories are kept in some way, as it is where they are logs
+abbrev pub IsLegalKept : {K : Type 0} → (K → LogView) → PlanView → List Input → List Order → Left K → Type 0
+IsLegalKept {K = K} kept plan inputs script left = IsLegalWith plan inputs script (λ (l : K). (kept l).node) (λ (l : K). (kept l).entries) left.nodes.items left.logs.items

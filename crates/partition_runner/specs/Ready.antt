@@ -1,5 +1,8 @@
 -- The nodes of a run before their first turn.
 use Rattle.std.specs.Prelude.{◌≡◌, ◌<◌, ◌≤◌, ℕ, true, List, [], length, map}
+use Rattle.tuple_edge.specs.Input.{Input}
+use Rattle.event_log.specs.Views.{LogView}
+use Rattle.node_tasks.specs.Timely.{AreTimely}
 use Rattle.claim_board.specs.Board.{AllHoldNone, AreAll, opening_of}
 use Rattle.claim_board.specs.declared.board.Board.{Board}
 use Rattle.claim_board.specs.declared.seat.BoardSeat.{BoardSeat}
@@ -24,9 +27,10 @@ pub record HaveTheirLinks (plan : PlanView) (names : List NodeName) : Type 0 whe
   pub nodes : AreNodesOf plan names
   pub leads : Each (λ m. LeadsToAll plan m (nodes_of plan)) names
 
--- all nodes of a plan, by their names, are on a board with its seats, and there is room for what is left of so many nodes: a list
--- of this length and capacity, and one of nodes and of logs
-pub record IsReady {T : Type 0} (name : T → NodeName) (plan : PlanView) (board : Board T) (given : List (BoardSeat T)) (places held capacity : ℕ) (left : Left) : Type 0 where
+-- all nodes of a plan, by their names, are on a board with its seats, the inputs are timely, and there is room for what is left of so many
+-- nodes: a list of this length and capacity, and one of nodes and of logs
+pub record IsReady {T K : Type 0} (kept : K → LogView) (name : T → NodeName) (plan : PlanView) (inputs : List Input) (board : Board T) (given : List (BoardSeat T)) (places held capacity : ℕ) (left : Left K) : Type 0 where
+  pub timely : AreTimely inputs
   pub some : 0 < places
   pub opened : length (opening_of board) ≡ places
   pub seats : AreAll board given
@@ -34,4 +38,4 @@ pub record IsReady {T : Type 0} (name : T → NodeName) (plan : PlanView) (board
   pub nodes : AreNodesOf plan (map name (opening_of board))
   pub empty : held ≡ 0
   pub room : places ≤ capacity
-  pub left_room : IsLeftOf [] left
+  pub left_room : IsLeftOf kept [] left

@@ -10,8 +10,10 @@
 //! `run_node` for a node with its links, on `event_log` for their histories, and on `flux_link` for rings.
 #![tactic(auto)]
 
+mod fed;
 mod lossy_rings;
 mod making;
+mod names;
 mod ran;
 mod ready;
 mod rings;
@@ -19,7 +21,9 @@ mod runs;
 
 pub use linked_run::{FreeGate, Gate};
 pub use lossy_rings::LossyRings;
+pub use names::FedNames;
 pub use ran::{Left, Ran};
 pub use rings::Rings;
 pub use run_node::{Links, NoTap, RunNames, Tap};
-pub use runs::{Tapped, ready_tapped, run_logged, run_nodes, run_over, run_tapped};
+pub use runs::{Tapped, ready_tapped, run_logged, run_nodes, run_over, run_tapped, run_unlogged};
+pub use unwritten::Log as Unwritten;

@@ -4,28 +4,30 @@ ghost use Rattle.partition_runner.specs.Drafts.{all_unlinked, unlinked};
 ghost use Rattle.partition_runner.specs.Ready.{AreNodesOf, HaveTheirLinks};
 ghost use Rattle.plan_reader.specs.Nodes.{has_node};
 ghost use Rattle.plan_reader.specs.PlanView.{IsPlan};
-ghost use Rattle.node_tasks.specs.Timely.{AreTimely};
 ghost use Rattle.run_node.specs.NodeView.{name_of};
 ghost use Rattle.plan_nodes.specs.States.{id_of};
 ghost use Rattle.std.specs.Prelude.{◌≡◌, ◌≤◌, [], true, IfOk, IfSome, IsTrue, is_some, map, vec_capacity, vec_len};
 ghost use Rattle.trade_text.specs.TradesView.{inputs_in};
 
+use crate::fed::Fed;
+use crate::names::FedNames;
+use event_log::Keeps;
 use linked_run::connect_all;
-use plan_nodes::{NodeState, nodes_before_egress, opening_state};
+use plan_nodes::{nodes_before_egress, opening_state};
 use plan_reader::Plan;
-use run_node::{Draft, Links, Node, RunNames, Tap};
+use run_node::{Draft, Draws, Links, Node};
 use std::alloc::Global;
 use trade_text::Trades;
 use tuple_edge::{NodeId, OutOfMemory};
 
 // A node of the plan as it opens, with no link yet.
-fn draft_of<N: RunNames, M: Links, T: Tap>(
+fn draft_of<N: FedNames, M: Links, T: Draws>(
     alloc: Global,
     plan: &Plan,
     trades: &Trades,
     id: NodeId,
     tap: Option<T>,
-) -> Result<Draft<N, NodeState, M, T>, OutOfMemory>
+) -> Result<Draft<N, Fed<N>, M, T>, OutOfMemory>
     requires plan { plan.now ≡ N.plan }
     requires trades { inputs_in trades.now ≡ N.inputs }
     requires there { IsTrue (has_node plan.now id) }
@@ -33,16 +35,16 @@ fn draft_of<N: RunNames, M: Links, T: Tap>(
     ensures { IfOk result (λ d. d ≡ record { id = id; ins = []; outs = []; tapped = is_some tap }) }
 {
     let state = opening_state(alloc, plan, trades, id)?;
-    Ok(Draft::new(alloc, state, tap))
+    Ok(Draft::new(alloc, Fed::new(state), tap))
 }
 
 // The nodes of these names as they open, none with a link or a tap.
-fn untapped<N: RunNames, M: Links, T: Tap>(
+fn untapped<N: FedNames, M: Links, T: Draws>(
     alloc: Global,
     plan: &Plan,
     trades: &Trades,
     ids: &[NodeId],
-) -> Result<Vec<Draft<N, NodeState, M, T>>, OutOfMemory>
+) -> Result<Vec<Draft<N, Fed<N>, M, T>>, OutOfMemory>
     requires plan { plan.now ≡ N.plan }
     requires trades { inputs_in trades.now ≡ N.inputs }
     requires there { Each (λ n. has_node plan.now n ≡ true) ids.now }
@@ -57,12 +59,12 @@ fn untapped<N: RunNames, M: Links, T: Tap>(
 }
 
 // All nodes of the plan as they open, in their order, with no link yet; egress has the tap.
-fn drafts_of<N: RunNames, M: Links, T: Tap>(
+fn drafts_of<N: FedNames, M: Links, T: Draws>(
     alloc: Global,
     plan: &Plan,
     trades: &Trades,
     tap: T,
-) -> Result<Vec<Draft<N, NodeState, M, T>>, OutOfMemory>
+) -> Result<Vec<Draft<N, Fed<N>, M, T>>, OutOfMemory>
     requires plan { plan.now ≡ N.plan }
     requires trades { inputs_in trades.now ≡ N.inputs }
     requires tap { T.given tap ≡ [] }
@@ -75,33 +77,29 @@ fn drafts_of<N: RunNames, M: Links, T: Tap>(
 }
 
 // The nodes, which have their links now.
-fn finished<N: RunNames, M: Links, T: Tap>(
+fn finished<N: FedNames, K: Keeps, M: Links, T: Draws>(
     alloc: Global,
     plan: &Plan,
-    trades: &Trades,
-    drafts: Vec<Draft<N, NodeState, M, T>>,
-) -> Result<Vec<Node<N, NodeState, M, T>>, OutOfMemory>
+    drafts: Vec<Draft<N, Fed<N>, M, T>>,
+) -> Result<Vec<Node<N, Fed<N>, K, M, T>>, OutOfMemory>
     requires plan { plan.now ≡ N.plan }
-    requires trades { inputs_in trades.now ≡ N.inputs }
     requires links { HaveTheirLinks plan.now drafts.items }
     ensures { IfOk result (λ nodes. map (name_of id_of) nodes.items ≡ drafts.items) }
 {
-    // The clauses of these calls say that a plan and the times of trades are within the limits.
+    // This call's clause says that a plan is within the limits.
     let _stages = plan.stages();
-    let _rows = trades.rows();
     let mut nodes = Vec::with_capacity(alloc, drafts.len())?;
     finish_all(alloc, drafts, &mut nodes);
     Ok(nodes)
 }
 
 // Puts the nodes of these drafts, in their order, into a list with room for them.
-fn finish_all<N: RunNames, M: Links, T: Tap>(
+fn finish_all<N: FedNames, K: Keeps, M: Links, T: Draws>(
     alloc: Global,
-    drafts: Vec<Draft<N, NodeState, M, T>>,
-    nodes: &mut Vec<Node<N, NodeState, M, T>>,
+    drafts: Vec<Draft<N, Fed<N>, M, T>>,
+    nodes: &mut Vec<Node<N, Fed<N>, K, M, T>>,
 )
     requires planned { IsPlan N.plan }
-    requires timely { AreTimely N.inputs }
     requires links { HaveTheirLinks N.plan drafts.items }
     requires room { (vec_len nodes.old ≡ 0) × (vec_len drafts ≤ vec_capacity nodes.old) }
     ensures { map (name_of id_of) nodes.new.items ≡ drafts.items }
@@ -112,13 +110,13 @@ fn finish_all<N: RunNames, M: Links, T: Tap>(
 }
 
 /// All nodes of the plan as they open, in their order, with their links; egress has the tap.
-pub(crate) fn make_nodes<N: RunNames, M: Links, T: Tap>(
+pub(crate) fn make_nodes<N: FedNames, K: Keeps, M: Links, T: Draws>(
     alloc: Global,
     plan: &Plan,
     trades: &Trades,
     tap: T,
     links: &mut M,
-) -> Result<Vec<Node<N, NodeState, M, T>>, OutOfMemory>
+) -> Result<Vec<Node<N, Fed<N>, K, M, T>>, OutOfMemory>
     requires plan { plan.now ≡ N.plan }
     requires trades { inputs_in trades.now ≡ N.inputs }
     requires tap { T.given tap ≡ [] }
@@ -126,6 +124,6 @@ pub(crate) fn make_nodes<N: RunNames, M: Links, T: Tap>(
 {
     let mut drafts = drafts_of(alloc, plan, trades, tap)?;
     connect_all(alloc, plan, &mut drafts, links)?;
-    let nodes = finished(alloc, plan, trades, drafts)?;
+    let nodes = finished(alloc, plan, drafts)?;
     Ok(nodes)
 }

@@ -1,5 +1,7 @@
 // What a run gives.
-use event_log::{Log, histories};
+use crate::fed::Fed;
+use crate::names::FedNames;
+use event_log::{Keeps, Log, histories};
 use plan_nodes::NodeState;
 use run_node::Part;
 use std::alloc::Global;
@@ -14,28 +16,27 @@ pub struct Ran {
     pub histories: Vec<History>,
 }
 
-/// What the threads leave of a run: its nodes as they stand at its end, and the log of each.
+/// What the threads leave of a run: its nodes as they stand at its end, and the log of each, written or unwritten.
 #[derive(Drop)]
-pub struct Left {
+pub struct Left<K: Keeps = Log> {
     /// The nodes of the plan, in their order.
     pub nodes: Vec<NodeState>,
     /// One for each of them, in the same order.
-    pub logs: Vec<Log>,
+    pub logs: Vec<K>,
 }
 
-impl Left {
+impl<K: Keeps> Left<K> {
     ghost use Rattle.linked_run.specs.Runs.{parts_in};
     ghost use Rattle.pair_machine.specs.Lists.{Each};
     ghost use Rattle.partition_runner.specs.Parts.{IsLeftOf};
-    ghost use Rattle.partition_runner.specs.Ran.{IsToldOf};
-    ghost use Rattle.plan_nodes.specs.States.{id_of};
+    ghost use Rattle.plan_nodes.specs.States.{AllCame, id_of};
     ghost use Rattle.plan_nodes.specs.declared.state.NodeState.{NodeState};
     ghost use Rattle.std.specs.Prelude.{◌≡◌, ◌++◌, ◌∷◌, [], IfOk, List, OnOk};
     ghost use Rattle.tuple_edge.specs.declared.event.Stamped.{Stamped};
 
     /// Nothing yet, with room for what is left of so many nodes.
-    pub(crate) fn with_room(alloc: Global, nodes: usize) -> Result<Left, OutOfMemory>
-        ensures { IfOk result (IsLeftOf []) }
+    pub(crate) fn with_room(alloc: Global, nodes: usize) -> Result<Left<K>, OutOfMemory>
+        ensures { IfOk result (IsLeftOf K.kept []) }
     {
         let logs = Vec::with_capacity(alloc, nodes)?;
         let nodes = Vec::with_capacity(alloc, nodes)?;
@@ -43,22 +44,27 @@ impl Left {
     }
 
     // One part more.
-    fn add(&mut self, part: Part<NodeState>) -> Result<(), OutOfMemory>
-        requires { part.history.node ≡ id_of part.state }
-        ensures { OnOk result ((parts : List (NodeState × List Stamped)) → IsLeftOf parts self.old
-            → IsLeftOf (parts ++ (part.state, part.history.entries) ∷ []) self.new) }
+    fn add<N: FedNames>(&mut self, part: Part<Fed<N>, K>) -> Result<(), OutOfMemory>
+        requires named { (K.kept part.history).node ≡ id_of part.state }
+        ensures of_parts { OnOk result ((parts : List (NodeState × List Stamped)) → IsLeftOf K.kept parts self.old
+            → IsLeftOf K.kept (parts ++ (part.state, (K.kept part.history).entries) ∷ []) self.new) }
+        ensures came { OnOk result (Each AllCame self.old.nodes.items → Each AllCame self.new.nodes.items) }
     {
         let Part { state, history } = part;
-        self.nodes.push(state)?;
+        self.nodes.push(state.into_state())?;
         self.logs.push(history)?;
         Ok(())
     }
 
-    /// What is left in these parts, in the room that was made for it.
-    pub(crate) fn filled(self, parts: Vec<Part<NodeState>>) -> Result<Left, OutOfMemory>
-        requires room { IsLeftOf [] self }
-        requires named { Each (λ p. p.history.node ≡ id_of p.state) parts.items }
-        ensures { IfOk result (IsLeftOf (parts_in parts.items)) }
+    /// What is left in these parts, in the room that was made for it. No more inputs come to the nodes.
+    pub(crate) fn filled<N: FedNames>(
+        self,
+        parts: Vec<Part<Fed<N>, K>>,
+    ) -> Result<Left<K>, OutOfMemory>
+        requires room { IsLeftOf K.kept [] self }
+        requires named { Each (λ p. (K.kept p.history).node ≡ id_of p.state) parts.items }
+        ensures of_parts { IfOk result (IsLeftOf K.kept (parts_in K.kept parts.items)) }
+        ensures came { IfOk result (λ left. Each AllCame left.nodes.items) }
     {
         let mut left = self;
         for part in parts {
@@ -66,6 +72,11 @@ impl Left {
         }
         Ok(left)
     }
+}
+
+impl Left<Log> {
+    ghost use Rattle.partition_runner.specs.Ran.{IsToldOf};
+    ghost use Rattle.std.specs.Prelude.{IfOk};
 
     /// The same with the history of each node as a list.
     pub fn told(self, alloc: Global) -> Result<Ran, OutOfMemory>

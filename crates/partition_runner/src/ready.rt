@@ -1,20 +1,23 @@
 // A run that is ready: its nodes on the board, and room for what it leaves.
+ghost use Rattle.node_tasks.specs.Timely.{AreTimely};
 ghost use Rattle.pair_machine.specs.Lists.{Each};
 ghost use Rattle.plan_nodes.specs.NodeOrder.{nodes_of};
 ghost use Rattle.linked_run.specs.Runs.{IsRun, TapOfSome, parts_in};
 ghost use Rattle.partition_runner.specs.Parts.{IsLeftOf};
-ghost use Rattle.plan_nodes.specs.States.{StandsFor, id_of, rows_of};
-ghost use Rattle.std.specs.Prelude.{◌≡◌, ◌≤◌, ◌<◌, [], IfOk, Some, vec_capacity, vec_len};
+ghost use Rattle.plan_nodes.specs.States.{StandsFor, gone_of, id_of, rows_of};
+ghost use Rattle.std.specs.Prelude.{◌≡◌, ◌≤◌, ◌<◌, [], IfOk, Some, false, vec_capacity, vec_len};
 ghost use Rattle.trade_text.specs.TradesView.{inputs_in};
 
+use crate::fed::Fed;
 use crate::making::make_nodes;
+use crate::names::FedNames;
 use crate::ran::Left;
 use claim_board::{Board, BoardSeat};
+use event_log::Keeps;
 use failure_script::Script;
 use linked_run::{Gate, Shared, run_linked};
-use plan_nodes::NodeState;
 use plan_reader::Plan;
-use run_node::{Links, Node, Part, RunNames, Tap};
+use run_node::{Draws, Links, Node, Part};
 use std::alloc::Global;
 use std::marker::Model;
 use std::sync::atomic::AtomicBool;
@@ -25,16 +28,16 @@ use tuple_edge::OutOfMemory;
 
 // Room for what is left of the nodes of a plan: as it comes off the board, and as nodes and logs.
 #[derive(Drop)]
-struct Room {
-    parts: Vec<Part<NodeState>>,
-    left: Left,
+struct Room<N: FedNames, K: Keeps> {
+    parts: Vec<Part<Fed<N>, K>>,
+    left: Left<K>,
 }
 
-impl Room {
+impl<N: FedNames, K: Keeps> Room<N, K> {
     // Room for so many nodes.
-    fn new(alloc: Global, nodes: usize) -> Result<Room, OutOfMemory>
+    fn new(alloc: Global, nodes: usize) -> Result<Room<N, K>, OutOfMemory>
         ensures parts { IfOk result (λ room. (vec_len room.parts ≡ 0) × (nodes ≤ vec_capacity room.parts)) }
-        ensures left { IfOk result (λ room. IsLeftOf [] room.left) }
+        ensures left { IfOk result (λ room. IsLeftOf K.kept [] room.left) }
     {
         let parts = Vec::with_capacity(alloc, nodes)?;
         let left = Left::with_room(alloc, nodes)?;
@@ -45,14 +48,14 @@ impl Room {
 /// All nodes of a plan on the board, as they open, with their links, a tap beside egress, and room for
 /// what is left of them.
 #[derive(Drop)]
-pub(crate) struct Ready<N: RunNames, M: Links, T: Tap> {
-    board: Board<Node<N, NodeState, M, T>>,
-    seats: Vec<BoardSeat<Node<N, NodeState, M, T>>>,
+pub(crate) struct Ready<N: FedNames, K: Keeps, M: Links, T: Draws> {
+    board: Board<Node<N, Fed<N>, K, M, T>>,
+    seats: Vec<BoardSeat<Node<N, Fed<N>, K, M, T>>>,
     places: usize,
-    room: Room,
+    room: Room<N, K>,
 }
 
-impl<N: RunNames, M: Links, T: Tap> Model for Ready<N, M, T> {
+impl<N: FedNames, K: Keeps, M: Links, T: Draws> Model for Ready<N, K, M, T> {
     ghost use Rattle.claim_board.specs.Board.{opening_of};
     ghost use Rattle.partition_runner.specs.Ready.{IsReady};
     ghost use Rattle.run_node.specs.NodeView.{NodeName, name_of};
@@ -63,23 +66,33 @@ impl<N: RunNames, M: Links, T: Tap> Model for Ready<N, M, T> {
 
     ghost view = { λ r. map (name_of id_of) (opening_of r.board) };
 
-    ghost invariant = { λ r. IsReady (name_of id_of) N.plan r.board r.seats.items r.places (vec_len r.room.parts) (vec_capacity r.room.parts) r.room.left };
+    ghost invariant = { λ r. IsReady K.kept (name_of id_of) N.plan N.inputs r.board r.seats.items r.places (vec_len r.room.parts) (vec_capacity r.room.parts) r.room.left };
+}
+
+// The times of the inputs of a run are within the limits.
+fn times_of<N: FedNames>(trades: &Trades)
+    requires { inputs_in trades.now ≡ N.inputs }
+    ensures { AreTimely N.inputs }
+{
+    // This call's clause says so of the trades.
+    let _rows = trades.rows();
 }
 
 /// Makes the nodes, their links and the board for so many workers.
-pub(crate) fn make_ready<N: RunNames, M: Links, T: Tap + Send>(
+pub(crate) fn make_ready<N: FedNames, K: Keeps + Send, M: Links, T: Draws + Send>(
     alloc: Global,
     plan: &Plan,
     trades: &Trades,
     threads: u32,
     links: &mut M,
     tap: T,
-) -> Result<Ready<N, M, T>, OutOfMemory>
+) -> Result<Ready<N, K, M, T>, OutOfMemory>
     requires plan { plan.now ≡ N.plan }
     requires trades { inputs_in trades.now ≡ N.inputs }
     requires threads { 0 < threads }
     requires tap { T.given tap ≡ [] }
 {
+    times_of::<N>(trades);
     let nodes = make_nodes(alloc, plan, trades, tap, links)?;
     let places = nodes.len();
     let room = Room::new(alloc, places)?;
@@ -97,9 +110,9 @@ pub(crate) fn make_ready<N: RunNames, M: Links, T: Tap + Send>(
 /// What a run that has ended leaves: its nodes with their histories, in the order of nodes, room for them as nodes
 /// and logs, the tap, and whether a worker found no memory.
 #[derive(Drop)]
-pub(crate) struct Ended<T: Tap> {
-    pub(crate) parts: Vec<Part<NodeState>>,
-    pub(crate) room: Left,
+pub(crate) struct Ended<N: FedNames, K: Keeps, T: Draws> {
+    pub(crate) parts: Vec<Part<Fed<N>, K>>,
+    pub(crate) room: Left<K>,
     pub(crate) tap: T,
     pub(crate) failed: bool,
 }
@@ -107,21 +120,29 @@ pub(crate) struct Ended<T: Tap> {
 /// Runs what is ready, each seat in a thread. All nodes of the plan come back in their order, each with
 /// its history; all events in the order of their clocks are legal and within the script, and each node
 /// stands for its numbers in the state that they reach.
-pub(crate) fn run_ready<N: RunNames, M: Links, T: Tap + Send, R: Threads + Sync, G: Gate>(
+pub(crate) fn run_ready<
+    N: FedNames,
+    K: Keeps + Send,
+    M: Links,
+    T: Draws + Send,
+    R: Threads + Sync,
+    G: Gate,
+>(
     rt: &R,
     plan: &Plan,
     script: &Script,
     turns: u64,
     gate: &G,
     links: &mut M,
-    ready: Ready<N, M, T>,
-) -> Ended<T>
+    ready: Ready<N, K, M, T>,
+) -> Ended<N, K, T>
     requires plan { plan.now ≡ N.plan }
     requires script { script.now ≡ N.script }
-    ensures run { IsRun id_of StandsFor N.plan N.inputs N.script (nodes_of N.plan) (parts_in result.parts.items) }
-    ensures tap { TapOfSome T.given rows_of (Some result.tap) (parts_in result.parts.items) }
-    ensures named { Each (λ p. p.history.node ≡ id_of p.state) result.parts.items }
-    ensures room { IsLeftOf [] result.room }
+    ensures run { IsRun id_of StandsFor N.plan N.inputs N.script (nodes_of N.plan) (parts_in K.kept result.parts.items) }
+    ensures tap { TapOfSome T.given rows_of (Some result.tap) (parts_in K.kept result.parts.items) }
+    ensures named { Each (λ p. (K.kept p.history).node ≡ id_of p.state) result.parts.items }
+    ensures held { T.lets_go ≡ false → Each (λ p. gone_of p.0 ≡ []) (parts_in K.kept result.parts.items) }
+    ensures room { IsLeftOf K.kept [] result.room }
 {
     // This call's clause says that a plan is within the limits.
     let _stages = plan.stages();

@@ -1,33 +1,36 @@
-// Runs: over rings, over any links, and with a tap beside egress.
+// Runs: over rings, over any links, and with a tap beside egress; with written histories, and with unwritten ones.
 ghost use mathlib.Core.List.{IsPrefix};
 ghost use Rattle.pair_machine.specs.Output.{output};
-ghost use Rattle.partition_runner.specs.Ran.{IsLegalLeft, IsLegalRun, emitted_in};
-ghost use Rattle.std.specs.Prelude.{◌≡◌, ◌≤◌, [], IfOk, MatchResult};
+ghost use Rattle.partition_runner.specs.Ran.{IsLegalKept, IsLegalLeft, IsLegalRun, emitted_in};
+ghost use Rattle.std.specs.Prelude.{◌≡◌, ◌≤◌, [], IfOk, MatchResult, false};
 ghost use Rattle.trade_text.specs.TradesView.{inputs_in};
 ghost use Rattle.tuple_edge.specs.Limits.{max_threads};
 
+use crate::names::FedNames;
 use crate::ran::{Left, Ran};
 use crate::ready::{Ended, Ready, make_ready, run_ready};
 use crate::rings::Rings;
+use event_log::{Keeps, Log};
 use failure_script::Script;
 use linked_run::Gate;
 use plan_reader::Plan;
-use run_node::{Links, NoTap, RunNames, Tap};
+use run_node::{Draws, Links, NoTap, Offers, Tap};
 use std::alloc::Global;
 use std::marker::Brand;
 use std::thread::Threads;
 use trade_text::Trades;
 use tuple_edge::OutOfMemory;
+use unwritten::Log as Unwritten;
 
 /// A run that is ready, over rings, with a tap beside egress.
 #[derive(Drop)]
-pub struct Tapped<N: RunNames, T: Tap> {
-    ready: Ready<N, Rings, T>,
+pub struct Tapped<N: FedNames, T: Tap> {
+    ready: Ready<N, Unwritten, Rings, Offers<T>>,
 }
 
 /// Makes the nodes of a plan as they open, the rings between them and the board for so many workers, with a
 /// tap beside egress. The names are those of the plan, its trades and the script.
-pub fn ready_tapped<N: RunNames, T: Tap + Send>(
+pub fn ready_tapped<N: FedNames, T: Tap + Send>(
     alloc: Global,
     plan: &Plan,
     trades: &Trades,
@@ -44,23 +47,24 @@ pub fn ready_tapped<N: RunNames, T: Tap + Send>(
 {
     // Whoever makes it ready says under which script it will run.
     let _orders = script.orders();
-    let ready = make_ready(alloc, plan, trades, threads, &mut Rings, tap)?;
+    let ready = make_ready(alloc, plan, trades, threads, &mut Rings, Offers { tap })?;
     Ok(Tapped { ready })
 }
 
 // What a run comes to that is ready, over any links.
-fn run_named<N: RunNames, M: Links, T: Tap + Send, R: Threads + Sync, G: Gate>(
+fn run_named<N: FedNames, K: Keeps + Send, M: Links, T: Draws + Send, R: Threads + Sync, G: Gate>(
     rt: &R,
     plan: &Plan,
     script: &Script,
     turns: u64,
     gate: &G,
     links: &mut M,
-    ready: Ready<N, M, T>,
-) -> (Result<Left, OutOfMemory>, T)
+    ready: Ready<N, K, M, T>,
+) -> (Result<Left<K>, OutOfMemory>, T)
     requires plan { plan.now ≡ N.plan }
     requires script { script.now ≡ N.script }
-    ensures run { IfOk result.0 (IsLegalLeft N.plan N.inputs N.script) }
+    requires holds { T.lets_go ≡ false }
+    ensures run { IfOk result.0 (IsLegalKept K.kept N.plan N.inputs N.script) }
     ensures tap { MatchResult result.0 (λ left. IsPrefix (T.given result.1) (emitted_in left.nodes.items)) (λ _. IsPrefix (T.given result.1) (output N.plan N.inputs)) }
 {
     let Ended {
@@ -81,8 +85,9 @@ fn run_named<N: RunNames, M: Links, T: Tap + Send, R: Threads + Sync, G: Gate>(
 ///
 /// There is one history for each node of the plan, in the order of nodes, with rising clocks. All events in
 /// the order of their clocks are legal and within the script, and each node stands for its numbers in the
-/// state that they reach. The tap gave on the first of egress's rows; without memory, of the output.
-pub fn run_tapped<R: Threads + Sync, G: Gate, N: RunNames, T: Tap + Send>(
+/// state that they reach. The tap gave on the first of egress's rows; without memory, of the output. The histories are not
+/// written: proofs alone know them.
+pub fn run_tapped<R: Threads + Sync, G: Gate, N: FedNames, T: Tap + Send>(
     rt: &R,
     _alloc: Global,
     plan: &Plan,
@@ -91,7 +96,7 @@ pub fn run_tapped<R: Threads + Sync, G: Gate, N: RunNames, T: Tap + Send>(
     turns: u64,
     gate: &G,
     ready: Tapped<N, T>,
-) -> (Result<Left, OutOfMemory>, T)
+) -> (Result<Left<Unwritten>, OutOfMemory>, T)
     requires plan { plan.now ≡ N.plan }
     requires trades { inputs_in trades.now ≡ N.inputs }
     requires script { script.now ≡ N.script }
@@ -101,11 +106,12 @@ pub fn run_tapped<R: Threads + Sync, G: Gate, N: RunNames, T: Tap + Send>(
     // The trades are those of the names that it was made ready under.
     let _rows = trades.rows();
     let Tapped { ready } = ready;
-    run_named(rt, plan, script, turns, gate, &mut Rings, ready)
+    let (left, Offers { tap }) = run_named(rt, plan, script, turns, gate, &mut Rings, ready);
+    (left, tap)
 }
 
 // The same over any links, with no tap, of names that are the plan's.
-fn run_with<N: RunNames, R: Threads + Sync, M: Links, G: Gate>(
+fn run_with<N: FedNames, K: Keeps + Send, R: Threads + Sync, M: Links, G: Gate>(
     rt: &R,
     alloc: Global,
     plan: &Plan,
@@ -115,14 +121,17 @@ fn run_with<N: RunNames, R: Threads + Sync, M: Links, G: Gate>(
     turns: u64,
     links: &mut M,
     gate: &G,
-) -> Result<Left, OutOfMemory>
+) -> Result<Left<K>, OutOfMemory>
     requires plan { plan.now ≡ N.plan }
     requires trades { inputs_in trades.now ≡ N.inputs }
     requires script { script.now ≡ N.script }
     requires some { 1 ≤ threads }
-    ensures { IfOk result (IsLegalLeft plan.now (inputs_in trades.now) script.now) }
+    ensures { IfOk result (IsLegalKept K.kept plan.now (inputs_in trades.now) script.now) }
 {
-    let ready: Ready<N, M, NoTap> = make_ready(alloc, plan, trades, threads, links, NoTap)?;
+    let tap = Offers { tap: NoTap };
+    let ready: Ready<N, K, M, Offers<NoTap>> = make_ready(
+        alloc, plan, trades, threads, links, tap,
+    )?;
     let (left, _tap) = run_named(rt, plan, script, turns, gate, links, ready);
     left
 }
@@ -147,13 +156,13 @@ pub fn run_over<R: Threads + Sync, M: Links, G: Gate>(
     requires few { threads ≤ max_threads }
     ensures { IfOk result (IsLegalRun plan.now (inputs_in trades.now) script.now) }
 {
-    let left = run_with::<Brand, R, M, G>(
+    let left = run_with::<Brand, Log, R, M, G>(
         rt, alloc, plan, trades, script, threads, turns, links, gate,
     )?;
     left.told(alloc)
 }
 
-/// The same over rings, with the histories as logs.
+/// The same over rings, with the histories as logs that are written.
 pub fn run_logged<R: Threads + Sync, G: Gate>(
     rt: &R,
     alloc: Global,
@@ -168,7 +177,27 @@ pub fn run_logged<R: Threads + Sync, G: Gate>(
     requires few { threads ≤ max_threads }
     ensures { IfOk result (IsLegalLeft plan.now (inputs_in trades.now) script.now) }
 {
-    run_with::<Brand, R, Rings, G>(
+    run_with::<Brand, Log, R, Rings, G>(
+        rt, alloc, plan, trades, script, threads, turns, &mut Rings, gate,
+    )
+}
+
+/// The same with histories that are not written: proofs alone know them, and they take no memory.
+pub fn run_unlogged<R: Threads + Sync, G: Gate>(
+    rt: &R,
+    alloc: Global,
+    plan: &Plan,
+    trades: &Trades,
+    script: &Script,
+    threads: u32,
+    turns: u64,
+    gate: &G,
+) -> Result<Left<Unwritten>, OutOfMemory>
+    requires some { 1 ≤ threads }
+    requires few { threads ≤ max_threads }
+    ensures { IfOk result (IsLegalLeft plan.now (inputs_in trades.now) script.now) }
+{
+    run_with::<Brand, Unwritten, R, Rings, G>(
         rt, alloc, plan, trades, script, threads, turns, &mut Rings, gate,
     )
 }

@@ -5,7 +5,3 @@ use Rattle.std.specs.Prelude.{ℕ}
 -- one saves hardly any.
 abbrev pub long_mark : ℕ
 long_mark = 512
-
--- how many rows ingress makes at most in a turn of a run; a smaller hold ends its turns before
-abbrev pub turn_rows : ℕ
-turn_rows = 64

@@ -3,6 +3,7 @@ use Rattle.std.specs.Prelude.{ℕ, ℤ, ◌+◌, ◌==◌, Bool, List, [], ◌�
 use Rattle.std.specs.Fmt.{decimal, signed_decimal}
 use Rattle.std.specs.List.{join_with_byte}
 use Rattle.tuple_edge.specs.Node.{partner_node}
+use Rattle.tuple_edge.specs.declared.node.NodeId.{NodeId}
 use Rattle.tuple_edge.specs.declared.row.Column.{Column}
 use Rattle.op_spec.specs.declared.spec.Compare.{Compare}
 use Rattle.op_spec.specs.declared.spec.OpSpec.{OpSpec}
@@ -91,14 +92,18 @@ abbrev pub trades_sentences : Option TradesView → List ℕ
 trades_sentences None = []
 trades_sentences (Some trades) = count_sentence (length trades.rows)
 
--- when the replica of an order is asked for again
+-- that a replica may be asked for by its partner once that has merged so many items
+abbrev pub asked_text : NodeId → ℕ → List ℕ
+asked_text partner back = codes "; " ++ node_name partner ++ codes " may ask it back once it has merged " ++ decimal back
+
+-- when the replica of an order may be asked for again
 abbrev pub return_text : Order → Option ℕ → List ℕ
 return_text o None = codes "; it isn't asked back"
-return_text o (Some back) = codes "; " ++ node_name (partner_node o.node) ++ codes " asks it back once it has merged " ++ decimal back
+return_text o (Some back) = asked_text (partner_node o.node) back
 
--- what happens to the replica of an order
+-- what may happen to the replica of an order
 abbrev pub kind_text : Bool → List ℕ
-kind_text kill = if kill then codes "fails" else codes "asks to be stopped"
+kind_text kill = if kill then codes "may fail" else codes "may ask to be stopped"
 
 -- the sentence of an order
 abbrev pub order_sentence : Order → List ℕ

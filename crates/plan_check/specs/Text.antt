@@ -13,7 +13,7 @@ use Rattle.plan_check.specs.declared.warning.Warning.TheVariants as warning
 
 -- what isn't done for want of a partner
 abbrev pub alone_text : Bool → List ℕ
-alone_text back = if back then codes "isn't asked back then" else codes "isn't stopped then"
+alone_text back = if back then codes "isn't asked back" else codes "isn't stopped"
 
 -- what is hardly meant
 abbrev pub warned : Warning → List ℕ
@@ -25,7 +25,7 @@ warned (warning.SplitKeys s) =
 warned (warning.SumsOfSums s sums) = stage_text s ++ codes ": it adds up rows that are sums already, those of " ++ stage_text sums
 warned (warning.Unsafe first second) = codes "the script isn't safe, as " ++ order_text first ++ codes " and " ++ order_text second ++ codes " are of one pair; it may be lost"
 warned (warning.Alone o back items partner) =
-    order_text o ++ codes ": by " ++ order_text partner ++ codes " no partner is up after " ++ decimal items ++ codes " items, so it " ++ alone_text back
+    order_text o ++ codes ": by " ++ order_text partner ++ codes " its partner may be down after " ++ decimal items ++ codes " items, and then it " ++ alone_text back
 
 -- the line of a warning
 abbrev pub warning_line : Warning → List ℕ

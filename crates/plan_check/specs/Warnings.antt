@@ -5,7 +5,8 @@ use Rattle.plan_reader.specs.PlanView.{PlanView}
 use Rattle.plan_reader.specs.declared.stage.Stage.{Stage}
 use Rattle.pair_machine.specs.declared.order.Order.{Order}
 use Rattle.failure_script.specs.Orders.{are_of_one_pair, are_unsafe, is_reached}
-use Rattle.plan_check.specs.Limits.{long_mark, turn_rows}
+use Rattle.node_tasks.specs.Limits.{portion}
+use Rattle.plan_check.specs.Limits.{long_mark}
 use Rattle.plan_check.specs.Sums.{adds_up, counts_again, splits_keys}
 use Rattle.plan_check.specs.declared.warning.Numbered.{Numbered}
 use Rattle.plan_check.specs.declared.warning.Warning.{Warning}
@@ -25,9 +26,9 @@ merges_edges plan = nat_lt 1 plan.version || list_any (λ s. nat_lt 1 s.parts) p
 abbrev pub mark_warnings : PlanView → List Warning
 mark_warnings plan = where_so (nat_lt long_mark plan.mark && merges_edges plan) (warning.LongMark plan.mark)
 
--- a hold by which ingress ends its turns early
+-- a hold by which ingress ends its turns before it has made as many rows as a turn may
 abbrev pub hold_warnings : PlanView → List Warning
-hold_warnings plan = where_so (nat_lt plan.hold turn_rows) (warning.ShortHold plan.hold)
+hold_warnings plan = where_so (nat_lt plan.hold portion) (warning.ShortHold plan.hold)
 
 -- ---- its stages
 
@@ -65,7 +66,7 @@ plan_warnings plan = mark_warnings plan ++ hold_warnings plan ++ stage_warnings 
 abbrev pub is_down_at : ℕ → Order → Bool
 is_down_at items o = nat_le o.at items && not (is_reached items o.back)
 
--- a stop for which no partner is up when it is due
+-- a stop whose partner may be down when it is due: each replica counts what it has merged itself, so none of them knows
 abbrev pub stop_warnings : Order → Order → List Warning
 stop_warnings o partner = where_so (not o.kill && is_down_at o.at partner) (warning.Alone o false o.at partner)
 
@@ -74,7 +75,7 @@ stop_warnings o partner = where_so (not o.kill && is_down_at o.at partner) (warn
 abbrev pub is_down_beside : Order → ℕ → Order → Bool
 is_down_beside o items partner = is_down_at items partner && (partner.kill || nat_lt partner.at o.at)
 
--- A back for which no partner is up when it is due. One that is asked for early is due once its replica is down.
+-- A back whose partner may be down when it is due. One that is asked for early is due once its replica is down.
 abbrev pub back_warnings : Order → Option ℕ → Order → List Warning
 back_warnings o None partner = []
 back_warnings o (Some back) partner = where_so (is_down_beside o (max o.at back) partner) (warning.Alone o true (max o.at back) partner)
@@ -83,7 +84,7 @@ back_warnings o (Some back) partner = where_so (is_down_beside o (max o.at back)
 abbrev pub alone_warnings : Order → Order → List Warning
 alone_warnings o partner = stop_warnings o partner ++ back_warnings o o.back partner
 
--- two orders: whether they make the script unsafe, and where they are of one pair, which is due while no partner is up
+-- two orders: whether they make the script unsafe, and where they are of one pair, which may be due while its partner is down
 abbrev pub two_warnings : Order → Order → List Warning
 two_warnings x y = where_so (are_unsafe x y) (warning.Unsafe x y) ++ (if are_of_one_pair x.node y.node then alone_warnings x y ++ alone_warnings y x else [])
 

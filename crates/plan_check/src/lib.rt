@@ -4,7 +4,8 @@
 //! It promises that the text and the number of warnings are those of the definitions, in which each warning has a
 //! condition of its own; and that a stage that isn't warned of for its key answers each row as one partition would to
 //! which all rows of the key came. It stands on plan_reader for plans, on failure_script for scripts, on trade_text for
-//! trades, on run_journal for the names of nodes, and on bucket_move for which key holds which column.
+//! trades, on run_journal for the names of nodes, on bucket_move for which key holds which column, and on node_tasks for
+//! how much a node does in a turn.
 #![tactic(auto)]
 
 mod check;
@@ -22,4 +23,4 @@ mod words;
 
 pub use check::{Checked, write_check};
 pub use law::{ends_stay_together, keys_stay_together, unsafe_scripts_are_told, worked_rows};
-pub use limits::{LONG_MARK, TURN_ROWS};
+pub use limits::LONG_MARK;

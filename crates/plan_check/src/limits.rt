@@ -3,6 +3,3 @@
 /// The greatest mark under which partitions don't wait long: rows of the largest plan, of 344 edges, have
 /// less than one mark each to go with them then, so that a longer one saves hardly any.
 pub const LONG_MARK: u64 = 512;
-
-/// How many rows ingress makes at most in a turn of a run; a smaller hold ends its turns before.
-pub const TURN_ROWS: u64 = 64;

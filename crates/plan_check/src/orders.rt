@@ -1,31 +1,41 @@
 // What a script's orders ask for, in sentences.
 ghost use Rattle.std.specs.Prelude.{◌≡◌, ◌++◌, flat_map, OnOk, option_map, string_bytes};
-ghost use Rattle.plan_check.specs.Sentences.{kind_text, order_sentence, orders_text, return_text, script_sentences};
+ghost use Rattle.plan_check.specs.Sentences.{asked_text, kind_text, order_sentence, orders_text, return_text, script_sentences};
 
 use crate::words;
 use failure_script::Script;
 use pair_machine::Order;
 use run_journal::push_node;
-use tuple_edge::OutOfMemory;
+use tuple_edge::{NodeId, OutOfMemory};
 
-// What happens to the replica of an order.
+// What may happen to the replica of an order.
 fn kind_text(kill: bool) -> &'static str
     ensures { result.now ≡ kind_text kill }
 {
-    if kill { "fails" } else { "asks to be stopped" }
+    if kill {
+        "may fail"
+    } else {
+        "may ask to be stopped"
+    }
 }
 
-// Appends when the replica of an order is asked for again.
+// Appends that a replica may be asked for by its partner.
+fn push_asked(text: &mut String, partner: NodeId, back: u64) -> Result<(), OutOfMemory>
+    ensures { OnOk result (string_bytes text.new ≡ string_bytes text.old ++ asked_text partner back) }
+{
+    text.push_str("; ")?;
+    push_node(text, partner)?;
+    write!(text, " may ask it back once it has merged {back}")?;
+    Ok(())
+}
+
+// Appends when the replica of an order may be asked for again.
 fn push_return(text: &mut String, order: &Order) -> Result<(), OutOfMemory>
     ensures { OnOk result (string_bytes text.new ≡ string_bytes text.old ++ return_text order.now order.now.back) }
 {
     match order.back {
         None => text.push_str("; it isn't asked back")?,
-        Some(back) => {
-            text.push_str("; ")?;
-            push_node(text, order.node.partner())?;
-            write!(text, " asks it back once it has merged {back}")?;
-        }
+        Some(back) => push_asked(text, order.node.partner(), back)?,
     }
     Ok(())
 }

@@ -3,9 +3,10 @@ ghost use Rattle.std.specs.Prelude.{◌≡◌, ◌++◌, nat_lt, None, OnOk};
 ghost use Rattle.std.specs.List.{list_any};
 ghost use Rattle.plan_check.specs.Warnings.{first_sums, mark_warnings, hold_warnings, merges_edges, plan_warnings, split_warnings, stage_warnings, sums_warnings, where_so};
 
-use crate::limits::{LONG_MARK, TURN_ROWS};
+use crate::limits::LONG_MARK;
 use crate::sums::{adds_up, counts_again, splits_keys};
 use crate::warning::{Numbered, Warning};
+use node_tasks::PORTION;
 use plan_reader::{Plan, Stage};
 use tuple_edge::OutOfMemory;
 
@@ -45,7 +46,7 @@ fn push_settings(found: &mut Vec<Warning>, plan: &Plan) -> Result<(), OutOfMemor
     let hold = plan.hold();
     let is_long = mark > LONG_MARK && merges_edges(plan);
     push_if(found, is_long, Warning::LongMark { mark })?;
-    push_if(found, hold < TURN_ROWS, Warning::ShortHold { hold })
+    push_if(found, hold < PORTION, Warning::ShortHold { hold })
 }
 
 // Appends the warning of a stage that adds up sums, where an earlier one gives them.

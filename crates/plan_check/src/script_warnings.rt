@@ -56,7 +56,7 @@ fn is_down_beside(other: &Order, items: u64, order: &Order) -> bool
     is_down_at(items, order) && (order.kill || order.at < other.at)
 }
 
-// Appends the warning of a stop that is due while no partner is up.
+// Appends the warning of a stop that may be due while its partner is down.
 fn push_stop(found: &mut Vec<Warning>, order: &Order, partner: &Order) -> Result<(), OutOfMemory>
     ensures { OnOk result (found.new.items ≡ found.old.items ++ stop_warnings order.now partner.now) }
 {
@@ -70,7 +70,7 @@ fn push_stop(found: &mut Vec<Warning>, order: &Order, partner: &Order) -> Result
     push_if(found, is_alone, warning)
 }
 
-// Appends the warning of a back that is due while no partner is up.
+// Appends the warning of a back that may be due while its partner is down.
 fn push_back(found: &mut Vec<Warning>, order: &Order, partner: &Order) -> Result<(), OutOfMemory>
     ensures { OnOk result (found.new.items ≡ found.old.items ++ back_warnings order.now order.now.back partner.now) }
 {

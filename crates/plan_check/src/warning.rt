@@ -3,14 +3,14 @@ use pair_machine::Order;
 use plan_reader::Stage;
 
 /// A stage with its number, from 1.
-#[derive(Clone, Copy, Debug, PartialEq, Eq)]
+#[derive(Clone, Copy)]
 pub(crate) struct Numbered {
     pub(crate) number: usize,
     pub(crate) stage: Stage,
 }
 
 /// What is hardly meant about a plan or a script.
-#[derive(Clone, Copy, Debug, PartialEq, Eq)]
+#[derive(Clone, Copy)]
 pub(crate) enum Warning {
     /// Where no row comes on an edge, partitions wait for up to so many rows.
     LongMark {
@@ -34,7 +34,7 @@ pub(crate) enum Warning {
         first: Order,
         second: Order,
     },
-    /// An order, or its back, is due after so many items, while its partner is down by another one.
+    /// An order, or its back, is due after so many items, while its partner may be down by another one.
     Alone {
         order: Order,
         back: bool,

@@ -9,6 +9,28 @@ use crate::words::{push_order, push_stage};
 use pair_machine::Order;
 use tuple_edge::OutOfMemory;
 
+// Appends that partitions wait long for an edge without rows.
+fn push_long_mark(text: &mut String, mark: u64) -> Result<(), OutOfMemory>
+    ensures { OnOk result (string_bytes text.new ≡ string_bytes text.old ++ warned (warning.LongMark mark)) }
+{
+    write!(
+        text,
+        "mark {mark}: a partition to which no row comes on some edge waits for up to so many rows"
+    )?;
+    Ok(())
+}
+
+// Appends that ingress stops in the midst of its turns.
+fn push_short_hold(text: &mut String, hold: u64) -> Result<(), OutOfMemory>
+    ensures { OnOk result (string_bytes text.new ≡ string_bytes text.old ++ warned (warning.ShortHold hold)) }
+{
+    write!(
+        text,
+        "hold {hold}: ingress stops once an edge holds so many items, and partitions wait for its next turn"
+    )?;
+    Ok(())
+}
+
 // Appends that rows of one key come to several partitions.
 fn push_split(text: &mut String, stage: &Numbered) -> Result<(), OutOfMemory>
     ensures { OnOk result (string_bytes text.new ≡ string_bytes text.old ++ warned (warning.SplitKeys stage.now)) }
@@ -50,13 +72,13 @@ fn alone_text(back: bool) -> &'static str
     ensures { result.now ≡ alone_text back }
 {
     if back {
-        "isn't asked back then"
+        "isn't asked back"
     } else {
-        "isn't stopped then"
+        "isn't stopped"
     }
 }
 
-// Appends that no partner is up when an order, or its back, is due.
+// Appends that the partner may be down when an order, or its back, is due.
 fn push_alone(
     text: &mut String,
     order: &Order,
@@ -70,7 +92,10 @@ fn push_alone(
     push_order(text, order)?;
     text.push_str(": by ")?;
     push_order(text, partner)?;
-    write!(text, " no partner is up after {items} items, so it {what}")?;
+    write!(
+        text,
+        " its partner may be down after {items} items, and then it {what}"
+    )?;
     Ok(())
 }
 
@@ -79,20 +104,8 @@ fn push_warned(text: &mut String, warning: &Warning) -> Result<(), OutOfMemory>
     ensures { OnOk result (string_bytes text.new ≡ string_bytes text.old ++ warned warning.now) }
 {
     match warning {
-        Warning::LongMark { mark } => {
-            write!(
-                text,
-                "mark {mark}: a partition to which no row comes on some edge waits for up to so many rows"
-            )?;
-            Ok(())
-        }
-        Warning::ShortHold { hold } => {
-            write!(
-                text,
-                "hold {hold}: ingress stops once an edge holds so many items, and partitions wait for its next turn"
-            )?;
-            Ok(())
-        }
+        Warning::LongMark { mark } => push_long_mark(text, *mark),
+        Warning::ShortHold { hold } => push_short_hold(text, *hold),
         Warning::SplitKeys { stage } => push_split(text, stage),
         Warning::SumsOfSums { stage, sums } => push_sums(text, stage, sums),
         Warning::Unsafe { first, second } => push_unsafe(text, first, second),

@@ -44,6 +44,42 @@ fn push_keep(
     Ok(())
 }
 
+// Appends the words of the sums so far.
+fn push_total(text: &mut String, by: By) -> Result<(), OutOfMemory>
+    ensures { OnOk result (string_bytes text.new ≡ string_bytes text.old ++ op_text (op.Total by)) }
+{
+    let by = by_name(by);
+    write!(text, "total {by}")?;
+    Ok(())
+}
+
+// Appends the words of the sums of the last rows.
+fn push_last(text: &mut String, by: By, rows: u32) -> Result<(), OutOfMemory>
+    ensures { OnOk result (string_bytes text.new ≡ string_bytes text.old ++ op_text (op.Last by rows)) }
+{
+    let by = by_name(by);
+    write!(text, "last {by} {rows}")?;
+    Ok(())
+}
+
+// Appends the words of a window.
+fn push_window(text: &mut String, by: By, width: i64) -> Result<(), OutOfMemory>
+    ensures { OnOk result (string_bytes text.new ≡ string_bytes text.old ++ op_text (op.Window by width)) }
+{
+    let by = by_name(by);
+    write!(text, "window {by} {width}")?;
+    Ok(())
+}
+
+// Appends the words of a crossing.
+fn push_crossing(text: &mut String, by: By, limit: i64) -> Result<(), OutOfMemory>
+    ensures { OnOk result (string_bytes text.new ≡ string_bytes text.old ++ op_text (op.Crossing by limit)) }
+{
+    let by = by_name(by);
+    write!(text, "crossing {by} {limit}")?;
+    Ok(())
+}
+
 // Appends the words of an operator.
 fn push_op(text: &mut String, op: &OpSpec) -> Result<(), OutOfMemory>
     ensures { OnOk result (string_bytes text.new ≡ string_bytes text.old ++ op_text op.now) }
@@ -54,22 +90,10 @@ fn push_op(text: &mut String, op: &OpSpec) -> Result<(), OutOfMemory>
             compare,
             limit,
         } => push_keep(text, *column, *compare, *limit)?,
-        OpSpec::Total { by } => {
-            let by = by_name(*by);
-            write!(text, "total {by}")?;
-        }
-        OpSpec::Last { by, rows } => {
-            let by = by_name(*by);
-            write!(text, "last {by} {rows}")?;
-        }
-        OpSpec::Window { by, width } => {
-            let by = by_name(*by);
-            write!(text, "window {by} {width}")?;
-        }
-        OpSpec::Crossing { by, limit } => {
-            let by = by_name(*by);
-            write!(text, "crossing {by} {limit}")?;
-        }
+        OpSpec::Total { by } => push_total(text, *by)?,
+        OpSpec::Last { by, rows } => push_last(text, *by, *rows)?,
+        OpSpec::Window { by, width } => push_window(text, *by, *width)?,
+        OpSpec::Crossing { by, limit } => push_crossing(text, *by, *limit)?,
         OpSpec::Join {
             by,
             width,

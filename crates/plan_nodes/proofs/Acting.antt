@@ -1,5 +1,5 @@
 -- What comes of a task, from what the calls of the four kinds of nodes say.
-use Rattle.std.proofs.Common.{◌≡◌, ◌∙◌, ◌≤◌, ◌+◌, ℕ, List, [], ◌++◌, None, Result, Ok, Err, length, drop, refl, sym, ap, subst, arith, append-nil}
+use Rattle.std.proofs.Common.{◌≡◌, ◌∙◌, ◌≤◌, ◌+◌, ℕ, Bool, List, [], ◌++◌, None, Result, Ok, Err, length, drop, refl, sym, ap, subst, arith, append-nil}
 use Rattle.std.specs.Prelude.{IfOk, OnErr}
 use Rattle.std.proofs.lemmas.List.{drop_at, length-append, take-append-drop}
 use mathlib.Core.List.{IsPrefix}
@@ -33,7 +33,7 @@ use Rattle.replica_node.specs.Course.{AreTimely}
 use Rattle.replica_node.specs.Course as course
 use Rattle.replica_node.specs.ReplicaView.{ReplicaView, node_of}
 use Rattle.replica_node.specs.StandsFor as replica
-use Rattle.plan_nodes.specs.States.{HasActedBehind, HasDone, HasTaken, HasWorkedOnce, IsOfPlan, StandsFor, contents_of, id_of, inputs_in, rows_of}
+use Rattle.plan_nodes.specs.States.{Admits, HasActedBehind, HasDone, HasTaken, HasWorkedOnce, IsOfPlan, StandsFor, contents_of, gone_of, has_ended, id_of, inputs_in, rows_of}
 use Rattle.tuple_edge.specs.Limits.{most_packets}
 use Rattle.node_tasks.specs.Tasks.{DoesStep, event_of, packet_of}
 use Rattle.node_tasks.specs.declared.task.Task.{Task}
@@ -42,11 +42,19 @@ use Rattle.plan_nodes.specs.declared.state.NodeState.{NodeState}
 use Rattle.plan_nodes.specs.declared.state.NodeState.TheVariants as state
 use Rattle.plan_nodes.proofs.Room.{ingress_stays}
 
+-- whether all inputs came to it, and which did
+abbrev pub came_of : NodeState → Bool × List Input
+came_of s = (has_ended s, inputs_in s)
+
+-- where what came is the same, the same may be the inputs
+pub admits_by : (old new : NodeState) → came_of new ≡ came_of old → (inputs : List Input) → Admits new inputs → Admits old inputs
+admits_by old new same inputs may = subst (λ (came : Bool × List Input). ingress.AreCome came.0 came.1 inputs) same may
+
 module _ (old new : NodeState) (t : Task) (packets : List (NodeId × Body)) where
   -- it was done
   pub acted : at_node (event_of (id_of old) t) ≡ id_of old → DoesStep id_of StandsFor t old new packets → length packets ≤ most_packets → ((plan : PlanView) → IsOfPlan plan old → GoOverLinks plan (id_of old) packets) →
-      id_of new ≡ id_of old → ((plan : PlanView) → IsOfPlan plan old → IsOfPlan plan new) → IsPrefix (rows_of old) (rows_of new) → inputs_in new ≡ inputs_in old → HasDone old new t (Ok Did) packets
-  acted here step few linked id of_plan rows inputs = record {
+      id_of new ≡ id_of old → ((plan : PlanView) → IsOfPlan plan old → IsOfPlan plan new) → IsPrefix (rows_of old) (rows_of new) → gone_of new ≡ gone_of old → came_of new ≡ came_of old → HasDone old new t (Ok Did) packets
+  acted here step few linked id of_plan rows gone came = record {
     acted = record {
       here = λ e. here;
       step = λ e. step;
@@ -58,9 +66,12 @@ module _ (old new : NodeState) (t : Task) (packets : List (NodeId × Body)) wher
       id = id;
       of_plan = of_plan;
       rows = rows;
+      gone = gone;
+      inputs = admits_by old new came;
     };
     contents = tt;
-    inputs = inputs;
+    inputs = λ i. (came i).1;
+    ended = λ i. (came i).0;
   }
 
   -- there was nothing to do
@@ -77,15 +88,18 @@ module _ (old new : NodeState) (t : Task) (packets : List (NodeId × Body)) wher
       id = ap id_of same;
       of_plan = λ plan h. subst (IsOfPlan plan) (sym same) h;
       rows = subst (λ s. IsPrefix (rows_of old) (rows_of s)) (sym same) ([], append-nil (rows_of old));
+      gone = ap gone_of same;
+      inputs = admits_by old new (ap came_of same);
     };
     contents = tt;
     inputs = ap inputs_in same;
+    ended = ap has_ended same;
   }
 
   -- there was no memory
   pub failed : (e : OutOfMemory) → packets ≡ [] → ((plan : PlanView) (inputs : List Input) (x : Node) → StandsFor plan inputs old x → StandsFor plan inputs new x) → contents_of new ≡ contents_of old →
-      id_of new ≡ id_of old → ((plan : PlanView) → IsOfPlan plan old → IsOfPlan plan new) → IsPrefix (rows_of old) (rows_of new) → inputs_in new ≡ inputs_in old → HasDone old new t (Err e) packets
-  failed x none stays contents id of_plan rows inputs = record {
+      id_of new ≡ id_of old → ((plan : PlanView) → IsOfPlan plan old → IsOfPlan plan new) → IsPrefix (rows_of old) (rows_of new) → gone_of new ≡ gone_of old → came_of new ≡ came_of old → HasDone old new t (Err e) packets
+  failed x none stays contents id of_plan rows gone came = record {
     acted = record {
       here = λ e. absurd (let z : ◌≡◌ {A = Result Worked OutOfMemory} (Err x) (Ok Did) = e in cc);
       step = λ e. absurd (let z : ◌≡◌ {A = Result Worked OutOfMemory} (Err x) (Ok Did) = e in cc);
@@ -97,16 +111,19 @@ module _ (old new : NodeState) (t : Task) (packets : List (NodeId × Body)) wher
       id = id;
       of_plan = of_plan;
       rows = rows;
+      gone = gone;
+      inputs = admits_by old new came;
     };
     contents = contents;
-    inputs = inputs;
+    inputs = λ i. (came i).1;
+    ended = λ i. (came i).0;
   }
 
 -- there was no memory, and nothing changed
 pub failed_same : (old new : NodeState) (t : Task) (packets : List (NodeId × Body)) (e : OutOfMemory) → new ≡ old → packets ≡ [] → HasDone old new t (Err e) packets
 failed_same old new t packets e same none =
     failed old new t packets e none (λ plan inputs x h. subst (λ s. StandsFor plan inputs s x) (sym same) h) (ap contents_of same) (ap id_of same) (λ plan h. subst (IsOfPlan plan) (sym same) h)
-    (subst (λ s. IsPrefix (rows_of old) (rows_of s)) (sym same) ([], append-nil (rows_of old))) (ap inputs_in same)
+    (subst (λ s. IsPrefix (rows_of old) (rows_of s)) (sym same) ([], append-nil (rows_of old))) (ap gone_of same) (ap came_of same)
 
 -- ---- packets behind others
 
@@ -205,7 +222,7 @@ control_takes old new from packet before after more course few linked id of_plan
     record {
       done = λ index. acted (state.Control old) (state.Control new) (task.Take from index packet) (appended before after) refl
           (subst (DoesStep id_of StandsFor (task.Take from index packet) (state.Control old) (state.Control new)) (sym (sent_appended before after sent more)) (λ plan inputs hp ht clock. course plan inputs packet.at index clock))
-          (omega (arith, few, count)) linked id of_plan (all_rows []) refl;
+          (omega (arith, few, count)) linked id of_plan (all_rows []) refl refl;
       packets = all;
     }
 
@@ -219,7 +236,7 @@ pub replica_steps : (old new : ReplicaView) (k : Task) (after sent : List (NodeI
     ((plan : PlanView) → replica.IsOfPlan plan old.role → GoOverLinks plan (node_of old.role) sent) → new.role ≡ old.role → HasDone (state.Replica old) (state.Replica new) k (Ok Did) after
 replica_steps old new k after sent same here step few linked role =
     acted (state.Replica old) (state.Replica new) k after here (subst (DoesStep id_of StandsFor k (state.Replica old) (state.Replica new)) (sym same) step) few
-    (λ plan h. subst (GoOverLinks plan (node_of old.role)) (sym same) (linked plan h)) (ap node_of role) (λ plan h. subst (replica.IsOfPlan plan) (sym role) h) (all_rows []) refl
+    (λ plan h. subst (GoOverLinks plan (node_of old.role)) (sym same) (linked plan h)) (ap node_of role) (λ plan h. subst (replica.IsOfPlan plan) (sym role) h) (all_rows []) refl refl
 
 pub replica_takes : (old new : ReplicaView) (from : NodeId) (packet : Packet) (before after : List (NodeId × Body)) → after ≡ before ++ appended before after →
     ((plan : PlanView) (inputs : List Input) → IsPlan plan → AreTimely inputs → course.IsTaken plan inputs old new from packet.body (appended before after)) → length after ≤ length before + 2 →
@@ -251,16 +268,19 @@ back_at r = back_here (node_of r.role)
 -- ---- egress
 
 pub egress_takes : (old new : EgressView) (from : NodeId) (packet : Packet) → ((plan : PlanView) (inputs : List Input) → IsPlan plan → egress.IsTaken plan inputs old new from packet.body) →
-    ((plan : PlanView) → egress.IsOfPlan plan old → egress.IsOfPlan plan new) → new.emitted ≡ old.emitted → HasTaken (state.Egress old) (state.Egress new) from packet (Ok Did) [] []
-egress_takes old new from packet taken of_plan emitted = record {
+    ((plan : PlanView) → egress.IsOfPlan plan old → egress.IsOfPlan plan new) → new.emitted ≡ old.emitted → new.gone ≡ old.gone → HasTaken (state.Egress old) (state.Egress new) from packet (Ok Did) [] []
+egress_takes old new from packet taken of_plan emitted gone = record {
   done = λ index. acted (state.Egress old) (state.Egress new) (task.Take from index packet) [] refl (λ plan inputs hp ht clock. taken plan inputs hp packet.at index) (omega arith) (λ plan h. tt) refl of_plan
-      (same_rows old.emitted new.emitted emitted) refl;
+      (same_rows old.emitted new.emitted emitted) gone refl;
   packets = refl;
 }
 
 -- ---- ingress
 
-inputs_stay : (i : IngressView) (from : NodeId) (b : Body) → (ingress_taking i from b).inputs ≡ i.inputs
+abbrev pub ingress_came : IngressView → Bool × List Input
+ingress_came i = (i.ended, i.inputs)
+
+inputs_stay : (i : IngressView) (from : NodeId) (b : Body) → ingress_came (ingress_taking i from b) ≡ ingress_came i
 inputs_stay i from (body.Tuple edge number item) = refl
 inputs_stay i from (body.Ack edge upto) = refl
 inputs_stay i from (body.Report inc edge upto) = refl
@@ -279,8 +299,8 @@ inputs_stay i from body.AskBack = refl
 pub ingress_takes : (old new : IngressView) (from : NodeId) (packet : Packet) → new ≡ ingress_taking old from packet.body → ((plan : PlanView) (inputs : List Input) → IsPlan plan → ingress.IsTaken plan inputs old new from packet.body) →
     ((plan : PlanView) → ingress.IsOfPlan plan old → ingress.IsOfPlan plan new) → HasTaken (state.Ingress old) (state.Ingress new) from packet (Ok Did) [] []
 ingress_takes old new from packet is taken of_plan = record {
-  done = λ index. acted (state.Ingress old) (state.Ingress new) (task.Take from index packet) [] refl (λ plan inputs hp ht clock. taken plan inputs hp packet.at index) (omega arith) (λ plan h. tt) refl of_plan (all_rows [])
-      (ap (λ (i : IngressView). i.inputs) is ∙ inputs_stay old from packet.body);
+  done = λ index. acted (state.Ingress old) (state.Ingress new) (task.Take from index packet) [] refl (λ plan inputs hp ht clock. taken plan inputs hp packet.at index) (omega arith) (λ plan h. tt) refl of_plan (all_rows []) refl
+      (ap ingress_came is ∙ inputs_stay old from packet.body);
   packets = refl;
 }
 
@@ -289,10 +309,10 @@ pub ingress_made_so : (old new : IngressView) (result : Result Worked OutOfMemor
     ((plan : PlanView) → ingress.IsOfPlan plan old → ingress.IsOfPlan plan new) →
     IfOk result (λ m. (plan : PlanView) (inputs : List Input) → IsPlan plan → ingress.IsMadeIn plan inputs old new m) → HasDone (state.Ingress old) (state.Ingress new) task.Make result []
 ingress_made_so old new (Ok Did) made err of_plan course =
-    acted (state.Ingress old) (state.Ingress new) task.Make [] refl (λ plan inputs hp ht clock. course plan inputs hp clock) (omega arith) (λ plan h. tt) refl of_plan (all_rows []) made.1.inputs
-ingress_made_so old new (Ok Idle) made err of_plan course = idled (state.Ingress old) (state.Ingress new) task.Make [] (ap state.Ingress made.1) refl
+    acted (state.Ingress old) (state.Ingress new) task.Make [] refl (λ plan inputs hp ht clock. course plan inputs hp clock) (omega arith) (λ plan h. tt) refl of_plan (all_rows []) refl (λ k. (made.1.ended k, made.1.inputs k))
+ingress_made_so old new (Ok Idle) made err of_plan course = idled (state.Ingress old) (state.Ingress new) task.Make [] (ap state.Ingress made.0) refl
 ingress_made_so old new (Err e) made err of_plan course =
-    failed (state.Ingress old) (state.Ingress new) task.Make [] e refl (λ plan inputs x h. ingress_stays plan inputs old new x err h) (ap state.Ingress err) refl of_plan (all_rows []) (ap (λ (i : IngressView). i.inputs) err)
+    failed (state.Ingress old) (state.Ingress new) task.Make [] e refl (λ plan inputs x h. ingress_stays plan inputs old new x err h) (ap state.Ingress err) refl of_plan (all_rows []) refl (ap ingress_came err)
 
 pub ingress_made : (old new : IngressView) (t : Task) (result : Result Worked OutOfMemory) (before : List (NodeId × Body)) → t ≡ task.Make →
     IfOk result (ingress.IsMade old new) → OnErr result (ingress_contents new ≡ ingress_contents old) → ((plan : PlanView) → ingress.IsOfPlan plan old → ingress.IsOfPlan plan new) →

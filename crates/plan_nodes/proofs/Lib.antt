@@ -6,3 +6,4 @@ pub mod FlowOrder
 pub mod Sources
 pub mod Stepping
 pub mod Pieces
+pub mod Coming

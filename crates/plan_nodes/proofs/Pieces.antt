@@ -31,7 +31,7 @@ use Rattle.node_tasks.specs.declared.task.Task.TheVariants as task
 use Rattle.plan_nodes.specs.States.{HasDone, HasWorkedOnce, StandsFor, acks_unless_merged, id_of}
 use Rattle.plan_nodes.specs.declared.state.NodeState.{NodeState}
 use Rattle.plan_nodes.specs.declared.state.NodeState.TheVariants as state
-use Rattle.plan_nodes.proofs.Acting.{acted, all_appended, all_of_none, all_rows, failed, failed_same, front_rows, idled, none_appended, replica_steps, sent_appended}
+use Rattle.plan_nodes.proofs.Acting.{ingress_came, acted, all_appended, all_of_none, all_rows, failed, failed_same, front_rows, idled, none_appended, replica_steps, sent_appended}
 use Rattle.plan_nodes.proofs.Room.{replica_stays}
 
 module _ (old new : NodeState) (before after : List (NodeId × Body)) where
@@ -74,7 +74,7 @@ replica_has_worked old new rise (Ok Idle) before after packets many idle err few
 replica_has_worked old new rise (Err e) before after packets many idle err few linked role worked =
     failed_work (state.Replica old) (state.Replica new) before.packets after.packets e err.1
     (λ none. failed (state.Replica old) (state.Replica new) task.Work (appended before.packets after.packets) e none (λ plan inputs x h. replica_stays plan inputs old new x err.0 h) (ap state.Replica err.0) (ap node_of role)
-    (λ plan h. subst (replica.IsOfPlan plan) (sym role) h) (all_rows []) refl)
+    (λ plan h. subst (replica.IsOfPlan plan) (sym role) h) (all_rows []) refl refl)
 
 -- ---- egress
 
@@ -88,33 +88,33 @@ egress_sends e None did = reports_to_both e (report_of e.consumer) did
 
 pub egress_has_worked : (old new : EgressView) (result : Result Worked OutOfMemory) (before after : OutboxView) → IfOk result (λ w. w ≡ (working old).worked) → OnOk result (after.packets ≡ before.packets ++ (working old).sent) →
     IfOk result (λ w. w ≡ Idle → (new ≡ old) × (after ≡ before)) → OnErr result ((new ≡ old) × (after ≡ before)) → length after.packets ≤ length before.packets + 2 →
-    ((plan : PlanView) → egress.IsOfPlan plan old → GoOverLinks plan node.Egress (appended before.packets after.packets)) → ((plan : PlanView) → egress.IsOfPlan plan old → egress.IsOfPlan plan new) → IsFrontOf old.emitted new.emitted →
+    ((plan : PlanView) → egress.IsOfPlan plan old → GoOverLinks plan node.Egress (appended before.packets after.packets)) → ((plan : PlanView) → egress.IsOfPlan plan old → egress.IsOfPlan plan new) → IsFrontOf old.emitted new.emitted → new.gone ≡ old.gone →
     IfOk result (λ w. (plan : PlanView) (inputs : List Input) → IsPlan plan → egress.IsWorked plan inputs old new (working old).sent w) → HasWorkedOnce (state.Egress old) (state.Egress new) result before.packets after.packets
-egress_has_worked old new (Ok Did) before after did packets idle err few linked of_plan emitted worked =
+egress_has_worked old new (Ok Did) before after did packets idle err few linked of_plan emitted gone worked =
     let sent = appended before.packets after.packets in
     let is : sent ≡ (working old).sent = sent_appended before.packets after.packets (working old).sent packets in
     let all = all_appended before.packets after.packets (working old).sent packets in
     let whole : length after.packets ≡ length before.packets + length sent = ap length all ∙ length-append before.packets sent in
     let step : DoesStep id_of StandsFor task.Work (state.Egress old) (state.Egress new) sent = subst (DoesStep id_of StandsFor task.Work (state.Egress old) (state.Egress new)) (sym is) (λ plan inputs hp ht clock. worked plan inputs hp clock) in
     record {
-      done = acted (state.Egress old) (state.Egress new) task.Work sent refl step (omega (arith, whole, few)) linked refl of_plan (front_rows old.emitted new.emitted emitted) refl;
+      done = acted (state.Egress old) (state.Egress new) task.Work sent refl step (omega (arith, whole, few)) linked refl of_plan (front_rows old.emitted new.emitted emitted) gone refl;
       packets = all;
       as_many = λ e. ap length is ∙ egress_sends old (item_of (least old.consumer.merge.waiting)) (sym did);
     }
-egress_has_worked old new (Ok Idle) before after did packets idle err few linked of_plan emitted worked =
+egress_has_worked old new (Ok Idle) before after did packets idle err few linked of_plan emitted gone worked =
     let z = idle refl in
     idle_work (state.Egress old) (state.Egress new) before.packets after.packets (ap state.Egress z.0) (ap (λ (o : OutboxView). o.packets) z.1)
-egress_has_worked old new (Err e) before after did packets idle err few linked of_plan emitted worked =
+egress_has_worked old new (Err e) before after did packets idle err few linked of_plan emitted gone worked =
     failed_work (state.Egress old) (state.Egress new) before.packets after.packets e (ap (λ (o : OutboxView). o.packets) err.1)
     (λ none. failed_same (state.Egress old) (state.Egress new) task.Work (appended before.packets after.packets) e (ap state.Egress err.0) none)
 
 -- ---- ingress
 
-due_inputs : (i : IngressView) (q : ℕ) (d : Option Due) → (sending_due i q d).after.inputs ≡ i.inputs
+due_inputs : (i : IngressView) (q : ℕ) (d : Option Due) → ingress_came (sending_due i q d).after ≡ ingress_came i
 due_inputs i q None = refl
 due_inputs i q (Some d) = refl
 
-sending_inputs : (i : IngressView) (q : Option ℕ) → (sending_first i q).after.inputs ≡ i.inputs
+sending_inputs : (i : IngressView) (q : Option ℕ) → ingress_came (sending_first i q).after ≡ ingress_came i
 sending_inputs i None = refl
 sending_inputs i (Some q) = due_inputs i q (due_of (producer_at i q))
 
@@ -131,8 +131,8 @@ ingress_has_worked old new (Ok Did) before after to packets one idle err linked 
     let single : length after.packets ≡ length before.packets + 1 = one refl in
     let step : DoesStep id_of StandsFor task.Work (state.Ingress old) (state.Ingress new) sent = subst (DoesStep id_of StandsFor task.Work (state.Ingress old) (state.Ingress new)) (sym is) (λ plan inputs hp ht clock. worked plan inputs hp clock) in
     record {
-      done = acted (state.Ingress old) (state.Ingress new) task.Work sent refl step (omega (arith, whole, single)) linked refl of_plan (all_rows [])
-          (ap (λ (i : IngressView). i.inputs) to ∙ sending_inputs old (source_due old));
+      done = acted (state.Ingress old) (state.Ingress new) task.Work sent refl step (omega (arith, whole, single)) linked refl of_plan (all_rows []) refl
+          (ap ingress_came to ∙ sending_inputs old (source_due old));
       packets = all;
       as_many = λ e. omega (arith, whole, single);
     }

@@ -1,5 +1,5 @@
 -- Where a node did nothing, the machine refuses what was asked.
-use Rattle.std.proofs.Common.{◌≡◌, ◌≢◌, ◌≤◌, ℕ, List, Option, None, Some, Result, Ok, Err, refl, sym, subst}
+use Rattle.std.proofs.Common.{◌≡◌, ◌≢◌, ◌≤◌, ℕ, List, Option, None, Some, Result, Ok, Err, refl, sym, subst, true}
 use Rattle.std.specs.Prelude.{IfOk}
 use Rattle.tuple_edge.specs.Input.{Input}
 use Rattle.tuple_edge.specs.declared.event.Worked.{Worked}
@@ -57,9 +57,9 @@ ingress_none_due old new (Ok Idle) sent worked e = λ plan inputs p x s. worked 
 ingress_none_due old new (Err z) sent worked e = never_failed z e
 
 pub ingress_none_left : (old new : IngressView) (result : Result Worked OutOfMemory) →
-    IfOk result (λ m. (plan : PlanView) (inputs : List Input) → IsPlan plan → ingress.IsMadeIn plan inputs old new m) → result ≡ Ok Idle → Refuses (state.Ingress old) Makes NoMoreRows
+    IfOk result (λ m. (plan : PlanView) (inputs : List Input) → IsPlan plan → ingress.IsMadeIn plan inputs old new m) → result ≡ Ok Idle → old.ended ≡ true → Refuses (state.Ingress old) Makes NoMoreRows
 ingress_none_left old new (Ok Did) made e = never_idle e
-ingress_none_left old new (Ok Idle) made e = λ plan inputs p x s. made plan inputs p x s
+ingress_none_left old new (Ok Idle) made e = λ ended plan inputs p x s. made plan inputs p ended x s
 ingress_none_left old new (Err z) made e = never_failed z e
 
 pub egress_none_due : (old new : EgressView) (result : Result Worked OutOfMemory) (sent : List (NodeId × Body)) →
@@ -79,7 +79,7 @@ replica_none_due old new (Err z) rise sent worked e low = never_failed z e
 pub control_refuses : (c : ControllerView) (rise : ℕ) (t : Task) → packet_of t ≡ None → IsIdle rise (state.Control c) t
 control_refuses c rise (task.Take from index packet) e = absurd (let z : ◌≡◌ {A = Option Packet} (Some packet) None = e in cc)
 control_refuses c rise task.Work e = λ low plan inputs p x s. refl
-control_refuses c rise task.Make e = λ plan inputs p x s. refl
+control_refuses c rise task.Make e = λ all plan inputs p x s. refl
 control_refuses c rise task.Kill e = λ plan inputs p x s. refl
 control_refuses c rise task.AskStop e = λ plan inputs p x s. refl
 control_refuses c rise task.AskBack e = λ plan inputs p x s. refl

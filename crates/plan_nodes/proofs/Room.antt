@@ -1,5 +1,5 @@
 -- A node stands for the same numbers whatever room its edges have.
-use Rattle.std.proofs.Common.{◌≡◌, ◌∙◌, ℕ, zero, suc, List, [], ◌∷◌, Some, length, refl, sym, ap, subst}
+use Rattle.std.proofs.Common.{◌≡◌, ◌∙◌, ℕ, zero, suc, List, [], ◌∷◌, Some, length, refl, sym, ap, subst, Bool}
 use lib.ListN.{length-map}
 use Rattle.std.specs.Prelude.{map, slice_index_or}
 use Rattle.tuple_edge.specs.Input.{Input}
@@ -99,7 +99,7 @@ pub ingress_stays : (plan : PlanView) (inputs : List Input) (old new : IngressVi
 ingress_stays plan inputs old new x same h =
     let all : map contents_of new.producers ≡ map contents_of old.producers = ap (λ (v : IngressView). v.producers) same in
     record {
-      inputs = ap (λ (v : IngressView). v.inputs) same ∙ h.inputs;
+      inputs = subst (λ (came : Bool × List Input). ingress.AreCome came.0 came.1 inputs) (ap (λ (v : IngressView). (v.ended, v.inputs)) (sym same)) h.inputs;
       first = h.first ∙ ap (λ (v : IngressView). Some v.first) (sym same);
       mark = ap (λ (v : IngressView). v.mark) same ∙ h.mark;
       makes = ap (λ (v : IngressView). v.makes) same ∙ h.makes;

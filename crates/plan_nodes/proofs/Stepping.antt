@@ -16,7 +16,7 @@ use Rattle.pair_machine.specs.Receivers.{appended}
 use Rattle.node_tasks.specs.Steps.{DoesMake, DoesTask, StepByStep, pieces}
 use Rattle.node_tasks.specs.declared.task.Task.{Task}
 use Rattle.node_tasks.specs.declared.task.Task.TheVariants as task
-use Rattle.plan_nodes.specs.States.{HasDone, HasMade, HasWorkedOnce, IsOfPlan, StandsFor, WantsRows, id_of, packets_of_work, rows_of}
+use Rattle.plan_nodes.specs.States.{Admits, HasDone, HasMade, HasWorkedOnce, IsOfPlan, StandsFor, WantsRows, gone_of, id_of, packets_of_work, rows_of}
 use Rattle.plan_nodes.specs.declared.state.NodeState.{NodeState}
 
 -- ---- one more
@@ -48,6 +48,8 @@ pub record HasRun (old new : NodeState) (count each : ℕ) (packets : List (Node
   pub id : id_of new ≡ id_of old
   pub of_plan : (plan : PlanView) → IsOfPlan plan old → IsOfPlan plan new
   pub rows : IsPrefix (rows_of old) (rows_of new)
+  pub gone : gone_of new ≡ gone_of old
+  pub came : (inputs : List Input) → Admits new inputs → Admits old inputs
 
 prefix_on : (xs ys zs : List Row) → IsPrefix xs ys → IsPrefix ys zs → IsPrefix xs zs
 prefix_on xs ys zs front more = (front.0 ++ more.0, sym (append_assoc xs front.0 more.0) ∙ ap (λ l. l ++ more.0) front.1 ∙ more.1)
@@ -63,6 +65,8 @@ run_begins old each packets none =
       id = refl;
       of_plan = λ plan of. of;
       rows = ([], append-nil (rows_of old));
+      gone = refl;
+      came = λ inputs may. may;
     }
 
 does_task : (t : Task) (old new : NodeState) (packets : List (NodeId × Body)) → HasDone old new t (Ok Did) packets → Does t old new packets
@@ -87,6 +91,8 @@ run_more old mid new count each before after run many fits work =
       id = work.done.acted.id ∙ run.id;
       of_plan = λ plan of. work.done.acted.of_plan plan (run.of_plan plan of);
       rows = prefix_on (rows_of old) (rows_of mid) (rows_of new) run.rows work.done.acted.rows;
+      gone = work.done.acted.gone ∙ run.gone;
+      came = λ inputs may. run.came inputs (work.done.acted.inputs inputs may);
     }
 
 -- ---- an end
@@ -130,6 +136,8 @@ run_failed old mid new e (suc count) each before after run some work =
       id = work.done.acted.id ∙ run.id;
       of_plan = λ plan of. work.done.acted.of_plan plan (run.of_plan plan of);
       rows = prefix_on (rows_of old) (rows_of mid) (rows_of new) run.rows work.done.acted.rows;
+      gone = work.done.acted.gone ∙ run.gone;
+      came = λ inputs may. run.came inputs (work.done.acted.inputs inputs may);
     })
 
 -- ---- makes

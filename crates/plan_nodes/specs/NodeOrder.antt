@@ -40,26 +40,3 @@ nodes_at p = replica_at p A ∷ replica_at p B ∷ control_at p ∷ []
 -- the nodes of a plan with these numbers
 abbrev pub nodes_in : Flow → List NodeId
 nodes_in f = node.Ingress ∷ flat_map nodes_at (pairs_up_to f f.stages) ++ node.Egress ∷ []
-
--- ---- of one kind
-
-abbrev pub replicas_among : List NodeId → List NodeId
-replicas_among [] = []
-replicas_among (node.Ingress ∷ ns) = replicas_among ns
-replicas_among (node.Replica stage part which ∷ ns) = node.Replica stage part which ∷ replicas_among ns
-replicas_among (node.Control stage part ∷ ns) = replicas_among ns
-replicas_among (node.Egress ∷ ns) = replicas_among ns
-
-abbrev pub controls_among : List NodeId → List NodeId
-controls_among [] = []
-controls_among (node.Ingress ∷ ns) = controls_among ns
-controls_among (node.Replica stage part which ∷ ns) = controls_among ns
-controls_among (node.Control stage part ∷ ns) = node.Control stage part ∷ controls_among ns
-controls_among (node.Egress ∷ ns) = controls_among ns
-
--- the plan's replicas, and its controllers, in the order of nodes
-abbrev pub replicas_of : PlanView → List NodeId
-replicas_of plan = replicas_among (nodes_of plan)
-
-abbrev pub controls_of : PlanView → List NodeId
-controls_of plan = controls_among (nodes_of plan)

@@ -1,5 +1,5 @@
 -- A node's own part, of any of the four kinds: its name, the plans that it is of, the numbers that it stands for, and what it may do.
-use Rattle.std.specs.Prelude.{◌≡◌, ◌≤◌, ◌<◌, ◌-◌, ℕ, Bool, false, List, [], ◌++◌, Option, None, Some, Result, Ok, Err, OnErr, length, replicate}
+use Rattle.std.specs.Prelude.{◌≡◌, ◌≤◌, ◌<◌, ◌-◌, ℕ, Bool, true, false, List, [], ◌++◌, Option, None, Some, Result, Ok, Err, OnErr, length, replicate}
 use Rattle.tuple_edge.specs.Input.{Input}
 use Rattle.tuple_edge.specs.declared.event.Worked.{Worked}
 use Rattle.tuple_edge.specs.declared.event.Worked.TheVariants.{Did}
@@ -69,12 +69,30 @@ rows_of (state.Replica r) = []
 rows_of (state.Control c) = []
 rows_of (state.Egress e) = e.emitted
 
--- the inputs that it makes into items: only ingress has any
+-- the first of these rows, which it handed on
+abbrev pub gone_of : NodeState → List Row
+gone_of (state.Ingress i) = []
+gone_of (state.Replica r) = []
+gone_of (state.Control c) = []
+gone_of (state.Egress e) = e.gone
+
+-- the inputs that came to it: only ingress has any
 abbrev pub inputs_in : NodeState → List Input
 inputs_in (state.Ingress i) = i.inputs
 inputs_in (state.Replica r) = []
 inputs_in (state.Control c) = []
 inputs_in (state.Egress e) = []
+
+-- whether it was said that no more come: only ingress is told
+abbrev pub has_ended : NodeState → Bool
+has_ended (state.Ingress i) = i.ended
+has_ended (state.Replica r) = false
+has_ended (state.Control c) = false
+has_ended (state.Egress e) = false
+
+-- these may be the inputs of its plan: what came to it is the first of them, and all of them where no more come
+abbrev pub Admits : NodeState → List Input → Type 0
+Admits s inputs = ingress.AreCome (has_ended s) (inputs_in s) inputs
 
 -- it, with the room of its edges left aside
 abbrev pub contents_of : NodeState → NodeState
@@ -140,9 +158,10 @@ MayDo (state.Egress e) t = EgressMay e t
 
 -- What came of a task, as the trait says. Where memory lacked only the room of its edges may differ, and the inputs stay.
 pub record HasDone (old new : NodeState) (t : Task) (result : Result Worked OutOfMemory) (packets : List (NodeId × Body)) : Type 0 where
-  pub acted : HasActed id_of IsOfPlan StandsFor rows_of old new t result packets
+  pub acted : HasActed id_of IsOfPlan StandsFor rows_of gone_of Admits old new t result packets
   pub contents : OnErr result (contents_of new ≡ contents_of old)
   pub inputs : inputs_in new ≡ inputs_in old
+  pub ended : has_ended new ≡ has_ended old
 
 -- What came of a task where packets may lie in the outbox already: they stay, and what the node sent lies behind them.
 pub record HasActedBehind (old new : NodeState) (t : Task) (result : Result Worked OutOfMemory) (before after : List (NodeId × Body)) : Type 0 where
@@ -169,12 +188,17 @@ abbrev pub no_inputs_at : NodeId → Refusal
 no_inputs_at node.Ingress = NoMoreRows
 no_inputs_at n = NothingDue
 
+-- no more inputs come to it
+abbrev pub AllCame : NodeState → Type 0
+AllCame (state.Ingress i) = i.ended ≡ true
+AllCame s = Unit {0}
+
 -- Where a node did nothing: a packet is one that it may not be given, and any other task the machine refuses too, but for work where marks were
 -- left for later.
 abbrev pub IsIdle : ℕ → NodeState → Task → Type 0
 IsIdle rise s (task.Take from index packet) = MayDo s (task.Take from index packet) → ⊥
 IsIdle rise s task.Work = rise ≤ 1 → Refuses s Works NothingDue
-IsIdle rise s task.Make = Refuses s Makes (no_inputs_at (id_of s))
+IsIdle rise s task.Make = AllCame s → Refuses s Makes (no_inputs_at (id_of s))
 IsIdle rise s task.Kill = Refuses s Dies NotRunning
 IsIdle rise s task.AskStop = Refuses s AsksStop NotRunning
 IsIdle rise s task.AskBack = Refuses s AsksBack NotRunning

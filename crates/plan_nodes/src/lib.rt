@@ -19,6 +19,6 @@ mod working;
 
 pub use acts::{control_acts, egress_acts, ingress_acts, replica_acts};
 pub use may::{control_may, egress_may, ingress_may, replica_may};
-pub use opening::opening_state;
+pub use opening::{opening_state, streamed_state};
 pub use order::{nodes_before_egress, nodes_of};
 pub use state::NodeState;

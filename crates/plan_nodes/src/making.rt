@@ -1,13 +1,15 @@
 // Ingress makes inputs into items, one after another.
-ghost use Rattle.plan_nodes.specs.States.{EachHoldsFew, HasMade, HoldsFew, IsOfPlan, StandsLike};
+ghost use Rattle.plan_nodes.specs.States.{Admits, EachHoldsFew, HasMade, HoldsFew, IsOfPlan, StandsFor, StandsLike};
 ghost use Rattle.plan_nodes.specs.declared.state.NodeState.TheVariants as state;
 ghost use Rattle.plan_reader.specs.PlanView.{PlanView};
-ghost use Rattle.std.specs.Prelude.{◌≤◌, ◌↔◌, IfOk, IsTrue, OnErr};
+ghost use Rattle.pair_machine.specs.Numbers.{Node};
+ghost use Rattle.std.specs.Prelude.{◌≤◌, ◌↔◌, IfOk, IsTrue, List, OnErr};
+ghost use Rattle.tuple_edge.specs.Input.{Input};
 
 use flux_producer::Producer;
 use ingress_egress::Ingress;
 use plan_reader::Plan;
-use tuple_edge::{OutOfMemory, Worked};
+use tuple_edge::{Input, OutOfMemory, Worked};
 
 /// Makes inputs into items, one after another and at most so many, while each edge of ingress holds fewer items than the plan
 /// says, and says how many they were.
@@ -20,6 +22,7 @@ pub(crate) fn ingress_makes(
     ensures most { IfOk result (λ count. count ≤ most) }
     ensures unchanged { OnErr result (StandsLike (state.Ingress node.old) (state.Ingress node.new)) }
     ensures of_plan { (plan : PlanView) → IsOfPlan plan (state.Ingress node.old) → IsOfPlan plan (state.Ingress node.new) }
+    ensures inputs { (inputs : List Input) → Admits (state.Ingress node.new) inputs → Admits (state.Ingress node.old) inputs }
 {
     for done in 0..most {
         if !holds_few(node, plan.hold()) {
@@ -33,6 +36,16 @@ pub(crate) fn ingress_makes(
         }
     }
     Ok(most)
+}
+
+/// Takes the next input that comes.
+pub(crate) fn ingress_feeds(node: &mut Ingress, input: Input) -> Result<bool, OutOfMemory>
+    ensures inputs { (inputs : List Input) → Admits (state.Ingress node.new) inputs → Admits (state.Ingress node.old) inputs }
+    ensures stands { (plan : PlanView) (inputs : List Input) (x : Node) → Admits (state.Ingress node.new) inputs
+        → StandsFor plan inputs (state.Ingress node.old) x → StandsFor plan inputs (state.Ingress node.new) x }
+    ensures of_plan { (plan : PlanView) → IsOfPlan plan (state.Ingress node.old) → IsOfPlan plan (state.Ingress node.new) }
+{
+    node.feed(input)
 }
 
 // Whether each edge of ingress holds fewer items than this.

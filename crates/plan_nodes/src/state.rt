@@ -4,21 +4,21 @@ ghost use Rattle.pair_machine.specs.Numbers.{Node};
 ghost use Rattle.pair_machine.specs.Scripts.{HasMerged};
 ghost use Rattle.plan_reader.specs.PlanView.{PlanView};
 ghost use Rattle.replica_node.specs.StandsFor as replica;
-ghost use Rattle.plan_nodes.specs.States.{HasActedBehind, IsIdle, IsOfPlan, MayDo, StandsFor, WantsRows, has_merged_end, id_of, rows_of};
+ghost use Rattle.plan_nodes.specs.States.{Admits, HasActedBehind, IsIdle, IsOfPlan, MayDo, StandsFor, WantsRows, gone_of, has_merged_end, id_of, rows_of};
 ghost use Rattle.tuple_edge.specs.Limits.{most_packets};
 ghost use Rattle.std.specs.Prelude.{◌≡◌, ◌≤◌, IfSome, List, Ok};
 ghost use Rattle.tuple_edge.specs.Input.{Input};
 ghost use Rattle.tuple_edge.specs.declared.event.Worked.TheVariants.{Idle};
 
 use crate::acts::{control_acts, egress_acts, ingress_acts, replica_acts};
-use crate::making::ingress_makes;
+use crate::making::{ingress_feeds, ingress_makes};
 use crate::may::{control_may, egress_may, ingress_may, replica_may};
 use ingress_egress::{Egress, Ingress};
 use node_tasks::{Acts, Steps, Task};
 use pair_control::PairControl;
 use plan_reader::Plan;
 use replica_node::{Mode, Replica};
-use tuple_edge::{MOST_PACKETS, NodeId, OutOfMemory, Outbox, Packet, Row, Worked};
+use tuple_edge::{Input, MOST_PACKETS, NodeId, OutOfMemory, Outbox, Packet, Row, Worked};
 
 /// A node's own part: what it is, without its links and its history.
 #[derive(Drop)]
@@ -64,9 +64,13 @@ impl Acts for NodeState {
 
     ghost stands = { λ plan inputs s x. StandsFor plan inputs s x };
 
+    ghost admits = { λ s inputs. Admits s inputs };
+
     ghost may = { λ s t. MayDo s t };
 
     ghost rows = { λ s. rows_of s };
+
+    ghost gone = { λ s. gone_of s };
 
     ghost done = { λ s. has_merged_end s };
 
@@ -129,6 +133,13 @@ impl Acts for NodeState {
         }
     }
 
+    fn feed(&mut self, input: Input) -> Result<bool, OutOfMemory> {
+        match self {
+            NodeState::Ingress(node) => ingress_feeds(node, input),
+            NodeState::Replica(_) | NodeState::Control(_) | NodeState::Egress(_) => Ok(false),
+        }
+    }
+
     fn merged(&self) -> Option<u64> {
         match self {
             NodeState::Replica(node) => merged_by(node),
@@ -147,6 +158,20 @@ impl Acts for NodeState {
         match self {
             NodeState::Egress(node) => node.emitted(),
             NodeState::Ingress(_) | NodeState::Replica(_) | NodeState::Control(_) => &[],
+        }
+    }
+
+    fn first(&self) -> Option<Row> {
+        match self {
+            NodeState::Egress(node) => node.first(),
+            NodeState::Ingress(_) | NodeState::Replica(_) | NodeState::Control(_) => None,
+        }
+    }
+
+    fn let_go(&mut self) -> Option<Row> {
+        match self {
+            NodeState::Egress(node) => node.let_go(),
+            NodeState::Ingress(_) | NodeState::Replica(_) | NodeState::Control(_) => None,
         }
     }
 }

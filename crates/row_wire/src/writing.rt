@@ -1,7 +1,8 @@
 // Rows are written: those that come out of a channel, and then those that didn't.
+ghost use Rattle.flux_outside.specs.Told.{SinkTold};
 ghost use Rattle.row_channel.specs.Ends.{receives_from, rows_got};
 ghost use Rattle.row_wire.specs.Lines.{lines_of};
-ghost use Rattle.row_wire.specs.Written.{IsWritten, Told, WritesOn};
+ghost use Rattle.row_wire.specs.Written.{AreLines, IsWritten, WritesOn};
 ghost use Rattle.row_wire.specs.declared.written.Written.TheVariants.{Whole};
 ghost use Rattle.std.specs.Prelude.{◌≡◌, ◌≤◌, ◌++◌, [], IfOk, drop, if◌then◌else◌, length, string_bytes, take};
 ghost use Rattle.trade_text.specs.Text.{count_line, part_text, text};
@@ -17,9 +18,10 @@ use tuple_edge::{OutOfMemory, Row};
 /// How many bytes the line of column names has, with its end.
 const COLUMN_NAMES_BYTES: usize = 30;
 
-// Puts a text behind what was written, if that was put whole.
+// Puts whole lines behind what was written, if that was put whole.
 fn put_on<W: Wire>(wire: &mut W, bytes: &[u8], written: Written) -> Written
-    ensures { WritesOn (record { taken = W.taken wire.old; faults = W.faults wire.old }) (record { taken = W.taken wire.new; faults = W.faults wire.new }) written bytes.now result }
+    requires { AreLines bytes.now }
+    ensures { WritesOn (W.told wire.old) (W.told wire.new) written bytes.now result }
 {
     match written {
         Written::Whole => match put_all(wire, bytes) {
@@ -47,7 +49,7 @@ fn last_line(alloc: Global, count: usize) -> Result<String, OutOfMemory>
 
 // Writes the column names.
 fn write_names<W: Wire>(wire: &mut W, alloc: Global, trades: &Trades) -> Written
-    ensures { WritesOn (record { taken = W.taken wire.old; faults = W.faults wire.old }) (record { taken = W.taken wire.new; faults = W.faults wire.new }) Whole (part_text trades.now.symbols []) result }
+    ensures { WritesOn (W.told wire.old) (W.told wire.new) Whole (part_text trades.now.symbols []) result }
 {
     match part_of(alloc, &[], trades) {
         Ok(text) => put_on(wire, &text, Written::Whole),
@@ -63,7 +65,7 @@ fn write_lines<W: Wire>(
     trades: &Trades,
     written: Written,
 ) -> Written
-    ensures { WritesOn (record { taken = W.taken wire.old; faults = W.faults wire.old }) (record { taken = W.taken wire.new; faults = W.faults wire.new }) written (lines_of trades.now.symbols rows.now) result }
+    ensures { WritesOn (W.told wire.old) (W.told wire.new) written (lines_of trades.now.symbols rows.now) result }
 {
     match written {
         Written::Whole => match part_of(alloc, rows, trades) {
@@ -76,7 +78,7 @@ fn write_lines<W: Wire>(
 
 // Writes the last line behind what was written, if that was put whole.
 fn write_count<W: Wire>(wire: &mut W, alloc: Global, count: usize, written: Written) -> Written
-    ensures { WritesOn (record { taken = W.taken wire.old; faults = W.faults wire.old }) (record { taken = W.taken wire.new; faults = W.faults wire.new }) written (count_line count) result }
+    ensures { WritesOn (W.told wire.old) (W.told wire.new) written (count_line count) result }
 {
     match written {
         Written::Whole => match last_line(alloc, count) {
@@ -96,8 +98,8 @@ fn write_next<R: Wait, W: Wire>(
     wire: &mut W,
     written: &mut Written,
 ) -> bool
-    ensures written { (start : Told) → IsWritten start (record { taken = W.taken wire.old; faults = W.faults wire.old }) (part_text trades.now.symbols (rows_got receiver.old)) written.old
-        → IsWritten start (record { taken = W.taken wire.new; faults = W.faults wire.new }) (part_text trades.now.symbols (rows_got receiver.new)) written.new }
+    ensures written { (start : SinkTold) → IsWritten start (W.told wire.old) (part_text trades.now.symbols (rows_got receiver.old)) written.old
+        → IsWritten start (W.told wire.new) (part_text trades.now.symbols (rows_got receiver.new)) written.new }
     ensures channel { receives_from receiver.new ≡ receives_from receiver.old }
 {
     let more = receiver.take(rt);
@@ -116,7 +118,7 @@ pub fn write_received<R: Wait, W: Wire>(
     wire: &mut W,
 ) -> Written
     requires { rows_got receiver.old ≡ [] }
-    ensures written { IsWritten (record { taken = W.taken wire.old; faults = W.faults wire.old }) (record { taken = W.taken wire.new; faults = W.faults wire.new }) (part_text trades.now.symbols (rows_got receiver.new)) result }
+    ensures written { IsWritten (W.told wire.old) (W.told wire.new) (part_text trades.now.symbols (rows_got receiver.new)) result }
     ensures channel { receives_from receiver.new ≡ receives_from receiver.old }
 {
     let mut written = write_names(wire, alloc, trades);
@@ -140,7 +142,7 @@ pub fn write_rest<W: Wire>(
     written: Written,
 ) -> Written
     requires { first ≤ length rows.now }
-    ensures { WritesOn (record { taken = W.taken wire.old; faults = W.faults wire.old }) (record { taken = W.taken wire.new; faults = W.faults wire.new }) written (lines_of trades.now.symbols (drop first rows.now) ++ (if whole then count_line (length rows.now) else [])) result }
+    ensures { WritesOn (W.told wire.old) (W.told wire.new) written (lines_of trades.now.symbols (drop first rows.now) ++ (if whole then count_line (length rows.now) else [])) result }
 {
     let (_, rest) = rows.split_at(first);
     let lines = write_lines(wire, alloc, rest, trades, written);

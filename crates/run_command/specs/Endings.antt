@@ -12,6 +12,7 @@ use Rattle.run_journal.specs.Text.{events_text}
 use Rattle.drained_run.specs.Ended.{IsLostAt, IsWhole}
 use Rattle.command_course.specs.Course.{Came, Course, Run, Runs}
 use Rattle.flux_outside.specs.Told.{FilesTold}
+use Rattle.run_command.specs.declared.outcome.Journal.{Journal}
 use Rattle.run_command.specs.declared.outcome.Outcome.{Outcome}
 
 -- what is written, and what is saved before it: a file's name and its bytes
@@ -56,8 +57,12 @@ TextIs run (drained.Lost stage part) rows text = text ≡ front_text run rows
 
 -- ---- as the code holds it
 
+-- a journal to be saved
+abbrev pub saved_of : Option Journal → Option (List ℕ × List ℕ)
+saved_of journal = option_map (λ j. (j.name.now, j.bytes.items)) journal
+
 abbrev pub ending_of : Outcome → Ending
-ending_of outcome = record { text = outcome.text.items; saved = option_map (λ journal. (journal.name.now, journal.bytes.items)) outcome.journal }
+ending_of outcome = record { text = outcome.text.items; saved = saved_of outcome.journal }
 
 -- how a run ended
 abbrev pub HasEnded : Run → Drained → Ending → Type 0

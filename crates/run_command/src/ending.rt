@@ -1,16 +1,18 @@
 // The end of a run, as texts.
-ghost use Rattle.std.specs.Prelude.{◌≡◌, IfOk, option_map};
+ghost use Rattle.std.specs.Prelude.{◌≡◌, IfOk, List, None};
 ghost use Rattle.command_course.specs.Course.{Run};
 ghost use Rattle.command_course.specs.Feeds.{IsFed, feed_of};
 ghost use Rattle.command_line.specs.Views.{AreInRange, options_in};
 ghost use Rattle.run_command.specs.Courses.{run_of};
-ghost use Rattle.run_command.specs.Endings.{HasEnded, TextIs, ending_of, journal_of};
+ghost use Rattle.run_command.specs.Endings.{HasEnded, TextIs, ending_of, journal_of, saved_of};
+ghost use Rattle.drained_run.specs.Ended.{EndsSo};
+ghost use Rattle.tuple_edge.specs.declared.event.Event.{Event};
 ghost use Rattle.tuple_edge.specs.declared.row.Row.{Row};
 
 use crate::outcome::{Journal, Outcome};
 use command_course::Feed;
 use command_line::RunOptions;
-use drained_run::{Ended, Gate, run_and_drain};
+use drained_run::{Gate, run_and_drain, run_unlogged_and_drain};
 use failure_script::Script;
 use std::alloc::Global;
 use std::thread::Threads;
@@ -36,22 +38,58 @@ fn text_of(
     }
 }
 
-// The journal of a run, where a file is named for it.
-fn journal_of<'a>(
+// What a run comes to that ended so and emitted these rows, with its journal where a file is named for one.
+fn outcome_of<'a>(
     alloc: Global,
-    name: Option<&'a str>,
-    ended: &Ended,
-) -> Result<Option<Journal<'a>>, OutOfMemory>
-    ensures { IfOk result (λ journal. option_map (λ j. (j.name.now, j.bytes.items)) journal ≡ journal_of (option_map (λ n. n.now) name.entry) ended.now.events) }
+    feed: &Feed,
+    rows: &[Row],
+    drained: Drained,
+    journal: Option<Journal<'a>>,
+    is_summary: bool,
+) -> Result<Outcome<'a>, OutOfMemory>
+    ensures { IfOk result (λ outcome. (run : Run) (events : List Event) → run.feed ≡ feed_of feed.now → run.summary ≡ is_summary
+        → EndsSo run.feed.plan run.feed.inputs run.script events rows.now drained → saved_of journal.entry ≡ journal_of run.journal events
+        → HasEnded run outcome.drained (ending_of outcome)) }
 {
-    let Some(name) = name else {
-        return Ok(None);
-    };
-    let bytes = ended.journal(alloc)?;
-    Ok(Some(Journal { name, bytes }))
+    let text = text_of(alloc, feed, rows, drained, is_summary)?;
+    Ok(Outcome {
+        text,
+        journal,
+        drained,
+    })
 }
 
-/// Runs a plan for what it is fed with, drains it, and makes the texts of its end.
+// Runs a plan for what it is fed with, drains it, and makes the texts of its end. Its events are not written, so there is no
+// journal.
+fn unlogged_end<'a, R: Threads + Sync, G: Gate>(
+    rt: &R,
+    alloc: Global,
+    feed: &Feed,
+    script: &Script,
+    options: RunOptions<'a>,
+    is_summary: bool,
+    gate: &G,
+) -> Result<Outcome<'a>, OutOfMemory>
+    requires range { AreInRange options }
+    requires fed { IsFed feed.now }
+    requires unnamed { options.journal ≡ None }
+    ensures { IfOk result (λ outcome. HasEnded (run_of (options_in options.entry) is_summary (feed_of feed.now) script.now) outcome.drained (ending_of outcome)) }
+{
+    let ended = run_unlogged_and_drain(
+        rt,
+        alloc,
+        &feed.plan,
+        &feed.trades,
+        script,
+        options.threads,
+        options.turns as u64,
+        gate,
+    )?;
+    outcome_of(alloc, feed, ended.rows(), ended.drained(), None, is_summary)
+}
+
+/// Runs a plan for what it is fed with, drains it, and makes the texts of its end. Its events are written only where a file is
+/// named for a journal.
 pub(crate) fn run_end<'a, R: Threads + Sync, G: Gate>(
     rt: &R,
     alloc: Global,
@@ -65,6 +103,9 @@ pub(crate) fn run_end<'a, R: Threads + Sync, G: Gate>(
     requires fed { IsFed feed.now }
     ensures { IfOk result (λ outcome. HasEnded (run_of (options_in options.entry) is_summary (feed_of feed.now) script.now) outcome.drained (ending_of outcome)) }
 {
+    let Some(name) = options.journal else {
+        return unlogged_end(rt, alloc, feed, script, options, is_summary, gate);
+    };
     let ended = run_and_drain(
         rt,
         alloc,
@@ -75,12 +116,14 @@ pub(crate) fn run_end<'a, R: Threads + Sync, G: Gate>(
         options.turns as u64,
         gate,
     )?;
-    let drained = ended.drained();
-    let text = text_of(alloc, feed, ended.rows(), drained, is_summary)?;
-    let journal = journal_of(alloc, options.journal, &ended)?;
-    Ok(Outcome {
-        text,
+    let bytes = ended.journal(alloc)?;
+    let journal = Some(Journal { name, bytes });
+    outcome_of(
+        alloc,
+        feed,
+        ended.rows(),
+        ended.drained(),
         journal,
-        drained,
-    })
+        is_summary,
+    )
 }

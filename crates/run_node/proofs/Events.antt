@@ -1,5 +1,5 @@
 -- One event keeps a node sound.
-use Rattle.std.proofs.Common.{◌≡◌, ◌≤◌, ◌<◌, ◌^◌, ℕ, Bool, true, false, List, [], ◌∷◌, ◌++◌, ◌||◌, Option, None, Some, Result, Ok, Err, refl, sym, ap, ◌∙◌, subst, arith, append_assoc, IsTrue}
+use Rattle.std.proofs.Common.{◌≡◌, ◌≤◌, ◌<◌, ◌^◌, ℕ, Bool, true, false, List, [], ◌∷◌, ◌++◌, ◌||◌, Option, None, Some, Result, Ok, Err, refl, sym, ◌∙◌, subst, arith, IsTrue}
 use mathlib.Core.List.{IsPrefix}
 use Rattle.std.specs.Prelude.{if◌then◌else◌}
 use Rattle.tuple_edge.specs.Input.{Input}
@@ -11,6 +11,7 @@ use Rattle.tuple_edge.specs.declared.node.NodeId.TheVariants as node
 use Rattle.tuple_edge.specs.declared.packet.Body.{Body}
 use Rattle.tuple_edge.specs.declared.packet.Packet.{Packet}
 use Rattle.tuple_edge.specs.declared.row.Row.{Row}
+use Rattle.flux_link.proofs.Fronts.{grows_on}
 use Rattle.plan_reader.specs.Nodes.{has_link}
 use Rattle.plan_reader.specs.PlanView.{IsPlan, PlanView}
 use Rattle.pair_machine.specs.Asked.{Asks}
@@ -322,7 +323,9 @@ sound_new id of_plan stands plan inputs script state ins outs fired planned time
   };
 }
 
--- more rows leave the tap's at their front
-pub tap_later : {A T : Type 0} (given : T → List Row) (rows : A → List Row) (tap : Option T) (state new : A) → IsPrefix (rows state) (rows new) → TapFits given rows tap state → TapFits given rows tap new
-tap_later given rows None state new more h = tt
-tap_later given rows (Some t) state new more h = (h.0 ++ more.0, sym (append_assoc (given t) h.0 more.0) ∙ (ap (λ l. l ++ more.0) h.1 ∙ more.1))
+-- with more rows, of which none was handed on, what the tap gave on still fits
+pub tap_later : {A T : Type 0} (lets_go : Bool) (given : T → List Row) (rows gone : A → List Row) (tap : Option T) (state new : A) → IsPrefix (rows state) (rows new) → gone new ≡ gone state →
+    TapFits lets_go given rows gone tap state → TapFits lets_go given rows gone tap new
+tap_later lets_go given rows gone None state new more same h = same ∙ h
+tap_later true given rows gone (Some t) state new more same h = (h.0 ∙ sym same, subst (λ l. IsPrefix l (rows new)) (sym same) (grows_on (gone state) (rows state) (rows new) h.1 more))
+tap_later false given rows gone (Some t) state new more same h = (same ∙ h.0, grows_on (given t) (rows state) (rows new) h.1 more)

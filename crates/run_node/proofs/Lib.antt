@@ -2,6 +2,7 @@ pub mod Places
 pub mod SentPackets
 pub mod FirstLinks
 pub mod Events
+pub mod Drawn
 pub mod Merged
 pub mod Runs
 pub mod Takes

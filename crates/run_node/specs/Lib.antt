@@ -1,4 +1,5 @@
 pub mod Ends
+pub mod Drawn
 pub mod Sends
 pub mod Fits
 pub mod Fired

@@ -1,6 +1,5 @@
 -- What is true of a node: whatever it took, its history is a true course within the script, and it stands for the numbers after it.
-use Rattle.std.specs.Prelude.{◌≡◌, ◌≤◌, ◌<◌, ◌^◌, ℕ, List, [], Option, Some, None, IsTrue, true, false}
-use mathlib.Core.List.{IsPrefix}
+use Rattle.std.specs.Prelude.{◌≡◌, ◌≤◌, ◌<◌, ◌^◌, ℕ, Bool, List, [], Option, Some, None, IsTrue, true, false}
 use Rattle.tuple_edge.specs.Input.{Input}
 use Rattle.tuple_edge.specs.declared.event.Event.{Event}
 use Rattle.tuple_edge.specs.declared.event.Event.TheVariants as event
@@ -22,15 +21,16 @@ use Rattle.pair_machine.specs.Numbers.{Node}
 use Rattle.pair_machine.specs.Within.{IsWithinScript}
 use Rattle.pair_machine.specs.declared.order.Order.{Order}
 use Rattle.node_tasks.specs.Timely.{AreTimely}
+use Rattle.run_node.specs.Drawn.{IsDrawn}
 use Rattle.run_node.specs.Ends.{InLink, OutLink, emitted_to, leads_to}
 use Rattle.run_node.specs.Fits.{Fit}
 use Rattle.run_node.specs.NodeView.{NodeView}
 use Rattle.run_node.specs.declared.fired.Fired.{Fired}
 
--- a node's tap gave on the first of the rows that it emitted
-abbrev pub TapFits : {A T : Type 0} → (T → List Row) → (A → List Row) → Option T → A → Type 0
-TapFits given rows None state = Unit {0}
-TapFits given rows (Some t) state = IsPrefix (given t) (rows state)
+-- what a node's tap gave on fits the rows that it emitted and those that it handed on; without a tap it handed on none
+abbrev pub TapFits : {A T : Type 0} → Bool → (T → List Row) → (A → List Row) → (A → List Row) → Option T → A → Type 0
+TapFits lets_go given rows gone None state = gone state ≡ []
+TapFits lets_go given rows gone (Some t) state = IsDrawn lets_go (given t) (rows state) (gone state)
 
 -- ---- what has happened once
 
@@ -84,11 +84,12 @@ IsTrueView id stands plan inputs script v = (arrived : Arrivals) → Fit arrived
 -- ---- the whole node
 
 -- what is true of a node between its events
-pub record IsNode {A T : Type 0} (given : T → List Row) (rows : A → List Row) (id : A → NodeId) (of_plan : PlanView → A → Type 0) (stands : PlanView → List Input → A → Node → Type 0) (plan : PlanView) (inputs : List Input) (script : List Order)
+pub record IsNode {A T : Type 0} (lets_go : Bool) (given : T → List Row) (rows gone : A → List Row) (id : A → NodeId) (of_plan : PlanView → A → Type 0) (stands : PlanView → List Input → A → Node → Type 0) (admits : A → List Input → Type 0) (plan : PlanView) (script : List Order)
     (state : A) (ins : List InLink) (outs : List OutLink) (clock : ℕ) (fired : Fired) (history : LogView) (outbox : OutboxView) (tap : Option T) : Type 0 where
   -- nothing is left to be sent
   pub unsent : outbox.packets ≡ []
-  pub gave : TapFits given rows tap state
-  pub sound : IsSoundNode id of_plan stands plan inputs script state ins outs clock fired history.entries
+  pub gave : TapFits lets_go given rows gone tap state
+  -- whatever the inputs are with which all that came begins
+  pub sound : (inputs : List Input) → admits state inputs → AreTimely inputs → IsSoundNode id of_plan stands plan inputs script state ins outs clock fired history.entries
   -- the history is its own
   pub own : history.node ≡ id state

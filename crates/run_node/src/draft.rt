@@ -4,20 +4,21 @@ ghost use Rattle.pair_machine.specs.Links.{HasNode, link};
 ghost use Rattle.pair_machine.specs.Machine.{new_node};
 ghost use Rattle.plan_reader.specs.Nodes.{has_link};
 ghost use Rattle.plan_reader.specs.PlanView.{IsPlan};
-ghost use Rattle.node_tasks.specs.Timely.{AreTimely};
 ghost use Rattle.run_node.specs.FirstLinks.{identity_to};
 ghost use Rattle.run_node.specs.NodeView.{name_of};
 ghost use Rattle.run_node.specs.SoundNode.{TapFits};
-ghost use Rattle.std.specs.Prelude.{◌≡◌, ◌++◌, ◌∷◌, [], IsSome, IsTrue, OnOk, is_some};
+ghost use Rattle.std.specs.Prelude.{◌≡◌, ◌++◌, ◌∷◌, [], IsSome, IsTrue, List, OnOk, is_some};
+ghost use Rattle.tuple_edge.specs.Input.{Input};
 ghost use Rattle.tuple_edge.specs.declared.node.NodeId.{NodeId};
 
+use crate::draws::Draws;
 use crate::in_end::InEnd;
 use crate::links::Links;
 use crate::names::RunNames;
 use crate::node::Node;
 use crate::out_end::OutEnd;
 use crate::sending::place_to;
-use crate::tap::Tap;
+use event_log::Keeps;
 use node_tasks::Acts;
 use std::alloc::Global;
 use std::marker::{Model, PhantomData};
@@ -25,7 +26,7 @@ use tuple_edge::{NodeId, OutOfMemory};
 
 /// A node as it opens, with the links that it has got so far.
 #[derive(Drop)]
-pub struct Draft<N: RunNames, A: Acts, M: Links, T: Tap> {
+pub struct Draft<N: RunNames, A: Acts, M: Links, T: Draws> {
     state: A,
     ins: Vec<InEnd<M::In>>,
     outs: Vec<OutEnd<M::Out>>,
@@ -33,7 +34,7 @@ pub struct Draft<N: RunNames, A: Acts, M: Links, T: Tap> {
     of: PhantomData<N>,
 }
 
-impl<N: RunNames, A: Acts, M: Links, T: Tap> Model for Draft<N, A, M, T> {
+impl<N: RunNames, A: Acts, M: Links, T: Draws> Model for Draft<N, A, M, T> {
     ghost use Rattle.run_node.specs.Ends.{links_in, links_of};
     ghost use Rattle.run_node.specs.Fresh.{IsFresh};
     ghost use Rattle.run_node.specs.NodeView.{NodeName, in_names, out_names};
@@ -43,15 +44,15 @@ impl<N: RunNames, A: Acts, M: Links, T: Tap> Model for Draft<N, A, M, T> {
 
     ghost view = { λ d. record { id = A.id d.state; ins = in_names (links_in d.ins.items); outs = out_names (links_of d.outs.items); tapped = is_some d.tap } };
 
-    ghost invariant = { λ d. IsFresh T.given A.id A.of_plan A.stands A.rows N.plan N.inputs d.state (links_of d.outs.items) d.tap };
+    ghost invariant = { λ d. IsFresh T.lets_go T.given A.id A.of_plan A.stands A.rows A.gone A.admits N.plan d.state (links_of d.outs.items) d.tap };
 }
 
-impl<N: RunNames, A: Acts, M: Links, T: Tap> Draft<N, A, M, T> {
+impl<N: RunNames, A: Acts, M: Links, T: Draws> Draft<N, A, M, T> {
     /// A node that has no link yet.
     pub fn new(alloc: Global, state: A, tap: Option<T>) -> Draft<N, A, M, T>
         requires of_plan { A.of_plan N.plan state }
-        requires opening { A.stands N.plan N.inputs state (new_node (A.id state)) }
-        requires tap { TapFits T.given A.rows tap state }
+        requires opening { (inputs : List Input) → A.admits state inputs → A.stands N.plan inputs state (new_node (A.id state)) }
+        requires tap { TapFits T.lets_go T.given A.rows A.gone tap state }
         ensures { result ≡ record { id = A.id state; ins = []; outs = []; tapped = is_some tap } }
     {
         Draft {
@@ -99,10 +100,9 @@ impl<N: RunNames, A: Acts, M: Links, T: Tap> Draft<N, A, M, T> {
     }
 
     /// The node, which has its links now.
-    pub fn finish(self, alloc: Global) -> Node<N, A, M, T>
+    pub fn finish<K: Keeps>(self, alloc: Global) -> Node<N, A, K, M, T>
         requires planned { IsPlan N.plan }
-        requires timely { AreTimely N.inputs }
-        requires there { HasNode (flow_of N.plan N.inputs) self.id }
+        requires there { (inputs : List Input) → HasNode (flow_of N.plan inputs) self.id }
         requires linked { (to : NodeId) → IsTrue (has_link N.plan (link self.id to)) → IsSome (identity_to self.outs to) }
         ensures { name_of A.id result ≡ self }
     {

@@ -7,10 +7,11 @@ ghost use Rattle.run_node.specs.Portions.{NoneComesDue};
 ghost use Rattle.node_tasks.specs.Tasks.{event_of, packet_of};
 ghost use Rattle.std.specs.Prelude.{◌≡◌, ◌≤◌, ◌<◌, ◌+◌, None, IsTrue};
 
+use crate::draws::Draws;
 use crate::links::Links;
 use crate::names::RunNames;
 use crate::node::Node;
-use crate::tap::Tap;
+use event_log::Keeps;
 use failure_script::Script;
 use node_tasks::{Acts, Task};
 use tuple_edge::{NodeId, OutOfMemory};
@@ -34,7 +35,7 @@ fn most_at_once(script: &Script, node: NodeId, merged: u64, most: u64) -> u64
     }
 }
 
-impl<N: RunNames, A: Acts, M: Links, T: Tap> Node<N, A, M, T> {
+impl<N: RunNames, A: Acts, K: Keeps, M: Links, T: Draws> Node<N, A, K, M, T> {
     /// Obeys the orders that are due, each once.
     pub(crate) fn fire(&mut self, script: &Script) -> Result<bool, OutOfMemory>
         requires { script.now ≡ N.script }

@@ -7,11 +7,12 @@
 //! in-links in the other, `settle` shows that what the node took there was sent to it.
 //!
 //! What a node is and does of itself is left to the trait `Acts` (`node_tasks`): no crate of the nodes stands below this one. It stands on
-//! `flux_link` for the ends of links, on `event_log`, which keeps its history, on `failure_script` for orders, and on the laws
+//! `flux_link` for the ends of links, on what keeps its history (`Keeps` of `event_log`), on `failure_script` for orders, and on the laws
 //! of `pair_machine` for histories. Of `claim_board` it takes only that a node has a name there.
 #![tactic(auto)]
 
 mod draft;
+mod draws;
 mod fired;
 mod firing;
 mod in_end;
@@ -31,9 +32,10 @@ mod tap;
 mod turn;
 
 pub use draft::Draft;
+pub use draws::{Draws, HandsOn, Offers};
 pub use fired::Fired;
 pub use links::Links;
 pub use names::RunNames;
 pub use node::Node;
 pub use part::Part;
-pub use tap::{NoTap, Tap};
+pub use tap::{NoTap, RowTap, Tap};

@@ -2,7 +2,6 @@
 ghost use Rattle.pair_machine.specs.declared.order.Order.{Order};
 ghost use Rattle.plan_reader.specs.PlanView.{PlanView};
 ghost use Rattle.std.specs.Prelude.{List, []};
-ghost use Rattle.tuple_edge.specs.Input.{Input};
 
 use std::marker::Brand;
 
@@ -11,17 +10,12 @@ pub trait RunNames: Send + Sync {
     /// The plan of the run.
     ghost plan: { PlanView };
 
-    /// The inputs that its trades are.
-    ghost inputs: { List Input };
-
     /// The orders of its script.
     ghost script: { List Order };
 }
 
 impl RunNames for Brand {
     ghost plan = { record { version = 1; stages = []; mark = 0; hold = 0 } };
-
-    ghost inputs = { [] };
 
     ghost script = { [] };
 }

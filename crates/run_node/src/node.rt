@@ -16,10 +16,12 @@ ghost use Rattle.run_node.specs.Sends.{with_all_sent};
 ghost use Rattle.run_node.specs.SoundNode.{IsTrueView, TapFits};
 ghost use Rattle.run_node.specs.Takes.{HasTaken, Takes, TakesNothing};
 ghost use Rattle.node_tasks.specs.Tasks.{event_of, packet_of};
+ghost use Rattle.tuple_edge.specs.Input.{Input};
 ghost use Rattle.tuple_edge.specs.Limits.{most_packets};
-ghost use Rattle.std.specs.Prelude.{◌≡◌, ◌≢◌, ◌≤◌, ◌++◌, ◌∷◌, [], ℕ, None, true, IfOk, IsTrue, Ok, OnErr, OnOk, length};
+ghost use Rattle.std.specs.Prelude.{◌≡◌, ◌≢◌, ◌≤◌, ◌++◌, ◌∷◌, [], ℕ, List, None, true, IfOk, IsTrue, Ok, OnErr, OnOk, length};
 ghost use Rattle.tuple_edge.specs.declared.node.NodeId.{NodeId};
 
+use crate::draws::Draws;
 use crate::fired::Fired;
 use crate::in_end::InEnd;
 use crate::links::Links;
@@ -29,14 +31,13 @@ use crate::outs::Outs;
 use crate::part::Part;
 use crate::receiving::{end_at, pass_at, waiting_at};
 use crate::round::Round;
-use crate::tap::Tap;
-use event_log::Log;
+use event_log::Keeps;
 use flux_link::Outlet;
 use node_tasks::{Acts, Task};
 use plan_reader::Plan;
 use std::alloc::Global;
 use std::marker::{Model, PhantomData};
-use tuple_edge::{MOST_PACKETS, NUMBER_LIMIT, OutOfMemory, Outbox, Stamped, Worked};
+use tuple_edge::{Input, MOST_PACKETS, NUMBER_LIMIT, OutOfMemory, Outbox, Stamped, Worked};
 
 // No clock passes it.
 const LAST_CLOCK: u64 = NUMBER_LIMIT - 1;
@@ -46,16 +47,16 @@ const LAST_CLOCK: u64 = NUMBER_LIMIT - 1;
 const MOST_RISE: u64 = 32;
 
 // Makes room for what one event adds: an entry of the history, and the packets that it sends.
-fn reserve_event<O: Outlet + Drop>(
-    history: &mut Log,
+fn reserve_event<K: Keeps, O: Outlet + Drop>(
+    history: &mut K,
     outs: &mut Outs<O>,
     outbox: &mut Outbox,
 ) -> Result<(), OutOfMemory>
-    ensures history { history.new.entries ≡ history.old.entries }
-    ensures node { history.new.node ≡ history.old.node }
+    ensures history { (K.kept history.new).entries ≡ (K.kept history.old).entries }
+    ensures node { (K.kept history.new).node ≡ (K.kept history.old).node }
     ensures links { outs.new.links ≡ outs.old.links }
     ensures packets { outbox.new.packets ≡ outbox.old.packets }
-    ensures entry { OnOk result (1 ≤ history.new.spare) }
+    ensures entry { OnOk result (1 ≤ (K.kept history.new).spare) }
     ensures room { OnOk result (most_packets ≤ outs.new.room) }
     ensures spare { OnOk result (most_packets ≤ outbox.new.spare) }
 {
@@ -66,10 +67,10 @@ fn reserve_event<O: Outlet + Drop>(
 }
 
 // Appends the event that a task is at the node whose history it is.
-fn note(history: &mut Log, task: &Task, clock: u64)
-    requires { 1 ≤ history.old.spare }
-    ensures node { history.new.node ≡ history.old.node }
-    ensures entries { history.new.entries ≡ history.old.entries ++ record { clock = clock; event = event_of history.old.node task.now } ∷ [] }
+fn note<K: Keeps>(history: &mut K, task: &Task, clock: u64)
+    requires { 1 ≤ (K.kept history.old).spare }
+    ensures node { (K.kept history.new).node ≡ (K.kept history.old).node }
+    ensures entries { (K.kept history.new).entries ≡ (K.kept history.old).entries ++ record { clock = clock; event = event_of (K.kept history.old).node task.now } ∷ [] }
 {
     let event = task.event_at(history.node());
     history.push_reserved(Stamped { clock, event });
@@ -87,14 +88,14 @@ fn send_event<O: Outlet + Drop>(outs: &mut Outs<O>, outbox: &mut Outbox, clock: 
 
 /// A node with its links, its clock and its history.
 #[derive(Drop)]
-pub struct Node<N: RunNames, A: Acts, M: Links, T: Tap> {
+pub struct Node<N: RunNames, A: Acts, K: Keeps, M: Links, T: Draws> {
     pub(crate) state: A,
     pub(crate) ins: Vec<InEnd<M::In>>,
     pub(crate) outs: Outs<M::Out>,
     // Empty between events.
     outbox: Outbox,
     clock: u64,
-    pub(crate) history: Log,
+    pub(crate) history: K,
     // What the orders of the script have made it do.
     pub(crate) fired: Fired,
     // Which in-links this turn is still to look at.
@@ -105,7 +106,7 @@ pub struct Node<N: RunNames, A: Acts, M: Links, T: Tap> {
     of: PhantomData<N>,
 }
 
-impl<N: RunNames, A: Acts, M: Links, T: Tap> Model for Node<N, A, M, T> {
+impl<N: RunNames, A: Acts, K: Keeps, M: Links, T: Draws> Model for Node<N, A, K, M, T> {
     ghost use Rattle.run_node.specs.Ends.{links_in};
     ghost use Rattle.run_node.specs.NodeView.{NodeView};
     ghost use Rattle.run_node.specs.SoundNode.{IsNode};
@@ -116,15 +117,15 @@ impl<N: RunNames, A: Acts, M: Links, T: Tap> Model for Node<N, A, M, T> {
       state = n.state;
       ins = links_in n.ins.items;
       outs = n.outs.links;
-      history = n.history.entries;
+      history = (K.kept n.history).entries;
       tap = n.tap;
     } };
 
-    ghost invariant = { λ n. IsNode T.given A.rows A.id A.of_plan A.stands N.plan N.inputs N.script
-        n.state (links_in n.ins.items) n.outs.links n.clock n.fired n.history n.outbox n.tap };
+    ghost invariant = { λ n. IsNode T.lets_go T.given A.rows A.gone A.id A.of_plan A.stands A.admits N.plan N.script
+        n.state (links_in n.ins.items) n.outs.links n.clock n.fired (K.kept n.history) n.outbox n.tap };
 }
 
-impl<N: RunNames, A: Acts, M: Links, T: Tap> Node<N, A, M, T> {
+impl<N: RunNames, A: Acts, K: Keeps, M: Links, T: Draws> Node<N, A, K, M, T> {
     /// A node before its first event.
     pub(crate) fn new(
         alloc: Global,
@@ -132,18 +133,17 @@ impl<N: RunNames, A: Acts, M: Links, T: Tap> Node<N, A, M, T> {
         ins: Vec<InEnd<M::In>>,
         outs: Vec<OutEnd<M::Out>>,
         tap: Option<T>,
-    ) -> Node<N, A, M, T>
+    ) -> Node<N, A, K, M, T>
         requires planned { IsPlan N.plan }
-        requires timely { AreTimely N.inputs }
         requires named { A.of_plan N.plan state }
-        requires there { HasNode (flow_of N.plan N.inputs) (A.id state) }
-        requires opening { A.stands N.plan N.inputs state (new_node (A.id state)) }
+        requires there { (inputs : List Input) → HasNode (flow_of N.plan inputs) (A.id state) }
+        requires opening { (inputs : List Input) → A.admits state inputs → A.stands N.plan inputs state (new_node (A.id state)) }
         requires linked { (to : NodeId) → IsTrue (has_link N.plan (link (A.id state) to)) → leads_to (links_of outs.items) to ≡ true }
         requires fresh { Each (λ l. l.emitted ≡ []) (links_of outs.items) }
-        requires tap { TapFits T.given A.rows tap state }
+        requires tap { TapFits T.lets_go T.given A.rows A.gone tap state }
         ensures { result ≡ record { state = state; ins = links_in ins.items; outs = links_of outs.items; history = []; tap = tap } }
     {
-        let history = Log::new(alloc, state.id());
+        let history = K::new(alloc, state.id());
         Node {
             state,
             ins,
@@ -160,12 +160,12 @@ impl<N: RunNames, A: Acts, M: Links, T: Tap> Node<N, A, M, T> {
     }
 
     /// What is left of it: its own part and its history, which is a true course, and its tap.
-    pub fn into_part(self) -> (Part<A>, Option<T>)
-        ensures part { (result.0.state ≡ self.state) × (result.0.history.entries ≡ self.history) }
-        ensures node { result.0.history.node ≡ A.id self.state }
-        ensures tap { (result.1 ≡ self.tap) × TapFits T.given A.rows result.1 result.0.state }
-        ensures course { IsTrueView A.id A.stands N.plan N.inputs N.script self }
-        ensures rising { AreRising self.history }
+    pub fn into_part(self) -> (Part<A, K>, Option<T>)
+        ensures part { (result.0.state ≡ self.state) × ((K.kept result.0.history).entries ≡ self.history) }
+        ensures node { (K.kept result.0.history).node ≡ A.id self.state }
+        ensures tap { (result.1 ≡ self.tap) × TapFits T.lets_go T.given A.rows A.gone result.1 result.0.state }
+        ensures course { (inputs : List Input) → A.admits self.state inputs → AreTimely inputs → IsTrueView A.id A.stands N.plan inputs N.script self }
+        ensures rising { (inputs : List Input) → A.admits self.state inputs → AreTimely inputs → AreRising self.history }
     {
         let Node {
             state,
@@ -186,7 +186,7 @@ impl<N: RunNames, A: Acts, M: Links, T: Tap> Node<N, A, M, T> {
     // One event that is neither a take nor work nor a make, if it is one: its room first, then what it does, and then what it sends.
     pub(crate) fn event(&mut self, task: &Task) -> Result<bool, OutOfMemory>
         requires untaken { packet_of task.now ≡ None }
-        requires allowed { (x : NodeNumbers) → A.stands N.plan N.inputs self.old.state x → IsAllowedAt N.script (event_of (A.id self.old.state) task.now) x }
+        requires allowed { (inputs : List Input) (x : NodeNumbers) → A.stands N.plan inputs self.old.state x → IsAllowedAt N.script (event_of (A.id self.old.state) task.now) x }
         ensures happens { result ≡ Ok true → HasHappened (event_of (A.id self.old.state) task.now) self.old.history self.new.history }
         ensures name { name_of A.id self.new ≡ name_of A.id self.old }
         ensures ins { self.new.ins ≡ self.old.ins }
@@ -302,14 +302,23 @@ impl<N: RunNames, A: Acts, M: Links, T: Tap> Node<N, A, M, T> {
         Ok(count)
     }
 
-    // Offers its tap, if it has one, all rows that it emitted.
+    /// Takes the next input that comes, if it is ingress. It is no event.
+    pub fn feed(&mut self, input: Input) -> Result<bool, OutOfMemory>
+        ensures name { name_of A.id self.new ≡ name_of A.id self.old }
+        ensures history { self.new.history ≡ self.old.history }
+        ensures inputs { (inputs : List Input) → A.admits self.new.state inputs → A.admits self.old.state inputs }
+    {
+        self.state.feed(input)
+    }
+
+    // Has its tap, if it has one, give on of the rows that it emitted. It is no event.
     pub(crate) fn offer(&mut self)
         ensures { name_of A.id self.new ≡ name_of A.id self.old }
     {
         let Some(tap) = &mut self.tap else {
             return;
         };
-        tap.offer(self.state.emitted());
+        tap.draw(&mut self.state);
     }
 
     // Pushes what waits, and begins a round over its in-links. Small reports are left for later.

@@ -7,6 +7,7 @@ ghost use Rattle.run_node.specs.FirstLinks.{identity_to};
 ghost use Rattle.run_node.specs.NodeView.{out_names};
 ghost use Rattle.std.specs.Prelude.{◌≡◌, ◌<◌, Some, length, slice_get};
 
+use crate::draws::Draws;
 use crate::in_end::InEnd;
 use crate::links::Links;
 use crate::names::RunNames;
@@ -14,7 +15,7 @@ use crate::node::Node;
 use crate::out_end::OutEnd;
 use crate::outs::Outs;
 use crate::sending::place_to;
-use crate::tap::Tap;
+use event_log::Keeps;
 use node_tasks::Acts;
 use tuple_edge::NodeId;
 
@@ -39,7 +40,7 @@ fn settle_to<M: Links>(links: &mut M, outs: &mut Outs<M::Out>, to: NodeId, end: 
     settle_ends(links, &mut outs.ends[place], end);
 }
 
-impl<N: RunNames, A: Acts, M: Links, T: Tap> Node<N, A, M, T> {
+impl<N: RunNames, A: Acts, K: Keeps, M: Links, T: Draws> Node<N, A, K, M, T> {
     /// Whether this is its id.
     pub fn has_id(&self, id: NodeId) -> bool
         ensures { result ≡ is_node (A.id self.now.state) id }
@@ -64,7 +65,7 @@ impl<N: RunNames, A: Acts, M: Links, T: Tap> Node<N, A, M, T> {
     }
 
     /// Settles one of its in-links with the node from which it comes.
-    pub fn settle(&mut self, inlet: usize, sender: &mut Node<N, A, M, T>, links: &mut M)
+    pub fn settle(&mut self, inlet: usize, sender: &mut Node<N, A, K, M, T>, links: &mut M)
         requires inlet { inlet < length self.old.ins }
         requires link { (l : InLink) → slice_get self.old.ins inlet ≡ Some l → identity_to (out_names sender.old.outs) (A.id self.old.state) ≡ Some l.identity }
         ensures same { (self.new ≡ self.old) × (sender.new ≡ sender.old) }

@@ -2,19 +2,17 @@
 ghost use Rattle.run_node.specs.NodeView.{name_of};
 ghost use Rattle.std.specs.Prelude.{◌≡◌};
 
+use crate::draws::Draws;
 use crate::links::Links;
 use crate::names::RunNames;
 use crate::node::Node;
-use crate::tap::Tap;
+use event_log::Keeps;
 use failure_script::Script;
-use node_tasks::Acts;
+use node_tasks::{Acts, PORTION};
 use plan_reader::Plan;
 use tuple_edge::OutOfMemory;
 
-// How many packets, rows and pieces of work one turn has at most.
-const PORTION: u64 = 64;
-
-impl<N: RunNames, A: Acts, M: Links, T: Tap> Node<N, A, M, T> {
+impl<N: RunNames, A: Acts, K: Keeps, M: Links, T: Draws> Node<N, A, K, M, T> {
     /// One turn: it pushes what it can, obeys the script's orders that are due, takes packets, makes rows and does
     /// work. Marks are reported where one of them rose enough, and where the turn came to nothing else. Then, also where
     /// memory is wanting, it offers its tap the rows that it emitted. Whether it did anything.

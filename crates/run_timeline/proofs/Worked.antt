@@ -17,5 +17,9 @@ worked_timelines = record {
   of_egress = refl;
   marks_of_a = refl;
   marks_of_b = refl;
+  lost_at_a = refl;
+  lost_at_b = refl;
+  lost_at_no_other = refl;
+  each_two = refl;
   scale = refl;
 }

@@ -1,14 +1,18 @@
 -- Parts of a timeline worked by hand: six events in two columns, in the second of which the leader fails.
-use Rattle.std.specs.Prelude.{◌≡◌, List, [], ◌∷◌, codes}
+use Rattle.std.specs.Prelude.{◌≡◌, ℕ, List, [], ◌∷◌, codes, map}
+use Rattle.std.specs.List.{flat_map}
 use Rattle.tuple_edge.specs.declared.node.NodeId.{NodeId}
 use Rattle.tuple_edge.specs.declared.node.NodeId.TheVariants as node
 use Rattle.tuple_edge.specs.declared.node.Which.TheVariants.{A, B}
 use Rattle.lane_chart.specs.declared.chart.Cell.TheVariants as cell
 use Rattle.lane_chart.specs.declared.chart.Weight.TheVariants as weight
+use Rattle.lane_chart.specs.ChartView.{Word}
+use Rattle.lane_chart.specs.Text.{letter_at}
 use Rattle.run_timeline.specs.Cells.{makes_of, replica_cells, rising_cells, rows_of}
 use Rattle.run_timeline.specs.Marks.{column_of, marks_of}
 use Rattle.run_timeline.specs.Ticks.{ticks_of}
 use Rattle.run_watch.specs.FrameView.{FrameView}
+use Rattle.run_watch.specs.declared.happening.Happening.{Happening}
 use Rattle.run_watch.specs.declared.happening.Happening.TheVariants as happening
 use Rattle.run_watch.specs.declared.happening.Told.{Told}
 use Rattle.run_watch.specs.declared.mode.Mode.TheVariants as mode
@@ -33,6 +37,29 @@ two_told =
     record { place = 4; line = 5; made = 2; emitted = 0; happening = happening.Failed replica_a 1 }
     ∷ record { place = 6; line = 7; made = 3; emitted = 1; happening = happening.Leads replica_b 2 } ∷ []
 
+-- a replica of another pair
+abbrev pub replica_c : NodeId
+replica_c = node.Replica 1 1 A
+
+-- a happening at the fifth event, in the second column
+abbrev pub told_at_five : Happening → Told
+told_at_five h = record { place = 5; line = 6; made = 3; emitted = 0; happening = h }
+
+-- a happening of each kind at replica A or its pair, in the order of the key
+abbrev pub each_kind : List Happening
+each_kind =
+    happening.Lost 1 0 ∷ happening.Failed replica_a 1 ∷ happening.Named replica_a 2 3 ∷ happening.Leads replica_a 2 ∷ happening.Regained 1 0
+    ∷ happening.AskedStop replica_a 1 ∷ happening.Stopped replica_a 1 ∷ happening.AskedBack replica_a
+    ∷ happening.Recalled replica_a 2 ∷ happening.Begun replica_a 2 ∷ happening.Moved replica_a 2 7 ∷ happening.CaughtUp replica_a 2 7 1 ∷ []
+
+-- the letter of a column in which two things happen one after the other
+abbrev pub letter_of_two : (first second : Happening) → Word
+letter_of_two first second = letter_at (marks_of two_frames (told_at_five first ∷ told_at_five second ∷ []) replica_a) 1 cell.Absent
+
+-- the letters of columns in which one thing happens, and then one of each kind
+abbrev pub letters_after : Happening → List ℕ
+letters_after first = flat_map (letter_of_two first) each_kind
+
 pub record WorkedTimelines : Type 0 where
   -- a column has the event at its end, and the next one begins after it
   pub at_the_end : column_of two_frames 3 ≡ 0
@@ -45,8 +72,30 @@ pub record WorkedTimelines : Type 0 where
   pub of_egress : rising_cells 0 (rows_of two_frames) ≡ cell.Idle ∷ cell.Active ∷ []
   -- each happening stands in its node's lane alone
   pub marks_of_a : marks_of two_frames two_told replica_a
-      ≡ record { column = 1; weight = weight.Alarm; letter = codes "X"; title = codes "1.0.a: failed at event 4 line 5 in 2 out 0" } ∷ []
+      ≡ record { column = 1; weight = weight.Alarm; rank = 1; letter = codes "X"; title = codes "1.0.a: failed at event 4 line 5 in 2 out 0" } ∷ []
   pub marks_of_b : marks_of two_frames two_told replica_b
-      ≡ record { column = 1; weight = weight.Turn; letter = codes "L"; title = codes "1.0.b: takes the lead at event 6 line 7 in 3 out 1" } ∷ []
+      ≡ record { column = 1; weight = weight.Turn; rank = 3; letter = codes "L"; title = codes "1.0.b: takes the lead at event 6 line 7 in 3 out 1" } ∷ []
+  -- a pair that is lost stands in the lanes of both its replicas, and of no others
+  pub lost_at_a : marks_of two_frames (told_at_five (happening.Lost 1 0) ∷ []) replica_a
+      ≡ record { column = 1; weight = weight.Alarm; rank = 0; letter = codes "!"; title = codes "1.0.a: pair lost at event 5 line 6 in 3 out 0" } ∷ []
+  pub lost_at_b : marks_of two_frames (told_at_five (happening.Lost 1 0) ∷ []) replica_b
+      ≡ record { column = 1; weight = weight.Alarm; rank = 0; letter = codes "!"; title = codes "1.0.b: pair lost at event 5 line 6 in 3 out 0" } ∷ []
+  pub lost_at_no_other : marks_of two_frames (told_at_five (happening.Lost 1 0) ∷ []) replica_c ≡ []
+  -- of two things in one column the heavier has its letter there, whichever came first: a line for each kind that comes first, and in it a
+  -- letter for each that comes second
+  pub each_two : map letters_after each_kind
+      ≡ codes "!!!!!!!!!!!!"
+      ∷ codes "!XXXXXXXXXXX"
+      ∷ codes "!XNNNNNNNNNN"
+      ∷ codes "!XNLLLLLLLLL"
+      ∷ codes "!XNLOOOOOOOO"
+      ∷ codes "!XNLOAAAAAAA"
+      ∷ codes "!XNLOASSSSSS"
+      ∷ codes "!XNLOASBBBBB"
+      ∷ codes "!XNLOASBRRRR"
+      ∷ codes "!XNLOASBRGGG"
+      ∷ codes "!XNLOASBRGMM"
+      ∷ codes "!XNLOASBRGMC"
+      ∷ []
   -- the scale has its beginning and its end
   pub scale : ticks_of two_frames ≡ record { column = 0; span = 2; number = 0 } ∷ record { column = 2; span = 0; number = 6 } ∷ []

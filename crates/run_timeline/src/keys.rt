@@ -40,13 +40,13 @@ pub(crate) fn cell_keys(alloc: Global) -> Result<Vec<CellKey>, OutOfMemory>
     Ok(keys)
 }
 
-// What the letters of losses and of turns mean.
+// What the letters of losses and of turns mean, the heaviest first.
 fn turn_keys(alloc: Global) -> Result<Vec<LetterKey>, OutOfMemory>
     ensures { IfOk result (λ keys. map letter_key_shown keys.items ≡ turn_keys) }
 {
     let keys = vec![in alloc;
-        letter_key(Weight::Alarm, "X", "failed"),
         letter_key(Weight::Alarm, "!", "pair lost"),
+        letter_key(Weight::Alarm, "X", "failed"),
         letter_key(Weight::Turn, "N", "named leader"),
         letter_key(Weight::Turn, "L", "takes the lead"),
         letter_key(Weight::Turn, "O", "pair serves"),
@@ -87,7 +87,7 @@ fn push_keys(keys: &mut Vec<LetterKey>, more: &[LetterKey]) -> Result<(), OutOfM
     Ok(())
 }
 
-// What the letters mean.
+// What the letters mean, the heaviest first.
 pub(crate) fn letter_keys(alloc: Global) -> Result<Vec<LetterKey>, OutOfMemory>
     ensures { IfOk result (λ keys. map letter_key_shown keys.items ≡ letter_keys) }
 {

@@ -116,6 +116,35 @@ fn push_egress_lane(
     Ok(())
 }
 
+// Appends the lanes of a plan's replicas.
+fn push_plan_lanes(
+    lanes: &mut Vec<Lane>,
+    alloc: Global,
+    plan: &Plan,
+    frames: &[Frame],
+    told: &[Told],
+) -> Result<(), OutOfMemory>
+    ensures { OnOk result (map lane_shown lanes.new.items ≡ map lane_shown lanes.old.items ++ replica_lanes frames.now told.now (replicas_of plan.now)) }
+{
+    let nodes = replicas_of(alloc, plan)?;
+    push_replica_lanes(lanes, alloc, frames, told, &nodes)
+}
+
+// Appends all lanes, from ingress to egress.
+fn push_lanes(
+    lanes: &mut Vec<Lane>,
+    alloc: Global,
+    plan: &Plan,
+    frames: &[Frame],
+    told: &[Told],
+) -> Result<(), OutOfMemory>
+    ensures { OnOk result (map lane_shown lanes.new.items ≡ map lane_shown lanes.old.items ++ lanes_of plan.now frames.now told.now) }
+{
+    push_ingress_lane(lanes, alloc, frames)?;
+    push_plan_lanes(lanes, alloc, plan, frames, told)?;
+    push_egress_lane(lanes, alloc, frames)
+}
+
 // All lanes, from ingress to egress.
 pub(crate) fn lanes_of(
     alloc: Global,
@@ -125,10 +154,7 @@ pub(crate) fn lanes_of(
 ) -> Result<Vec<Lane>, OutOfMemory>
     ensures { IfOk result (λ lanes. map lane_shown lanes.items ≡ lanes_of plan.now frames.now told.now) }
 {
-    let nodes = replicas_of(alloc, plan)?;
     let mut lanes = Vec::new(alloc);
-    push_ingress_lane(&mut lanes, alloc, frames)?;
-    push_replica_lanes(&mut lanes, alloc, frames, told, &nodes)?;
-    push_egress_lane(&mut lanes, alloc, frames)?;
+    push_lanes(&mut lanes, alloc, plan, frames, told)?;
     Ok(lanes)
 }

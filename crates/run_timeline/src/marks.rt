@@ -1,11 +1,10 @@
 // The marks of a lane.
 ghost use Rattle.lane_chart.specs.ChartView.{mark_shown};
-ghost use Rattle.pair_machine.specs.Numbers.{is_node};
 ghost use Rattle.run_timeline.specs.Marks.{column_of, mark_in, mark_of, marks_of};
 ghost use Rattle.std.specs.Prelude.{◌≡◌, ◌++◌, IfOk, OnOk, map};
 
 use crate::said::title_of;
-use crate::signs::{lane_of, letter_of, weight_of};
+use crate::signs::{letter_of, rank_of, stands_in, weight_of};
 use lane_chart::Mark;
 use run_watch::{Frame, Told};
 use std::alloc::Global;
@@ -23,23 +22,21 @@ fn column_of(frames: &[Frame], place: u64) -> usize
     frames.len()
 }
 
-// Whether two nodes are one.
-fn is_node(one: NodeId, another: NodeId) -> bool
-    ensures { result ≡ is_node one another }
-{
-    one == another
-}
-
-// The mark of a happening.
+// The mark of a happening, in the lane of a node.
 #[tactic(auto, unfolding(crate::specs::Marks::mark_of))]
-fn mark_of(alloc: Global, frames: &[Frame], told: &Told) -> Result<Mark, OutOfMemory>
-    ensures { IfOk result (λ mark. mark_shown mark ≡ mark_of frames.now told.now) }
+fn mark_of(alloc: Global, frames: &[Frame], lane: NodeId, told: &Told) -> Result<Mark, OutOfMemory>
+    ensures { IfOk result (λ mark. mark_shown mark ≡ mark_of frames.now lane told.now) }
 {
-    let title = title_of(alloc, told)?;
+    let column = column_of(frames, told.place);
+    let weight = weight_of(told.happening);
+    let rank = rank_of(told.happening);
+    let letter = letter_of(told.happening);
+    let title = title_of(alloc, lane, told)?;
     Ok(Mark {
-        column: column_of(frames, told.place),
-        weight: weight_of(told.happening),
-        letter: letter_of(told.happening),
+        column,
+        weight,
+        rank,
+        letter,
         title,
     })
 }
@@ -54,8 +51,8 @@ fn push_mark_in(
 ) -> Result<(), OutOfMemory>
     ensures { OnOk result (map mark_shown marks.new.items ≡ map mark_shown marks.old.items ++ mark_in frames.now node told.now) }
 {
-    if is_node(lane_of(told.happening), node) {
-        marks.push(mark_of(alloc, frames, told)?)?;
+    if stands_in(node, told.happening) {
+        marks.push(mark_of(alloc, frames, node, told)?)?;
     }
     Ok(())
 }

@@ -35,8 +35,9 @@ fn title_of(alloc: Global, frames: &[Frame]) -> Result<String, OutOfMemory>
 /// The chart of what happened in a run of this plan, and of its frames: a lane for ingress, for each replica in node
 /// order, and for egress. A replica's cell is its mode at the column's end; that of ingress or egress says whether it
 /// made or emitted anything in the column. Each happening that is told has a mark, in the lane of its node and in the
-/// column of its place, and one of a pair in the lane of its replica A. Under the lanes stand the rows that egress had
-/// emitted at each column's end.
+/// column of its place, and one of a pair in the lanes of both its replicas. A mark's rank is the place of its letter in
+/// the key: a lost pair is the heaviest, then a failure, then a named leader. Under the lanes stand the rows that egress
+/// had emitted at each column's end.
 #[tactic(auto, unfolding(crate::specs::Timeline::timeline))]
 pub fn chart_of(alloc: Global, plan: &Plan, watched: &Watched) -> Result<Chart, OutOfMemory>
     ensures { IfOk result (λ chart. chart_shown chart ≡ timeline plan.now watched.now.frames.items watched.now.told.items) }

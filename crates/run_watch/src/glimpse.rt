@@ -7,21 +7,21 @@ use crate::mode::Mode;
 use tuple_edge::{Status, Which};
 
 /// A move that a replica gives: for which incarnation of its partner, and how many entries of it were sent.
-#[derive(Clone, Copy, Debug, PartialEq, Eq)]
+#[derive(Clone, Copy, PartialEq, Eq)]
 pub struct Moving {
     pub target: u64,
     pub sent: u64,
 }
 
 /// What a controller knows of a replica.
-#[derive(Clone, Copy, Debug, PartialEq, Eq)]
+#[derive(Clone, Copy, PartialEq, Eq)]
 pub struct Known {
     pub status: Status,
     pub inc: u64,
 }
 
 /// A node, seen at a time.
-#[derive(Clone, Copy, Debug, PartialEq, Eq)]
+#[derive(Clone, Copy, PartialEq, Eq)]
 pub enum Glimpse {
     /// A replica that runs.
     Running {

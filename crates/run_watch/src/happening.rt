@@ -2,7 +2,7 @@
 use tuple_edge::NodeId;
 
 /// Something that happened to a replica or a pair, at one event.
-#[derive(Clone, Copy, Debug, PartialEq, Eq)]
+#[derive(Clone, Copy)]
 pub enum Happening {
     /// A replica failed, in this incarnation.
     Failed {
@@ -72,7 +72,7 @@ pub enum Happening {
 }
 
 /// A happening, with the event at which it happened.
-#[derive(Clone, Copy, Debug, PartialEq, Eq)]
+#[derive(Clone, Copy)]
 pub struct Told {
     /// The place of the event in the list, from 1.
     pub place: u64,

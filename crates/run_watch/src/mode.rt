@@ -1,7 +1,7 @@
 // What a replica is in a frame.
 
 /// What a replica does at a time.
-#[derive(Clone, Copy, Debug, PartialEq, Eq)]
+#[derive(Clone, Copy)]
 pub enum Mode {
     /// It runs, and leads its pair: what it sends goes out.
     Leads,

@@ -1,7 +1,9 @@
 // What happens at an event, by what is seen of its node before and after it.
 ghost use Rattle.run_watch.specs.Happenings.{begun_again, happened, led, member, move_over, named, named_at, recalled, recalled_to, taken, worked};
 ghost use Rattle.run_watch.specs.TraceView.{fall_in};
-ghost use Rattle.std.specs.Prelude.{◌≡◌};
+ghost use Rattle.run_watch.specs.declared.glimpse.Glimpse.TheVariants as glimpse;
+ghost use Rattle.run_watch.specs.declared.glimpse.Moving.{Moving};
+ghost use Rattle.std.specs.Prelude.{◌≡◌, ℕ, Bool, Option};
 
 use crate::glimpse::{Glimpse, Known, Moving};
 use crate::happening::Happening;
@@ -30,36 +32,61 @@ fn begun_again(node: NodeId, before: u64, after: u64) -> Option<Happening>
     }
 }
 
+// A replica that ran took a message.
+fn taken_running(node: NodeId, term: u64, after: &Glimpse) -> Option<Happening>
+    ensures { (inc : ℕ) (leads : Bool) (moving : Option Moving) → result ≡ taken node (glimpse.Running inc leads term moving) after.now }
+{
+    match *after {
+        Glimpse::Running { term: risen, .. } => led(node, term, risen),
+        Glimpse::Gathering { inc, .. } => Some(Happening::Begun { node, inc }),
+        Glimpse::Gone { inc } => Some(Happening::Stopped { node, inc }),
+        Glimpse::Control { .. } | Glimpse::End => None,
+    }
+}
+
+// A replica that gathered took a message.
+fn taken_gathering(
+    node: NodeId,
+    began: u64,
+    entries: u64,
+    held: u64,
+    after: &Glimpse,
+) -> Option<Happening>
+    ensures { result ≡ taken node (glimpse.Gathering began entries held) after.now }
+{
+    match *after {
+        Glimpse::Running { inc, .. } => Some(Happening::CaughtUp {
+            node,
+            inc,
+            entries,
+            held,
+        }),
+        Glimpse::Gathering { inc, .. } => begun_again(node, began, inc),
+        Glimpse::Gone { inc } => Some(Happening::Stopped { node, inc }),
+        Glimpse::Control { .. } | Glimpse::End => None,
+    }
+}
+
+// A replica that was gone took a message.
+fn taken_gone(node: NodeId, after: &Glimpse) -> Option<Happening>
+    ensures { (inc : ℕ) → result ≡ taken node (glimpse.Gone inc) after.now }
+{
+    match *after {
+        Glimpse::Gathering { inc, .. } => Some(Happening::Begun { node, inc }),
+        Glimpse::Running { .. } | Glimpse::Gone { .. } | Glimpse::Control { .. } | Glimpse::End =>
+            None,
+    }
+}
+
 // A node took a message.
 fn taken(node: NodeId, before: &Glimpse, after: &Glimpse) -> Option<Happening>
     ensures { result ≡ taken node before.now after.now }
 {
-    match (*before, *after) {
-        (Glimpse::Running { term, .. }, Glimpse::Running { term: risen, .. }) => {
-            led(node, term, risen)
-        }
-        (Glimpse::Running { .. }, Glimpse::Gone { inc }) => Some(Happening::Stopped { node, inc }),
-        (Glimpse::Gathering { .. }, Glimpse::Gone { inc }) => {
-            Some(Happening::Stopped { node, inc })
-        }
-        (Glimpse::Gathering { taken, held, .. }, Glimpse::Running { inc, .. }) => {
-            Some(Happening::CaughtUp {
-                node,
-                inc,
-                entries: taken,
-                held,
-            })
-        }
-        (Glimpse::Gathering { inc, .. }, Glimpse::Gathering { inc: later, .. }) => {
-            begun_again(node, inc, later)
-        }
-        (Glimpse::Running { .. }, Glimpse::Gathering { inc, .. }) => {
-            Some(Happening::Begun { node, inc })
-        }
-        (Glimpse::Gone { .. }, Glimpse::Gathering { inc, .. }) => {
-            Some(Happening::Begun { node, inc })
-        }
-        _ => None,
+    match *before {
+        Glimpse::Running { term, .. } => taken_running(node, term, after),
+        Glimpse::Gathering { inc, taken, held } => taken_gathering(node, inc, taken, held, after),
+        Glimpse::Gone { .. } => taken_gone(node, after),
+        Glimpse::Control { .. } | Glimpse::End => None,
     }
 }
 

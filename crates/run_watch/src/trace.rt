@@ -13,7 +13,7 @@ use std::collections::BTreeMap;
 use tuple_edge::{Event, NodeId, OutOfMemory, Which};
 
 /// Where in a run something happens: the place of the event, its line, and how far ingress and egress are then.
-#[derive(Clone, Copy, Debug, PartialEq, Eq)]
+#[derive(Clone, Copy)]
 pub struct At {
     pub place: u64,
     pub line: u64,

@@ -30,7 +30,7 @@ pub struct Watched {
 }
 
 /// Why a list is not watched to its end.
-#[derive(Clone, Copy, Debug, PartialEq, Eq)]
+#[derive(Clone, Copy)]
 pub enum WatchError {
     /// An event is no step: those before it are applied.
     Stopped(Stopped),

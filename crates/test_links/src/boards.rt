@@ -26,18 +26,23 @@ impl Named for Value {
     ghost name = { λ v. v.number };
 }
 
+// A value that has had no turn.
+fn new_value(alloc: Global, number: u64) -> Result<Value, OutOfMemory> {
+    let (outlet, _inlet) = ring(alloc)?;
+    Ok(Value {
+        number,
+        turns: 0,
+        outlet,
+    })
+}
+
 // Values by number from 0.
 fn values(alloc: Global, count: u64) -> Result<Vec<Value>, OutOfMemory>
     ensures { IfOk result (λ made. vec_len made ≡ count) }
 {
     let mut made = Vec::new(alloc);
     for number in 0..count {
-        let (outlet, _inlet) = ring(alloc)?;
-        made.push(Value {
-            number,
-            turns: 0,
-            outlet,
-        })?;
+        made.push(new_value(alloc, number)?)?;
     }
     Ok(made)
 }
@@ -181,20 +186,42 @@ fn both_see(
     second_sees & first_sees
 }
 
+// The one value of a board, which has had one turn.
+fn had_one_turn(back: &[Value]) -> bool {
+    match back {
+        [value] => value.number == 0 && value.turns == 1,
+        _ => false,
+    }
+}
+
 #[test]
 fn one_seat_after_the_other(rt: HostRuntime) -> Result<(), Fail> {
     let (board, seats) = Board::new(rt.alloc(), values(rt.alloc(), 1)?, 2)?;
     let (mut first, mut second) = pair(&board, seats).expect(&rt, "two seats");
     let taken = hand_over(&board, &mut first, &mut second).expect(&rt, "as told");
-    assert_eq!(rt; taken, Taken { owner: 1 });
-    assert!(rt; !both_see(&board, &mut first, &mut second));
+    let halted = both_see(&board, &mut first, &mut second);
     let back = board.close(vec![in rt.alloc(); first, second]?);
-    assert_eq!(rt; back.len(), 1);
-    assert_eq!(rt; back[0].number, 0);
-    assert_eq!(rt; back[0].turns, 1);
+    assert!(rt; taken.owner == 1 && !halted);
+    assert!(rt; had_one_turn(&back));
     each_is_once::<Value>();
     all_joined_is_alone::<Value>();
     Ok(())
+}
+
+// All turns of the ten values of a board, if each has its number, and if its link is full where it told of so many turns.
+fn turns_of_ten(back: &mut [Value]) -> Option<u64> {
+    let mut turns = 0u64;
+    if back.len() != 10 {
+        return None;
+    }
+    for (number, value) in back.iter_mut().enumerate() {
+        let is_full = value.outlet.send(packet(0)).is_err();
+        if value.number != number as u64 || is_full != (value.turns >= 128) {
+            return None;
+        }
+        turns = turns.wrapping_add(value.turns);
+    }
+    Some(turns)
 }
 
 #[test]
@@ -203,25 +230,21 @@ fn two_threads_give_all_back(rt: HostRuntime) -> Result<(), Fail> {
     let won = AtomicU64::new(0);
     work_of_all(&rt, &board, &mut seats, &won);
     let (mut first, mut second) = pair(&board, seats).expect(&rt, "two seats");
-    assert!(rt; both_see(&board, &mut first, &mut second));
+    let halted = both_see(&board, &mut first, &mut second);
     let mut back = board.close(vec![in rt.alloc(); first, second]?);
-    assert_eq!(rt; back.len(), 10);
-    let mut turns = 0u64;
-    for (number, value) in back.iter_mut().enumerate() {
-        assert_eq!(rt; value.number, number as u64);
-        let is_full = value.outlet.send(packet(0)).is_err();
-        assert_eq!(rt; is_full, value.turns >= 128);
-        turns = turns.wrapping_add(value.turns);
-    }
-    assert_eq!(rt; turns, won.load(Ordering::SeqCst));
-    assert!(rt; turns > 0);
+    let won = won.load(Ordering::SeqCst);
+    assert!(rt; halted && won > 0);
+    assert!(rt; turns_of_ten(&mut back) == Some(won));
     Ok(())
+}
+
+fn want_of_memory(alloc: Global) -> Result<String, OutOfMemory> {
+    let error = claim_board::OutOfMemory;
+    Ok(format!(in alloc; "{error}")?)
 }
 
 #[test]
 fn want_of_memory_says_so(rt: HostRuntime) -> Result<(), Fail> {
-    let error = claim_board::OutOfMemory;
-    let printed = format!(in rt.alloc(); "{error}")?;
-    assert_eq!(rt; printed.as_str(), "out of memory");
+    assert!(rt; want_of_memory(rt.alloc())?.as_str() == "out of memory");
     Ok(())
 }

@@ -3,7 +3,6 @@ ghost use Rattle.std.specs.Prelude.{◌≡◌, ◌<◌, ◌≤◌, ◌+◌, ◌^
 
 use flux_link::{Arrival, Choice, Inlet, LossyIn, MemLink, Outlet, RING_PACKETS, ring};
 use std::alloc::Global;
-use std::process::Abort;
 use std::test::Fail;
 use std::thread;
 use tuple_edge::{Body, OutOfMemory, Packet};
@@ -75,87 +74,145 @@ fn indexes<I: Inlet>(alloc: Global, inlet: &mut I) -> Result<Vec<u64>, OutOfMemo
 }
 
 // A link of one packet takes one, gives a second one back, and then gives the first.
-fn one_by_one(rt: &impl Abort, link: &mut MemLink)
+fn goes_one_by_one(link: &mut MemLink) -> bool
     requires { link.old.given ≡ [] }
 {
-    assert_eq!(rt; link.recv(), None);
-    assert_eq!(rt; link.send(packet(5)), Ok(()));
-    assert_eq!(rt; link.send(packet(6)), Err(packet(6)));
-    let arrival = Arrival {
+    let first = Arrival {
         index: 1,
         packet: packet(5),
     };
-    assert_eq!(rt; link.recv(), Some(arrival));
+    let nothing = link.recv().is_none();
+    let sent = link.send(packet(5)).is_ok();
+    let back = link.send(packet(6)) == Err(packet(6));
+    let given = link.recv() == Some(first);
+    nothing && sent && back && given
 }
 
 // The packet that is next is told before it is given.
-fn tells_next(rt: &impl Abort, link: &mut MemLink) {
-    assert!(rt; !link.look());
-    assert_eq!(rt; link.send(packet(5)), Ok(()));
-    assert!(rt; link.look());
-    assert_eq!(rt; *link.first(), packet(5));
+fn tells_next(link: &mut MemLink) -> bool {
+    !link.look() && link.send(packet(5)).is_ok() && link.look() && *link.first() == packet(5)
 }
 
-fn link_of_one(rt: &impl Abort, alloc: Global) -> Result<(), OutOfMemory> {
+fn link_of_one(alloc: Global) -> Result<bool, OutOfMemory> {
     let mut link = MemLink::new(alloc, 1)?;
-    one_by_one(rt, &mut link);
-    Ok(())
+    Ok(goes_one_by_one(&mut link))
 }
 
-// What is given of two packets, of which the first falls behind.
-fn indexes_behind(rt: &impl Abort, alloc: Global) -> Result<Vec<u64>, OutOfMemory> {
-    let choices = vec![in alloc; Choice::Behind]?;
+fn next_of_one(alloc: Global) -> Result<bool, OutOfMemory> {
+    let mut link = MemLink::new(alloc, 1)?;
+    Ok(tells_next(&mut link))
+}
+
+// A link without room gives each packet back.
+fn link_of_none(alloc: Global) -> Result<bool, OutOfMemory> {
+    let mut link = MemLink::new(alloc, 0)?;
+    Ok(link.send(packet(1)) == Err(packet(1)))
+}
+
+fn sends_two(link: &mut MemLink) -> bool
+    ensures { link.new.given ≡ link.old.given }
+{
+    link.send(packet(1)).is_ok() && link.send(packet(2)).is_ok()
+}
+
+// Of two packets the first falls behind.
+fn falls_behind(alloc: Global) -> Result<bool, OutOfMemory> {
     let mut link = MemLink::new(alloc, 2)?;
-    assert!(rt; link.send(packet(1)).is_ok() && link.send(packet(2)).is_ok());
-    indexes(alloc, &mut LossyIn::new(link, choices))
+    let sent = sends_two(&mut link);
+    let mut lossy = LossyIn::new(link, vec![in alloc; Choice::Behind]?);
+    let given = indexes(alloc, &mut lossy)?;
+    Ok(sent && given[..] == [2, 1])
 }
 
 #[test]
 fn memory_link_is_exact(rt: HostRuntime) -> Result<(), Fail> {
-    link_of_one(&rt, rt.alloc())?;
-    assert!(rt; indexes_behind(&rt, rt.alloc())?[..] == [2, 1]);
-    tells_next(&rt, &mut MemLink::new(rt.alloc(), 1)?);
-    let mut none = MemLink::new(rt.alloc(), 0)?;
-    assert_eq!(rt; none.send(packet(1)), Err(packet(1)));
+    assert!(rt; link_of_one(rt.alloc())?);
+    assert!(rt; falls_behind(rt.alloc())?);
+    assert!(rt; next_of_one(rt.alloc())?);
+    assert!(rt; link_of_none(rt.alloc())?);
     Ok(())
+}
+
+// A ring takes as many packets as it has room for, gives all of them, and then takes one more.
+fn is_filled_and_emptied(alloc: Global) -> Result<bool, OutOfMemory> {
+    let (mut outlet, mut inlet) = ring(alloc)?;
+    let all = RING_PACKETS as u64;
+    let sent = send_most(&mut outlet, all + 1);
+    let given = indexes(alloc, &mut inlet)?;
+    Ok(sent == all && given.iter().copied().eq(1..all + 1) && outlet.send(packet(7)).is_ok())
 }
 
 #[test]
 fn ring_is_filled_and_emptied(rt: HostRuntime) -> Result<(), Fail> {
-    let (mut outlet, mut inlet) = ring(rt.alloc())?;
-    let all = RING_PACKETS as u64;
-    assert_eq!(rt; send_most(&mut outlet, all + 1), all);
-    let given = indexes(rt.alloc(), &mut inlet)?;
-    assert!(rt; given.iter().copied().eq(1..all + 1));
-    assert_eq!(rt; outlet.send(packet(7)), Ok(()));
+    assert!(rt; is_filled_and_emptied(rt.alloc())?);
     Ok(())
 }
 
 // What is given of four packets by choices.
+const GIVEN: &[(&[Choice], &[u64])] = &[
+    (&[], &[1, 2, 3, 4]),
+    (
+        &[
+            Choice::Pass,
+            Choice::Pass,
+            Choice::Pass,
+            Choice::Pass,
+            Choice::Drop,
+        ],
+        &[1, 2, 3, 4],
+    ),
+    (&[Choice::Drop], &[2, 3, 4]),
+    (&[Choice::Twice], &[1, 1, 2, 3, 4]),
+    (&[Choice::Behind], &[2, 1, 3, 4]),
+    (&[Choice::Behind, Choice::Behind], &[1, 3, 2, 4]),
+    (
+        &[
+            Choice::Behind,
+            Choice::Behind,
+            Choice::Behind,
+            Choice::Behind,
+        ],
+        &[1, 2, 3],
+    ),
+    (&[Choice::Behind, Choice::Drop, Choice::Drop], &[1, 4]),
+    (&[Choice::Behind, Choice::Twice], &[2, 2, 1, 3, 4]),
+    (
+        &[Choice::Drop, Choice::Twice, Choice::Behind, Choice::Pass],
+        &[2, 2, 4, 3],
+    ),
+    (
+        &[Choice::Drop, Choice::Drop, Choice::Drop, Choice::Drop],
+        &[],
+    ),
+];
+
+// Whether these are given.
+fn gives(alloc: Global, choices: &[Choice], wanted: &[u64]) -> Result<bool, OutOfMemory> {
+    let (mut outlet, inlet) = ring(alloc)?;
+    let sent = send_most(&mut outlet, 4);
+    let mut lossy = LossyIn::new(inlet, Vec::from_slice(alloc, choices)?);
+    let given = indexes(alloc, &mut lossy)?;
+    Ok(sent == 4 && given.as_slice() == wanted)
+}
+
+fn first_wrong(alloc: Global) -> Result<Option<usize>, OutOfMemory> {
+    for (place, (choices, wanted)) in GIVEN.iter().enumerate() {
+        if !gives(alloc, choices, wanted)? {
+            return Ok(Some(place));
+        }
+    }
+    Ok(None)
+}
+
 #[test]
 fn choices_say_what_is_given(rt: HostRuntime) -> Result<(), Fail> {
-    use Choice::{Behind, Drop, Pass, Twice};
-    let table: [(&[Choice], &[u64]); 11] = [
-        (&[], &[1, 2, 3, 4]),
-        (&[Pass, Pass, Pass, Pass, Drop], &[1, 2, 3, 4]),
-        (&[Drop], &[2, 3, 4]),
-        (&[Twice], &[1, 1, 2, 3, 4]),
-        (&[Behind], &[2, 1, 3, 4]),
-        (&[Behind, Behind], &[1, 3, 2, 4]),
-        (&[Behind, Behind, Behind, Behind], &[1, 2, 3]),
-        (&[Behind, Drop, Drop], &[1, 4]),
-        (&[Behind, Twice], &[2, 2, 1, 3, 4]),
-        (&[Drop, Twice, Behind, Pass], &[2, 2, 4, 3]),
-        (&[Drop, Drop, Drop, Drop], &[]),
-    ];
-    for (choices, wanted) in table {
-        let (mut outlet, inlet) = ring(rt.alloc())?;
-        assert_eq!(rt; send_most(&mut outlet, 4), 4);
-        let choices = Vec::from_slice(rt.alloc(), choices)?;
-        let mut lossy = LossyIn::new(inlet, choices);
-        assert_eq!(rt; indexes(rt.alloc(), &mut lossy)?.as_slice(), wanted);
-    }
+    assert_eq!(rt; first_wrong(rt.alloc())?, None);
     Ok(())
+}
+
+// The first two items are one, the next one is missing, and then come all others.
+fn are_all_but_one(given: &[u64]) -> bool {
+    given.len() == 100 && given[..2] == [1, 1] && given[2..].iter().copied().eq(3..101)
 }
 
 // One thread fills a ring while another one takes what it sees; then both ends are in one hand, and the rest is taken.
@@ -178,7 +235,6 @@ fn ends_go_to_two_threads(rt: HostRuntime) -> Result<(), Fail> {
     lossy.settle(&mut outlet);
     let mut given = first?;
     given.append(&mut indexes(rt.alloc(), &mut lossy)?)?;
-    assert!(rt; given.len() == 100);
-    assert!(rt; given[..2] == [1, 1] && given[2..].iter().copied().eq(3..101));
+    assert!(rt; are_all_but_one(&given));
     Ok(())
 }

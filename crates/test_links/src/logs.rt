@@ -1,9 +1,10 @@
 // Logs of events, at the size of a day.
 ghost use Rattle.std.specs.Prelude.{◌<◌, ◌≤◌, ◌^◌};
 
-use event_log::Log;
+use event_log::{Log, Reader};
+use std::alloc::Global;
 use std::test::Fail;
-use tuple_edge::{Event, LinkId, NodeId, Stamped, Which};
+use tuple_edge::{Event, LinkId, NodeId, OutOfMemory, Stamped, Which};
 
 const EVENTS: u64 = 1_000_000;
 
@@ -59,21 +60,34 @@ fn append(log: &mut Log, stamped: Stamped)
     }
 }
 
-#[test]
-fn a_day_reads_back(rt: HostRuntime) -> Result<(), Fail> {
-    let alloc = rt.alloc();
+// A log of all events of a day.
+fn day(alloc: Global) -> Result<Log, OutOfMemory> {
     let mut log = Log::new(alloc, NODE);
     for n in 0..EVENTS {
         log.reserve(1)?;
         append(&mut log, event_at(n));
     }
-    let mut reader = log.reader(alloc)?;
+    Ok(log)
+}
+
+// Whether the next event is this, told before it is given.
+fn is_next(reader: &mut Reader<'_>, wanted: Stamped) -> bool {
+    reader.peek() == Some(wanted) && reader.next() == Some(wanted)
+}
+
+fn reads_day(reader: &mut Reader<'_>) -> bool {
     for n in 0..EVENTS {
-        let wanted = Some(event_at(n));
-        assert!(rt; reader.peek() == wanted);
-        assert!(rt; reader.next() == wanted);
+        if !is_next(reader, event_at(n)) {
+            return false;
+        }
     }
-    assert!(rt; reader.next().is_none());
+    reader.next().is_none()
+}
+
+#[test]
+fn a_day_reads_back(rt: HostRuntime) -> Result<(), Fail> {
+    let log = day(rt.alloc())?;
+    assert!(rt; reads_day(&mut log.reader(rt.alloc())?));
     Ok(())
 }
 
@@ -105,44 +119,51 @@ fn stray_at(n: u64) -> Stamped
     }
 }
 
-#[test]
-fn strays_and_many_senders_read_back(rt: HostRuntime) -> Result<(), Fail> {
-    let alloc = rt.alloc();
+// What the node takes as the index-th packet of a sender.
+fn taken_at(index: u64, n: u64) -> Stamped
+    requires index { index < 4 }
+    requires n { n < 300 }
+{
+    Stamped {
+        clock: index * 300 + n,
+        event: Event::Take {
+            link: LinkId {
+                from: sender(n),
+                to: NODE,
+            },
+            index,
+        },
+    }
+}
+
+// Three packets of each of 300 senders, and a stray after each.
+fn strays(alloc: Global) -> Result<Log, OutOfMemory> {
     let mut log = Log::new(alloc, NODE);
     for index in 1..4 {
         for n in 0..300 {
             log.reserve(2)?;
-            log.push_reserved(Stamped {
-                clock: index * 300 + n,
-                event: Event::Take {
-                    link: LinkId {
-                        from: sender(n),
-                        to: NODE,
-                    },
-                    index,
-                },
-            });
+            log.push_reserved(taken_at(index, n));
             log.push_reserved(stray_at(n));
         }
     }
-    assert!(rt; log.len() == 1800);
-    let mut reader = log.reader(alloc)?;
+    Ok(log)
+}
+
+fn reads_strays(reader: &mut Reader<'_>) -> bool {
     for index in 1..4 {
         for n in 0..300 {
-            let wanted = Stamped {
-                clock: index * 300 + n,
-                event: Event::Take {
-                    link: LinkId {
-                        from: sender(n),
-                        to: NODE,
-                    },
-                    index,
-                },
-            };
-            assert!(rt; reader.next() == Some(wanted));
-            assert!(rt; reader.next() == Some(stray_at(n)));
+            if reader.next() != Some(taken_at(index, n)) || reader.next() != Some(stray_at(n)) {
+                return false;
+            }
         }
     }
-    assert!(rt; reader.peek().is_none());
+    reader.peek().is_none()
+}
+
+#[test]
+fn strays_and_many_senders_read_back(rt: HostRuntime) -> Result<(), Fail> {
+    let log = strays(rt.alloc())?;
+    assert!(rt; log.len() == 1800);
+    assert!(rt; reads_strays(&mut log.reader(rt.alloc())?));
     Ok(())
 }

@@ -64,3 +64,14 @@ pub(crate) fn run_onto<R: Threads + Wait + Sync>(
         wire,
     )
 }
+
+// Whether a live run of a story puts all of its text.
+pub(crate) fn puts_all<R: Threads + Wait + Sync>(
+    rt: &R,
+    alloc: Global,
+    story: &Story,
+) -> Result<bool, OutOfMemory> {
+    let mut wire = MemSink::new(alloc, Vec::new(alloc), 1_000_000, 1_000_000)?;
+    let answer = run_onto(rt, alloc, story, &mut wire);
+    Ok(answer == Live::Done && wire.taken() == story.text.as_slice())
+}

@@ -1,6 +1,8 @@
 // Calls of the program over files and sinks in memory: their statuses, and what is said and written.
+use crate::answer::none_is_wrong;
 use crate::fixture::{Story, made};
 use flux_outside::{FileStop, Files, MemFiles, MemSink};
+use live_feed::FreeGate;
 use live_top::flux_live;
 use std::alloc::Global;
 use std::sync::Wait;
@@ -147,8 +149,16 @@ fn words_of(alloc: Global, words: &[&str]) -> Result<Vec<String>, OutOfMemory> {
     Ok(owned)
 }
 
-// Whether a call ends as it is to: with its status and line, all of the text at 0, a front of it at 5 and 6, and else
-// nothing.
+// Whether this was to be written at a status: all of the text at 0, a front of it at 5 and 6, and else nothing.
+fn written_so(status: u8, taken: &[u8], text: &[u8]) -> bool {
+    match status {
+        0 => taken == text,
+        5 | 6 => text.starts_with(taken) && taken.len() < text.len(),
+        _ => taken.is_empty(),
+    }
+}
+
+// Whether a call ends as it is to: with its status and line, and what was to be written.
 fn ends_so<R: Threads + Wait + Sync>(
     rt: &R,
     alloc: Global,
@@ -159,25 +169,56 @@ fn ends_so<R: Threads + Wait + Sync>(
     let words = words_of(alloc, call.words)?;
     let mut out = MemSink::new(alloc, Vec::new(alloc), 1_000_000, call.room)?;
     let mut err = MemSink::new(alloc, Vec::new(alloc), 1_000, 1_000)?;
-    let status = flux_live(rt, alloc, &words, files, &mut out, &mut err);
-    let text = story.text.as_slice();
-    let written = match status {
-        0 => out.taken() == text,
-        5 | 6 => text.starts_with(out.taken()) && out.taken().len() < text.len(),
-        _ => out.taken().is_empty(),
-    };
+    let status = flux_live(rt, alloc, &words, files, &mut out, &mut err, &FreeGate);
+    let written = written_so(status, out.taken(), story.text.as_slice());
     Ok(written && status == call.status && err.taken() == call.says.as_bytes())
+}
+
+// The same over files of its own.
+fn ends_over<R: Threads + Wait + Sync>(
+    rt: &R,
+    alloc: Global,
+    call: &Call<'_>,
+    trades: &[u8],
+    story: &Story,
+) -> Result<bool, OutOfMemory> {
+    let Ok(mut files) = files_of(alloc, trades) else {
+        return Err(OutOfMemory);
+    };
+    let well = ends_so(rt, alloc, call, &mut files, story);
+    drop(files);
+    well
+}
+
+fn first_wrong<R: Threads + Wait + Sync>(
+    rt: &R,
+    alloc: Global,
+    trades: &[u8],
+    story: &Story,
+) -> Result<Option<usize>, OutOfMemory> {
+    for (place, call) in CALLS.iter().enumerate() {
+        if !ends_over(rt, alloc, call, trades, story)? {
+            return Ok(Some(place));
+        }
+    }
+    Ok(None)
+}
+
+// The same over the trades of the story.
+fn first_wrong_of<R: Threads + Wait + Sync>(
+    rt: &R,
+    alloc: Global,
+    story: &Story,
+) -> Result<Option<usize>, Fail> {
+    let trades = make_trades(alloc, 1, 1_000)?;
+    Ok(first_wrong(rt, alloc, &trades, story)?)
 }
 
 // Statuses, lines and texts are those of `flux run`, under the program's own name.
 #[test]
 fn the_program_ends_as_run_does(rt: HostRuntime) -> Result<(), Fail> {
-    let alloc = rt.alloc();
-    let story = made(alloc, ONE, 1, 1_000, b"")?;
-    let trades = make_trades(alloc, 1, 1_000)?;
-    for call in CALLS {
-        let mut files = files_of(alloc, &trades)?;
-        assert!(rt; ends_so(&rt, alloc, call, &mut files, &story)?);
-    }
-    Ok(())
+    let story = made(rt.alloc(), ONE, 1, 1_000, b"")?;
+    let wrong = first_wrong_of(&rt, rt.alloc(), &story);
+    drop(story);
+    none_is_wrong(wrong?)
 }

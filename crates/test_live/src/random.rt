@@ -1,9 +1,14 @@
 // Runs under scripts at random.
-use crate::fixture::{made, run_onto};
+ghost use Rattle.std.specs.Prelude.{◌<◌};
+
+use crate::answer::is_so;
+use crate::fixture::{Story, made, puts_all, run_onto};
 use flux_outside::MemSink;
 use live_feed::Live;
 use std::alloc::Global;
+use std::sync::Wait;
 use std::test::Fail;
+use std::thread::Threads;
 use test_kit::{ONE, THREE};
 use tuple_edge::OutOfMemory;
 
@@ -38,39 +43,90 @@ fn unsafe_script(alloc: Global, number: u32) -> Result<String, OutOfMemory> {
     Ok(script)
 }
 
-// Under a safe script the text is that of the output, whichever replica fails and when.
-#[test]
-fn safe_scripts_write_all(rt: HostRuntime) -> Result<(), Fail> {
-    let alloc = rt.alloc();
+// The plan of a round.
+fn plan_of(round: u32) -> &'static [u8] {
+    if round % 2 == 0 { ONE } else { THREE }
+}
+
+fn writes_all<R: Threads + Wait + Sync>(
+    rt: &R,
+    alloc: Global,
+    round: u32,
+    script: &str,
+) -> Result<bool, OutOfMemory>
+    requires { round < 16 }
+{
+    let story = made(alloc, plan_of(round), round, 500, script.as_bytes())?;
+    let all = puts_all(rt, alloc, &story);
+    drop(story);
+    all
+}
+
+fn all_write_all<R: Threads + Wait + Sync>(rt: &R, alloc: Global) -> Result<bool, OutOfMemory> {
     let mut number = 7u32;
     for round in 0..16u32 {
         number = next(number);
-        let plan = if round % 2 == 0 { ONE } else { THREE };
-        let script = safe_script(alloc, number)?;
-        let story = made(alloc, plan, round, 500, script.as_bytes())?;
-        let mut wire = MemSink::new(alloc, Vec::new(alloc), 1_000_000, 1_000_000)?;
-        assert!(rt; run_onto(&rt, alloc, &story, &mut wire) == Live::Done);
-        assert!(rt; wire.taken() == story.text.as_slice());
+        if !writes_all(rt, alloc, round, safe_script(alloc, number)?.as_str())? {
+            return Ok(false);
+        }
     }
-    Ok(())
+    Ok(true)
+}
+
+// Under a safe script the text is that of the output, whichever replica fails and when.
+#[test]
+fn safe_scripts_write_all(rt: HostRuntime) -> Result<(), Fail> {
+    is_so(all_write_all(&rt, rt.alloc())?)
+}
+
+// Whether a front of the text was put, and all of it just where the pair was not lost.
+fn is_front(story: &Story, taken: &[u8], answer: Live) -> bool {
+    let text = story.text.as_slice();
+    let ended = match answer {
+        Live::Done => taken == text,
+        Live::Lost { stage: 1, part: 0 } => taken != text,
+        _ => false,
+    };
+    ended && text.starts_with(taken)
+}
+
+fn puts_a_front<R: Threads + Wait + Sync>(
+    rt: &R,
+    alloc: Global,
+    story: &Story,
+) -> Result<bool, OutOfMemory> {
+    let mut wire = MemSink::new(alloc, Vec::new(alloc), 1_000_000, 1_000_000)?;
+    let answer = run_onto(rt, alloc, story, &mut wire);
+    Ok(is_front(story, wire.taken(), answer))
+}
+
+fn writes_a_front<R: Threads + Wait + Sync>(
+    rt: &R,
+    alloc: Global,
+    round: u32,
+    script: &str,
+) -> Result<bool, OutOfMemory>
+    requires { round < 16 }
+{
+    let story = made(alloc, plan_of(round), round, 500, script.as_bytes())?;
+    let front = puts_a_front(rt, alloc, &story);
+    drop(story);
+    front
+}
+
+fn all_write_a_front<R: Threads + Wait + Sync>(rt: &R, alloc: Global) -> Result<bool, OutOfMemory> {
+    let mut number = 11u32;
+    for round in 0..16u32 {
+        number = next(number);
+        if !writes_a_front(rt, alloc, round, unsafe_script(alloc, number)?.as_str())? {
+            return Ok(false);
+        }
+    }
+    Ok(true)
 }
 
 // Under a script by which a pair may be lost a front of it is written, and all of it only where none was lost.
 #[test]
 fn unsafe_scripts_write_a_front(rt: HostRuntime) -> Result<(), Fail> {
-    let alloc = rt.alloc();
-    let mut number = 11u32;
-    for round in 0..16u32 {
-        number = next(number);
-        let plan = if round % 2 == 0 { ONE } else { THREE };
-        let script = unsafe_script(alloc, number)?;
-        let story = made(alloc, plan, round, 500, script.as_bytes())?;
-        let mut wire = MemSink::new(alloc, Vec::new(alloc), 1_000_000, 1_000_000)?;
-        let answer = run_onto(&rt, alloc, &story, &mut wire);
-        let all = wire.taken() == story.text.as_slice();
-        assert!(rt; answer == Live::Lost { stage: 1, part: 0 } || answer == Live::Done);
-        assert!(rt; (answer == Live::Done) == all);
-        assert!(rt; story.text.as_slice().starts_with(wire.taken()));
-    }
-    Ok(())
+    is_so(all_write_a_front(&rt, rt.alloc())?)
 }

@@ -1,6 +1,7 @@
 // Worked stories of a pair, as far as its controller sees them.
 ghost use Rattle.std.specs.Prelude.{◌≡◌, ◌≤◌, IfOk, length};
 
+use crate::answer::none_is_wrong;
 use pair_control::PairControl;
 use plan_reader::{Plan, read_plan};
 use std::alloc::Global;
@@ -191,8 +192,7 @@ const OLD_REPORT: &[Step] = &[
 
 #[test]
 fn counts_no_report_of_an_earlier_incarnation(rt: HostRuntime) -> Result<(), Fail> {
-    assert_eq!(rt; wrong_of_one(rt.alloc(), OLD_REPORT)?, None);
-    Ok(())
+    none_is_wrong(wrong_of_one(rt.alloc(), OLD_REPORT)?)
 }
 
 // Replica B asks for its stop and comes back: Stop goes to it before Begin.
@@ -214,8 +214,7 @@ const STOPPED: &[Step] = &[
 
 #[test]
 fn stops_and_brings_back(rt: HostRuntime) -> Result<(), Fail> {
-    assert_eq!(rt; wrong_of_one(rt.alloc(), STOPPED)?, None);
-    Ok(())
+    none_is_wrong(wrong_of_one(rt.alloc(), STOPPED)?)
 }
 
 // The leader dies while its partner catches up: nobody leads until that has caught up.
@@ -233,8 +232,7 @@ const NO_LEADER: &[Step] = &[
 
 #[test]
 fn names_a_leader_once_one_is_up(rt: HostRuntime) -> Result<(), Fail> {
-    assert_eq!(rt; wrong_of_one(rt.alloc(), NO_LEADER)?, None);
-    Ok(())
+    none_is_wrong(wrong_of_one(rt.alloc(), NO_LEADER)?)
 }
 
 const EIGHT: &[u8] =
@@ -302,30 +300,53 @@ fn wrong_of_two(alloc: Global, steps: &[Step]) -> Result<Option<usize>, OutOfMem
 
 #[test]
 fn sends_nineteen_packets(rt: HostRuntime) -> Result<(), Fail> {
-    assert_eq!(rt; wrong_of_two(rt.alloc(), MANY_PACKETS)?, None);
-    Ok(())
+    none_is_wrong(wrong_of_two(rt.alloc(), MANY_PACKETS)?)
 }
 
-// What is not of this pair is not admitted.
-fn packets() -> [Step; 8] {
-    let from_ingress = EdgeId {
+// A report of an item of an edge.
+const REPORT: Body = Body::Report {
+    inc: 1,
+    edge: FIRST_EDGE,
+    upto: 1,
+};
+
+const REPORT_OF_OTHER_SOURCE: Body = Body::Report {
+    inc: 1,
+    edge: EdgeId {
         from: 1,
         ..FIRST_EDGE
-    };
-    [
-        Step::Admits(A, Body::AskBack, true),
-        Step::Admits(A_OF_TWO, Body::AskBack, false),
-        Step::Admits(NodeId::Ingress, Body::AskBack, false),
-        Step::Admits(A, Body::Stop { inc: 1 }, false),
-        Step::Admits(B, report(FIRST_EDGE, 1), true),
-        Step::Admits(B, report(from_ingress, 1), false),
-        Step::Admits(B, report(edge_of(0), 1), false),
-        Step::Admits(B, report(FIRST_EDGE, 1 << 62), false),
-    ]
-}
+    },
+    upto: 1,
+};
+
+const REPORT_OF_OTHER_STAGE: Body = Body::Report {
+    inc: 1,
+    edge: EdgeId {
+        stage: 1,
+        ..FIRST_EDGE
+    },
+    upto: 1,
+};
+
+const REPORT_AT_LIMIT: Body = Body::Report {
+    inc: 1,
+    edge: FIRST_EDGE,
+    upto: 1 << 62,
+};
+
+// What is not of this pair is not admitted.
+const PACKETS: &[Step] = &[
+    Step::Admits(A, Body::AskBack, true),
+    Step::Admits(A_OF_TWO, Body::AskBack, false),
+    Step::Admits(NodeId::Ingress, Body::AskBack, false),
+    Step::Admits(A, Body::Stop { inc: 1 }, false),
+    Step::Admits(B, REPORT, true),
+    Step::Admits(B, REPORT_OF_OTHER_SOURCE, false),
+    Step::Admits(B, REPORT_OF_OTHER_STAGE, false),
+    Step::Admits(B, REPORT_AT_LIMIT, false),
+];
 
 #[test]
 fn admits_its_own_packets_alone(rt: HostRuntime) -> Result<(), Fail> {
-    assert_eq!(rt; wrong_of_one(rt.alloc(), &packets())?, None);
-    Ok(())
+    none_is_wrong(wrong_of_one(rt.alloc(), PACKETS)?)
 }

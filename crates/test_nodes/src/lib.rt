@@ -4,6 +4,8 @@
 #![tactic(auto)]
 
 #[cfg(test)]
+mod answer;
+#[cfg(test)]
 mod controllers;
 #[cfg(test)]
 mod edges;

@@ -4,5 +4,6 @@ mod fixture;
 mod moves;
 mod packets;
 mod reading;
+mod served_anew;
 mod takeover;
 mod walk;

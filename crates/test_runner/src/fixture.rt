@@ -127,3 +127,21 @@ pub(crate) fn emits_a_front(story: &Story, ran: &Ran) -> bool {
     let rows = emitted(&ran.nodes);
     story.output.starts_with(rows) && (!is_done(&ran.nodes) || rows.len() == story.output.len())
 }
+
+// Whether a run is legal, and what egress emitted is a front of the output.
+pub(crate) fn goes_well(
+    alloc: Global,
+    story: &Story,
+    outcome: &Outcome,
+) -> Result<bool, OutOfMemory> {
+    Ok(is_legal(alloc, story, outcome)? && emits_a_front(story, &outcome.ran))
+}
+
+// Whether it also comes to its end.
+pub(crate) fn ends_well(
+    alloc: Global,
+    story: &Story,
+    outcome: &Outcome,
+) -> Result<bool, OutOfMemory> {
+    Ok(is_done(&outcome.ran.nodes) && goes_well(alloc, story, outcome)?)
+}

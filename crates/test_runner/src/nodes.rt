@@ -108,7 +108,7 @@ fn same_controls(one: &PairControl, other: &PairControl) -> bool {
 
 fn same_egresses(one: &Egress, other: &Egress) -> bool {
     one.done() == other.done()
-        && one.emitted() == other.emitted()
+        && one.held() == other.held()
         && same_consumers(one.consumer(), other.consumer())
 }
 
@@ -165,10 +165,10 @@ pub(crate) fn is_done(nodes: &[NodeState]) -> bool {
     }
 }
 
-// The rows that the egress of a run emitted.
+// The rows that the egress of a run emitted, of which it handed none on.
 pub(crate) fn emitted(nodes: &[NodeState]) -> &[Row] {
     match egress_of(nodes) {
-        Some(egress) => egress.emitted(),
+        Some(egress) => egress.held(),
         None => &[],
     }
 }

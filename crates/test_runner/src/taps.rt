@@ -2,8 +2,10 @@
 ghost use Rattle.std.specs.Prelude.{◌≡◌};
 ghost use Rattle.trade_text.specs.TradesView.{inputs_in};
 
+use crate::answer::is_so;
 use crate::nodes::{emitted, is_done};
-use partition_runner::{FreeGate, Left, RunNames, Tap, ready_tapped, run_tapped};
+use partition_runner::{FedNames, FreeGate, Left, Tap, Unwritten, ready_tapped, run_tapped};
+use plan_nodes::NodeState;
 use std::alloc::Global;
 use std::marker::Brand;
 use std::test::Fail;
@@ -29,12 +31,12 @@ impl Tap for Keeps {
 }
 
 // A run of a story by 1 to 16 workers, with a tap that keeps all.
-fn run_named<N: RunNames, R: Threads + Sync>(
+fn run_named<N: FedNames, R: Threads + Sync>(
     rt: &R,
     alloc: Global,
     story: &Story,
     threads: u32,
-) -> Result<(Left, Keeps), OutOfMemory>
+) -> Result<(Left<Unwritten>, Keeps), OutOfMemory>
     requires plan { story.now.plan ≡ N.plan }
     requires trades { inputs_in story.now.trades ≡ N.inputs }
     requires script { story.now.script ≡ N.script }
@@ -57,19 +59,37 @@ fn run_kept<R: Threads + Sync>(
     alloc: Global,
     story: &Story,
     threads: u32,
-) -> Result<(Left, Keeps), OutOfMemory> {
+) -> Result<(Left<Unwritten>, Keeps), OutOfMemory> {
     run_named::<Brand, R>(rt, alloc, story, threads)
 }
 
-// What the tap kept is what egress emitted, which is all of the output.
+// Whether a run is at its end, and what the tap kept is what egress emitted, which is all of the output.
+fn kept_all(story: &Story, nodes: &[NodeState], kept: &[Row]) -> bool {
+    is_done(nodes) && kept == emitted(nodes) && kept == story.output.as_slice()
+}
+
+fn keeps_all<R: Threads + Sync>(
+    rt: &R,
+    alloc: Global,
+    story: &Story,
+    threads: u32,
+) -> Result<bool, OutOfMemory> {
+    let (ran, tap) = run_kept(rt, alloc, story, threads)?;
+    Ok(kept_all(story, &ran.nodes, &tap.rows))
+}
+
+fn one_and_four_keep<R: Threads + Sync>(
+    rt: &R,
+    alloc: Global,
+    story: &Story,
+) -> Result<bool, OutOfMemory> {
+    Ok(keeps_all(rt, alloc, story, 1)? && keeps_all(rt, alloc, story, 4)?)
+}
+
 #[test]
 fn a_tap_is_given_all_rows(rt: HostRuntime) -> Result<(), Fail> {
     let story = made(rt.alloc(), ONE, 3, 400, b"")?;
-    for threads in [1, 4] {
-        let (ran, tap) = run_kept(&rt, rt.alloc(), &story, threads)?;
-        assert!(rt; is_done(&ran.nodes));
-        assert!(rt; tap.rows.as_slice() == emitted(&ran.nodes));
-        assert!(rt; tap.rows == story.output);
-    }
-    Ok(())
+    let well = one_and_four_keep(&rt, rt.alloc(), &story);
+    drop(story);
+    is_so(well?)
 }

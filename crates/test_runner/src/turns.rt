@@ -1,19 +1,19 @@
 // What a node does in one turn, on one worker: its steps in their order, and how many of each there are at most.
-use crate::fixture::{emits_a_front, is_legal, run};
+use crate::answer::{is_so, none_is_wrong};
+use crate::fixture::{goes_well, run};
 use crate::nodes::{egress_of, is_done};
 use node_tasks::Acts;
 use partition_runner::{FreeGate, Ran, Rings};
 use plan_nodes::NodeState;
 use replica_node::Replica;
 use std::alloc::Global;
-use std::process::Abort;
 use std::test::Fail;
 use std::thread::Threads;
 use test_kit::{A, ONE, Story, made};
 use tuple_edge::{Event, NodeId, OutOfMemory, Stamped};
 
 // What an event is.
-#[derive(Clone, Copy, Debug, PartialEq, Eq)]
+#[derive(Clone, Copy, PartialEq, Eq)]
 enum Kind {
     Take,
     Make,
@@ -70,7 +70,7 @@ struct Case {
 }
 
 // The worker turns ingress, both replicas, their controller and egress, and begins again.
-const CASES: [Case; 4] = [
+const CASES: &[Case] = &[
     // Rows are made before they are sent, 64 in a turn, and 64 items are sent, each to both replicas.
     Case {
         plan: ONE,
@@ -111,23 +111,42 @@ const CASES: [Case; 4] = [
     },
 ];
 
+// Whether a node has done this.
+fn has_done(alloc: Global, ran: &Ran, case: &Case) -> Result<bool, OutOfMemory> {
+    Ok(portions_of(alloc, ran, case.node)?.as_slice() == case.portions)
+}
+
+fn turns_so<R: Threads + Sync>(
+    rt: &R,
+    alloc: Global,
+    story: &Story,
+    case: &Case,
+) -> Result<bool, OutOfMemory> {
+    let outcome = run(rt, alloc, story, 1, case.turns, &mut Rings, &FreeGate)?;
+    let well = has_done(alloc, &outcome.ran, case);
+    drop(outcome);
+    well
+}
+
+fn is_as_told<R: Threads + Sync>(rt: &R, alloc: Global, case: &Case) -> Result<bool, OutOfMemory> {
+    let story = made(alloc, case.plan, 3, 500, case.script)?;
+    let well = turns_so(rt, alloc, &story, case);
+    drop(story);
+    well
+}
+
+fn first_wrong<R: Threads + Sync>(rt: &R, alloc: Global) -> Result<Option<usize>, OutOfMemory> {
+    for (place, case) in CASES.iter().enumerate() {
+        if !is_as_told(rt, alloc, case)? {
+            return Ok(Some(place));
+        }
+    }
+    Ok(None)
+}
+
 #[test]
 fn a_turn_has_its_steps_in_order(rt: HostRuntime) -> Result<(), Fail> {
-    for (place, case) in CASES.iter().enumerate() {
-        let story = made(rt.alloc(), case.plan, 3, 500, case.script)?;
-        let outcome = run(
-            &rt,
-            rt.alloc(),
-            &story,
-            1,
-            case.turns,
-            &mut Rings,
-            &FreeGate,
-        )?;
-        let portions = portions_of(rt.alloc(), &outcome.ran, case.node)?;
-        assert_eq!(rt; portions.as_slice(), case.portions, "at {place}");
-    }
-    Ok(())
+    none_is_wrong(first_wrong(&rt, rt.alloc())?)
 }
 
 // Eight partitions that answer the end with some 550 rows each, and nothing before.
@@ -173,18 +192,35 @@ fn most_at_once(portions: &[(Kind, u64)], kind: Kind) -> u64 {
     most
 }
 
+// Whether egress took so many packets at once at most.
+fn takes_at_most(alloc: Global, ran: &Ran, most: u64) -> Result<bool, OutOfMemory> {
+    let portions = portions_of(alloc, ran, NodeId::Egress)?;
+    Ok(most_at_once(&portions, Kind::Take) == most)
+}
+
+// Whether after so many turns the end has not come to egress, so many items are under way, and egress took so many at once.
+fn is_in_between<R: Threads + Sync>(
+    rt: &R,
+    alloc: Global,
+    story: &Story,
+    turns: u64,
+) -> Result<bool, OutOfMemory> {
+    let outcome = run(rt, alloc, story, 1, turns, &mut Rings, &FreeGate)?;
+    let under_way = !is_done(&outcome.ran.nodes) && most_under_way(&outcome.ran) == 128 + 9;
+    let takes = takes_at_most(alloc, &outcome.ran, 64);
+    drop(outcome);
+    Ok(under_way && takes?)
+}
+
 // Of what eight replicas send, egress takes 64 packets in a turn. A ring holds 128, and a replica goes on working until
 // some more wait: of the 24 that one call of work sends, the last 9. After 182 turns of each of the 26 nodes the end has come to
 // all replicas, and not to egress.
 #[test]
 fn a_turn_takes_a_portion_and_begins_work_while_nothing_waits(rt: HostRuntime) -> Result<(), Fail> {
     let story = made(rt.alloc(), BURST, 3, 5_000, b"")?;
-    let outcome = run(&rt, rt.alloc(), &story, 1, 182 * 26, &mut Rings, &FreeGate)?;
-    assert!(rt; !is_done(&outcome.ran.nodes));
-    assert_eq!(rt; most_under_way(&outcome.ran), 128 + 9);
-    let portions = portions_of(rt.alloc(), &outcome.ran, NodeId::Egress)?;
-    assert_eq!(rt; most_at_once(&portions, Kind::Take), 64);
-    Ok(())
+    let well = is_in_between(&rt, rt.alloc(), &story, 182 * 26);
+    drop(story);
+    is_so(well?)
 }
 
 // Four partitions that answer the end with some 350 rows each, more than egress takes from them in the meantime.
@@ -192,30 +228,57 @@ const FOUR: &[u8] = b"flux 1\nstage 1 parts 4 by account window both 1000000\n";
 // Its nodes: ingress, three of each partition, and egress.
 const NODES: u64 = 14;
 
-// So many turns of one worker are legal and emit a front of the output; the most items under way then.
-fn runs_full<R: Threads + Sync + Abort>(
+// The most items under way after so many turns of one worker, if those are legal and emit a front of the output, and
+// whether the run is then at its end.
+fn runs_full<R: Threads + Sync>(
     rt: &R,
     alloc: Global,
     story: &Story,
     turns: u64,
-) -> Result<(u64, bool), OutOfMemory> {
+) -> Result<Option<(u64, bool)>, OutOfMemory> {
     let outcome = run(rt, alloc, story, 1, turns, &mut Rings, &FreeGate)?;
-    let legal = is_legal(alloc, story, &outcome)?;
-    assert!(rt; legal && emits_a_front(story, &outcome.ran), "{turns}");
-    Ok((most_under_way(&outcome.ran), is_done(&outcome.ran.nodes)))
+    let well = goes_well(alloc, story, &outcome);
+    let (most, done) = (most_under_way(&outcome.ran), is_done(&outcome.ran.nodes));
+    drop(outcome);
+    Ok(if well? { Some((most, done)) } else { None })
+}
+
+// The most items under way after some turns, if all are legal.
+fn most_of_some<R: Threads + Sync>(
+    rt: &R,
+    alloc: Global,
+    story: &Story,
+) -> Result<Option<u64>, OutOfMemory> {
+    let mut most = 0u64;
+    for fours in 10..25 {
+        let Some((under_way, _done)) = runs_full(rt, alloc, story, fours * 4 * NODES)? else {
+            return Ok(None);
+        };
+        most = most.max(under_way);
+    }
+    Ok(Some(most))
+}
+
+// Whether a ring was full with some items beside it, and the run then comes to its end.
+fn come_through<R: Threads + Sync>(
+    rt: &R,
+    alloc: Global,
+    story: &Story,
+) -> Result<bool, OutOfMemory> {
+    let Some(most) = most_of_some(rt, alloc, story)? else {
+        return Ok(false);
+    };
+    let Some((_under_way, done)) = runs_full(rt, alloc, story, 1_000_000)? else {
+        return Ok(false);
+    };
+    Ok(128 < most && most <= 128 + 24 && done)
 }
 
 // Where a ring is full up to 24 items wait beside it, and no row is lost, doubled or out of its place.
 #[test]
 fn rows_come_through_full_rings(rt: HostRuntime) -> Result<(), Fail> {
     let story = made(rt.alloc(), FOUR, 3, 1_500, b"")?;
-    let mut most = 0u64;
-    for fours in 10..25 {
-        let (under_way, _done) = runs_full(&rt, rt.alloc(), &story, fours * 4 * NODES)?;
-        most = most.max(under_way);
-    }
-    assert!(rt; 128 < most && most <= 128 + 24, "{most}");
-    let (_under_way, done) = runs_full(&rt, rt.alloc(), &story, 1_000_000)?;
-    assert!(rt; done);
-    Ok(())
+    let well = come_through(&rt, rt.alloc(), &story);
+    drop(story);
+    is_so(well?)
 }

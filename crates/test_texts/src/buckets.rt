@@ -56,7 +56,7 @@ fn shift(rt: &impl Abort, buckets: &mut Buckets, bucket: u32, to: u32) -> Result
     assert!(rt; bucket < BUCKETS && to < buckets.parts());
     assert!(rt; !buckets.failed());
     buckets.move_bucket(bucket, to)?;
-    assert_eq!(rt; buckets.part_of(bucket), to);
+    assert!(rt; buckets.part_of(bucket) == to);
     Ok(())
 }
 
@@ -82,20 +82,40 @@ fn total(qty: i64, value: i64) -> Row {
     }
 }
 
+// How many keys the two partitions have.
+fn keys(buckets: &Buckets) -> [u64; 2] {
+    [buckets.keys(0), buckets.keys(1)]
+}
+
+// Two rows are fed, whose keys are then here.
+fn feed_two<R: Abort + Threads + Sync>(
+    rt: &R,
+    buckets: &mut Buckets,
+    here: [u64; 2],
+) -> Result<(), Fail> {
+    feed(rt, buckets, &[bought(1), bought(2)])?;
+    assert!(rt; keys(buckets) == here);
+    Ok(())
+}
+
+// Two rows, a move of their bucket, and two rows more.
+fn feed_and_move<R: Abort + Threads + Sync>(rt: &R, buckets: &mut Buckets) -> Result<(), Fail> {
+    feed_two(rt, buckets, [0, 1])?;
+    shift(rt, buckets, 7, 0)?;
+    feed_two(rt, buckets, [1, 0])
+}
+
+// The running total goes on over the move, and nothing is at a third partition.
+fn went_on(buckets: &Buckets) -> bool {
+    let totals = [total(1, 100), total(2, 200), total(3, 300), total(4, 400)];
+    buckets.emitted() == totals.as_slice() && buckets.keys(2) == 0 && !buckets.failed()
+}
+
 #[test]
 fn a_total_goes_on_where_its_bucket_went(rt: HostRuntime) -> Result<(), Fail> {
     let mut buckets = buckets(&rt, rt.alloc(), TWO_PARTS)?;
-    assert_eq!(rt; buckets.part_of(7), 1);
-    feed(&rt, &mut buckets, &[bought(1), bought(2)])?;
-    assert_eq!(rt; (buckets.keys(0), buckets.keys(1)), (0, 1));
-    shift(&rt, &mut buckets, 7, 0)?;
-    feed(&rt, &mut buckets, &[bought(1), bought(2)])?;
-    assert_eq!(rt;
-        buckets.emitted(),
-        [total(1, 100), total(2, 200), total(3, 300), total(4, 400)].as_slice()
-    );
-    assert_eq!(rt; (buckets.keys(0), buckets.keys(1)), (1, 0));
-    assert_eq!(rt; buckets.keys(2), 0);
-    assert!(rt; !buckets.failed());
+    assert!(rt; buckets.part_of(7) == 1);
+    feed_and_move(&rt, &mut buckets)?;
+    assert!(rt; went_on(&buckets));
     Ok(())
 }

@@ -12,7 +12,7 @@ use test_kit::TWO;
 use tuple_edge::{NodeId, Which};
 
 /// What a text is.
-#[derive(Clone, Copy, Debug)]
+#[derive(Clone, Copy)]
 pub(crate) enum Kind {
     Plan,
     Script,
@@ -25,22 +25,34 @@ fn plan_text(alloc: Global, text: &[u8]) -> Result<Vec<u8>, Fail> {
     Ok(write_plan(alloc, &plan)?)
 }
 
-// Appends an order as a line of a script.
-fn push_order(text: &mut String, order: &Order) -> Result<(), Fail> {
-    let kind = if order.kill { "kill" } else { "stop" };
-    let at = order.at;
-    match order.node {
+// Appends the replica of an order.
+fn push_replica(text: &mut String, node: NodeId) -> Result<(), Fail> {
+    match node {
         NodeId::Replica { stage, part, which } => {
             let name = if which == Which::A { "a" } else { "b" };
-            write!(text, "{kind} {stage}.{part}.{name} at {at} back ")?;
+            write!(text, "{stage}.{part}.{name}")?;
         }
-        _ => write!(text, "an order for no replica ")?,
+        _ => text.push_str("no replica")?,
     }
-    match order.back {
-        None => write!(text, "never\n")?,
+    Ok(())
+}
+
+// Appends when the replica of an order comes back.
+fn push_back(text: &mut String, back: Option<u64>) -> Result<(), Fail> {
+    match back {
+        None => text.push_str("never\n")?,
         Some(back) => write!(text, "{back}\n")?,
     }
     Ok(())
+}
+
+// Appends an order as a line of a script.
+fn push_order(text: &mut String, order: &Order) -> Result<(), Fail> {
+    text.push_str(if order.kill { "kill " } else { "stop " })?;
+    push_replica(text, order.node)?;
+    let at = order.at;
+    write!(text, " at {at} back ")?;
+    push_back(text, order.back)
 }
 
 fn script_text(alloc: Global, text: &[u8]) -> Result<Vec<u8>, Fail> {

@@ -1,5 +1,6 @@
 // What no output shows of cash movements: their order before they are merged, for how many there is room, and the
 // source of each row behind the merge.
+use crate::fixture::none_is_wrong;
 use std::alloc::Global;
 use std::process::Abort;
 use std::test::Fail;
@@ -23,22 +24,33 @@ fn cash(alloc: Global) -> Result<Cash, Fail> {
     Ok(read_cash(alloc, CASH, 3)?)
 }
 
+// The second of them, as a row.
+const SECOND: Row = Row {
+    time: 0,
+    account: 8,
+    symbol: 0,
+    qty: 0,
+    value: 2,
+};
+
+const MOVEMENTS: &[Row] = &[
+    Row {
+        time: 7,
+        value: 1,
+        ..SECOND
+    },
+    SECOND,
+    Row {
+        time: 1,
+        value: 3,
+        ..SECOND
+    },
+];
+
 #[test]
 fn movements_stay_as_they_are(rt: HostRuntime) -> Result<(), Fail> {
     let cash = cash(rt.alloc())?;
-    let wanted = [(7, 1), (0, 2), (1, 3)];
-    assert_eq!(rt; cash.rows().len(), wanted.len());
-    for (row, (time, value)) in cash.rows().iter().zip(wanted) {
-        let (account, symbol, qty) = (8, 0, 0);
-        let wanted = Row {
-            time,
-            account,
-            symbol,
-            qty,
-            value,
-        };
-        assert_eq!(rt; *row, wanted);
-    }
+    assert!(rt; cash.rows() == MOVEMENTS);
     Ok(())
 }
 
@@ -49,7 +61,7 @@ const TWO: &[u8] = b"time,account,amount\n1,7,1\n2,7,2\n";
 // A file, the room for movements, and what becomes of it: a line for each row, or what is said.
 type Case = (&'static [u8], u32, &'static str);
 
-const ROOMS: [Case; 8] = [
+const ROOMS: &[Case] = &[
     (TWO, 2, "1,7,100\n2,7,200\n"),
     (TWO, 3, "1,7,100\n2,7,200\n"),
     (TWO, 1, "too many movements"),
@@ -84,26 +96,28 @@ fn outcome(alloc: Global, file: &[u8], room: u32) -> Result<String, Fail> {
     }
 }
 
+fn first_wrong(alloc: Global) -> Result<Option<usize>, Fail> {
+    for (place, (file, room, wanted)) in ROOMS.iter().enumerate() {
+        if outcome(alloc, file, *room)?.as_str() != *wanted {
+            return Ok(Some(place));
+        }
+    }
+    Ok(None)
+}
+
 #[test]
 fn movements_have_room(rt: HostRuntime) -> Result<(), Fail> {
-    for (place, (file, room, wanted)) in ROOMS.iter().enumerate() {
-        let found = outcome(rt.alloc(), file, *room)?;
-        assert!(rt; found.as_str() == *wanted, "at {place}: {wanted}");
-    }
-    Ok(())
+    none_is_wrong(first_wrong(rt.alloc())?)
 }
 
 // Merges the movements into trades that are alone so far, where there is room for all.
 fn merge(rt: &impl Abort, trades: &mut Trades, cash: &Cash) -> Result<(), Fail> {
     let movements = cash.rows().len();
-    assert!(rt; movements <= MAX_INPUTS, "room for the movements");
-    assert!(rt;
-        trades.rows().len() <= MAX_INPUTS - movements,
-        "room for all"
-    );
-    assert!(rt; !trades.merged(), "the trades are alone");
+    assert!(rt; movements <= MAX_INPUTS);
+    assert!(rt; trades.rows().len() <= MAX_INPUTS - movements);
+    assert!(rt; !trades.merged());
     trades.merge_cash(cash)?;
-    assert!(rt; trades.merged(), "merged");
+    assert!(rt; trades.merged());
     Ok(())
 }
 
@@ -116,7 +130,7 @@ fn place_of(row: &Row) -> i64 {
 }
 
 // The rows of the merge: source, time, and the place in its file.
-const MERGED: [(u32, i64, i64); 6] = [
+const MERGED: &[(u32, i64, i64)] = &[
     (1, 0, 2),
     (0, 1, 2),
     (1, 1, 3),
@@ -125,18 +139,29 @@ const MERGED: [(u32, i64, i64); 6] = [
     (1, 7, 1),
 ];
 
+// Whether the nth row is this one.
+fn has_row(merged: &Trades, nth: usize, wanted: (u32, i64, i64)) -> bool {
+    if nth >= merged.rows().len() {
+        return false;
+    }
+    let row = merged.rows()[nth];
+    (merged.source(nth), row.time, place_of(&row)) == wanted
+}
+
+fn first_other_row(merged: &Trades) -> Option<usize> {
+    for (nth, wanted) in MERGED.iter().enumerate() {
+        if !has_row(merged, nth, *wanted) {
+            return Some(nth);
+        }
+    }
+    None
+}
+
 #[test]
 fn rows_have_sources(rt: HostRuntime) -> Result<(), Fail> {
     let mut merged = trades(rt.alloc())?;
-    merge(&rt, &mut merged, &cash(rt.alloc())?)?;
-    assert_eq!(rt; merged.rows().len(), MERGED.len());
-    for nth in 0..merged.rows().len() {
-        let row = merged.rows()[nth];
-        let wanted = MERGED.get(nth).copied();
-        assert_eq!(rt;
-            Some((merged.source(nth), row.time, place_of(&row))),
-            wanted
-        );
-    }
-    Ok(())
+    let cash = cash(rt.alloc())?;
+    merge(&rt, &mut merged, &cash)?;
+    assert!(rt; merged.rows().len() == MERGED.len());
+    none_is_wrong(first_other_row(&merged))
 }

@@ -1,4 +1,4 @@
-// Plans and scripts of texts, and events without their lines.
+// Plans and scripts of texts, events without their lines, and the fault of a table.
 use failure_script::{Script, read_script};
 use plan_reader::{Plan, read_plan};
 use run_journal::Lined;
@@ -26,4 +26,13 @@ pub(crate) fn events(alloc: Global, lined: &[Lined]) -> Result<Vec<Event>, Fail>
         events.push(one.event)?;
     }
     Ok(events)
+}
+
+/// No place of a table may be wrong. Tests go over their tables in functions that answer, and here is the one place that
+/// says what fails: a loop that asserts is dear to prove.
+pub(crate) fn none_is_wrong(wrong: Option<usize>) -> Result<(), Fail> {
+    match wrong {
+        None => Ok(()),
+        Some(place) => Err(Fail::new(format_args!("not so at {place}"))),
+    }
 }

@@ -29,6 +29,8 @@ mod nodes;
 #[cfg(test)]
 mod scripts;
 #[cfg(test)]
+mod streams;
+#[cfg(test)]
 mod summaries;
 #[cfg(test)]
 mod texts;

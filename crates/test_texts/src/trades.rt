@@ -1,6 +1,6 @@
 // What no output shows of trades: the numbers of their symbols, and rows that came from elsewhere.
+use crate::fixture::none_is_wrong;
 use std::alloc::Global;
-use std::process::Abort;
 use std::test::Fail;
 use test_kit::NAMES;
 use trade_text::{Trades, read_trades, write_output};
@@ -23,12 +23,10 @@ fn most_symbols(alloc: Global) -> Result<String, Fail> {
 }
 
 // The most symbols, and one of them again.
-fn knows_most_symbols(rt: &impl Abort, alloc: Global, records: &str) -> Result<(), Fail> {
-    let trades = trades_of(alloc, records.as_bytes())?;
-    assert_eq!(rt; trades.rows().len(), 4_097);
-    assert_eq!(rt; trades.rows().last().map(|row| row.symbol), Some(4_096));
-    assert_eq!(rt; trades.symbol(4_096), b"S4095".as_slice());
-    Ok(())
+fn has_most_symbols(trades: &Trades) -> bool {
+    trades.rows().len() == 4_097
+        && trades.rows().last().map(|row| row.symbol) == Some(4_096)
+        && trades.symbol(4_096) == b"S4095".as_slice()
 }
 
 // What is said of these records.
@@ -42,47 +40,59 @@ fn refusal(alloc: Global, records: &str) -> Result<Option<String>, Fail> {
 }
 
 #[test]
-fn symbols_have_a_limit(rt: HostRuntime) -> Result<(), Fail> {
+fn symbols_may_be_so_many(rt: HostRuntime) -> Result<(), Fail> {
     let mut records = most_symbols(rt.alloc())?;
     records.push_str("1,7,S4095,S,1,1\n")?;
-    knows_most_symbols(&rt, rt.alloc(), &records)?;
-    records.push_str("1,7,S4096,X,1,1\n")?;
+    let trades = trades_of(rt.alloc(), records.as_bytes())?;
+    assert!(rt; has_most_symbols(&trades));
+    Ok(())
+}
+
+#[test]
+fn symbols_have_a_limit(rt: HostRuntime) -> Result<(), Fail> {
+    let mut records = most_symbols(rt.alloc())?;
+    records.push_str("1,7,S4095,S,1,1\n1,7,S4096,X,1,1\n")?;
     let said = refusal(rt.alloc(), &records)?;
-    assert_eq!(rt; said.as_deref(), Some("record 4099: range symbol"));
+    assert!(rt; said.as_deref() == Some("record 4099: range symbol"));
     Ok(())
 }
 
 const RECORDS: &[u8] = b"1,7,M,B,1,1\n2,7,A,B,1,1\n3,7, M ,S,1,1\n4,7,m,B,1,1\n";
 
+// Whether the rows have these symbols.
+fn have_symbols(rows: &[Row], numbers: &[i64]) -> bool {
+    let mut rows_and_numbers = rows.iter().zip(numbers.iter());
+    rows.len() == numbers.len() && rows_and_numbers.all(|(row, number)| row.symbol == *number)
+}
+
+// The fourth row is of the first source, and no other one was merged.
+fn are_alone(trades: &Trades) -> bool {
+    3 < trades.rows().len() && trades.source(3) == 0 && !trades.merged()
+}
+
 #[test]
 fn symbols_are_numbered_by_first_appearance(rt: HostRuntime) -> Result<(), Fail> {
     let trades = trades_of(rt.alloc(), RECORDS)?;
-    let wanted = [1, 2, 1, 3];
-    assert_eq!(rt; trades.rows().len(), wanted.len());
-    for (row, number) in trades.rows().iter().zip(wanted) {
-        assert_eq!(rt; row.symbol, number);
-    }
-    assert!(rt; 3 < trades.rows().len(), "four trades");
-    assert_eq!(rt; trades.source(3), 0);
-    assert!(rt; !trades.merged(), "nothing was merged");
+    assert!(rt; have_symbols(trades.rows(), &[1, 2, 1, 3]));
+    assert!(rt; are_alone(&trades));
     Ok(())
 }
+
+const SYMBOLS: &[(i64, &str)] = &[
+    (1, "M"),
+    (3, "m"),
+    (0, "-"),
+    (4, "-"),
+    (-1, "-"),
+    (i64::MAX, "-"),
+    (i64::MIN, "-"),
+];
 
 #[test]
 fn symbols_have_names(rt: HostRuntime) -> Result<(), Fail> {
     let trades = trades_of(rt.alloc(), RECORDS)?;
-    for (number, name) in [
-        (1, "M"),
-        (3, "m"),
-        (0, "-"),
-        (4, "-"),
-        (-1, "-"),
-        (i64::MAX, "-"),
-        (i64::MIN, "-"),
-    ] {
-        assert_eq!(rt; trades.symbol(number), name.as_bytes(), "at {number}");
-    }
-    Ok(())
+    let mut symbols = SYMBOLS.iter();
+    none_is_wrong(symbols.position(|(number, name)| trades.symbol(*number) != name.as_bytes()))
 }
 
 const ROW: Row = Row {

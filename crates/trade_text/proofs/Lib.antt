@@ -8,6 +8,9 @@ pub mod Places
 pub mod Reading
 pub mod RecordFacts
 pub mod Sources
+pub mod StreamFacts
+pub mod Streaming
 pub mod SymbolFacts
+pub mod Telling
 pub mod Times
 pub mod Trims

@@ -1,5 +1,5 @@
 -- The mark at the front of a text.
-use Rattle.std.proofs.Common.{ℕ, ◌≡◌, true, false, List, [], ◌∷◌, drop, refl}
+use Rattle.std.proofs.Common.{ℕ, ◌≡◌, ◌≤◌, true, false, List, [], ◌∷◌, drop, length, refl, arith}
 use Rattle.std.proofs.lemmas.Bool.{false≢true}
 use Rattle.csv.specs.Reading.{strip_bom}
 use Rattle.trade_text.specs.Records.{starts_with_mark}
@@ -19,3 +19,10 @@ strip_bom-marked [] marked = absurd (false≢true marked)
 strip_bom-marked (a ∷ []) marked = absurd (false≢true marked)
 strip_bom-marked (a ∷ b ∷ []) marked = absurd (false≢true marked)
 strip_bom-marked (a ∷ b ∷ c ∷ rest) marked = rw marked refl
+
+-- a mark has three bytes
+pub marked-long : (text : List ℕ) → starts_with_mark text ≡ true → 3 ≤ length text
+marked-long [] marked = absurd (false≢true marked)
+marked-long (a ∷ []) marked = absurd (false≢true marked)
+marked-long (a ∷ b ∷ []) marked = absurd (false≢true marked)
+marked-long (a ∷ b ∷ c ∷ rest) marked = omega arith

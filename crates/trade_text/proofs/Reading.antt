@@ -92,7 +92,7 @@ module _ {F K : Type 0} (row_in : ℕ → K → List (List ℕ) → Read F (Row 
       → (g : GoesOn turn so_far old whole) → TakesNext (next_record default_config g.state [] [] g.text) false fields new → whole ≡ Ok so_far
   ended turn so_far old new whole fields g took = g.is ∙ ap (rows_onto row_in room (turn + 2) so_far) (record_none g.state g.text fields new took)
 
-  onto : (number : ℕ) (so_far : RowsRead K) (fields : List (List ℕ)) → length so_far.rows < room
+  pub onto : (number : ℕ) (so_far : RowsRead K) (fields : List (List ℕ)) → length so_far.rows < room
       → row_onto row_in room number so_far fields ≡ row_in number so_far.kept fields >>= λ next. Ok (with_row so_far.rows next)
   unfolding row_onto
   onto number so_far fields few = let test : nat_lt (length so_far.rows) room ≡ true = grind (arith, nat_tests) in rw test refl
@@ -137,7 +137,7 @@ module _ {F K : Type 0} (row_in : ℕ → K → List (List ℕ) → Read F (Row 
 
 module _ {F : Type 0} where
   -- a text that isn't too long, and has no second mark
-  text_is : (bytes text : List ℕ) → (16777216 < length bytes → ⊥) → text ≡ strip_bom bytes → starts_with_mark text ≡ false → file_of {F = F} bytes ≡ file_of_records (records_left state.StartRecord text)
+  pub text_is : (bytes text : List ℕ) → (16777216 < length bytes → ⊥) → text ≡ strip_bom bytes → starts_with_mark text ≡ false → file_of {F = F} bytes ≡ file_of_records (records_left state.StartRecord text)
   unfolding file_of
   text_is bytes text short stripped plain =
       let test : nat_lt 16777216 (length bytes) ≡ false = grind (arith, nat_tests) in

@@ -1,10 +1,9 @@
 -- A number has no colon, so a time that is a number is no time of day.
-use Rattle.std.proofs.Common.{ℕ, ◌≡◌, ◌∙◌, ◌==◌, Bool, true, false, not, nat_lt, List, [], ◌∷◌, length, Option, None, Some, Result, Ok, Err, refl, sym, ap, arith, position}
+use Rattle.std.proofs.Common.{ℕ, ◌≡◌, ◌∙◌, ◌==◌, Bool, true, false, not, List, [], ◌∷◌, length, Option, None, Result, Ok, Err, refl, sym, arith, position}
 use Rattle.std.specs.Char.{is_ascii_digit}
 use Rattle.std.specs.List.{list_all, prefix_len}
 use Rattle.std.proofs.lemmas.Bool.Decides.{nat_tests}
-use Rattle.text_words.specs.Numbers.{number_of}
-use Rattle.trade_text.specs.Fields.{digits_of, number_between, split_once, time_of}
+use Rattle.trade_text.specs.Fields.{digits_of, number_between, time_of}
 use Rattle.trade_text.specs.Limits.{max_seconds}
 use Rattle.trade_text.specs.declared.fields.Fault.{Fault}
 use Rattle.trade_text.specs.declared.fields.Fault.TheVariants as fault

@@ -11,6 +11,9 @@ pub mod Records
 pub mod Refusals
 pub mod Results
 pub mod Signed
+pub mod StreamLaws
+pub mod StreamRecords
+pub mod Streams
 pub mod Symbols
 pub mod Text
 pub mod Trades

@@ -50,6 +50,19 @@ pub type TradeError = ReadError<Field>;
 /// Why a text is no list of cash movements.
 pub type CashError = ReadError<CashField>;
 
+/// Why no trade is read from a reader.
+#[derive(Clone, Copy, Debug, PartialEq, Eq)]
+pub enum StreamError {
+    /// What came is refused.
+    Refused(TradeError),
+    /// A record, with the empty lines before it, has more than 16,777,216 bytes: as many as a file may have.
+    TooLong { rec: u64 },
+    /// The reader underneath failed.
+    Failed,
+    /// No memory was to be had, or there were more records than numbers.
+    OutOfMemory,
+}
+
 /// The fields of a kind of file, and what they are called.
 pub trait FileField: Copy {
     ghost use Rattle.std.specs.Prelude.{◌≡◌};
@@ -185,5 +198,46 @@ impl<T: Drop, F> From<AllocFailed<T>> for ReadError<F> {
 
     fn from(_error: AllocFailed<T>) -> ReadError<F> {
         ReadError::OutOfMemory
+    }
+}
+
+/// Writes what was refused and where, as a file's refusal is written: `record 2: too long`.
+impl fmt::Display for StreamError {
+    ghost use Rattle.std.specs.Prelude.{Some};
+    ghost use Rattle.trade_text.specs.Messages.{stream_fault_of};
+
+    ghost output = { λ e. Some (stream_fault_of e) };
+
+    fn fmt<W: fmt::Write>(&self, f: &mut fmt::Formatter<W>) -> fmt::Result {
+        match self {
+            StreamError::Refused(error) => error.fmt(f),
+            StreamError::TooLong { rec } => write!(f, "record {rec}: too long"),
+            StreamError::Failed => f.write_str("cannot read"),
+            StreamError::OutOfMemory => f.write_str("out of memory"),
+        }
+    }
+}
+
+impl Error for StreamError {}
+
+impl From<AllocError> for StreamError {
+    ghost use Rattle.std.specs.Prelude.{◌≡◌};
+    ghost use Rattle.trade_text.specs.declared.error.StreamError.TheVariants as error;
+
+    ghost from_gives = { λ _ e. e ≡ error.OutOfMemory };
+
+    fn from(_error: AllocError) -> StreamError {
+        StreamError::OutOfMemory
+    }
+}
+
+impl<T: Drop> From<AllocFailed<T>> for StreamError {
+    ghost use Rattle.std.specs.Prelude.{◌≡◌};
+    ghost use Rattle.trade_text.specs.declared.error.StreamError.TheVariants as error;
+
+    ghost from_gives = { λ _ e. e ≡ error.OutOfMemory };
+
+    fn from(_error: AllocFailed<T>) -> StreamError {
+        StreamError::OutOfMemory
     }
 }

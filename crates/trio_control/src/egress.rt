@@ -41,11 +41,11 @@ pub struct TrioEgress {
 
 impl Model for TrioEgress {
     ghost use Rattle.ingress_egress.specs.EgressView.{EgressView};
-    ghost use Rattle.std.specs.Prelude.{◌≤◌};
+    ghost use Rattle.std.specs.Prelude.{◌≤◌, []};
 
     ghost Value = { EgressView };
 
-    ghost view = { λ e. record { stages = e.stages; consumer = e.consumer; emitted = e.emitted.items; done = e.done } };
+    ghost view = { λ e. record { stages = e.stages; consumer = e.consumer; emitted = e.emitted.items; gone = []; done = e.done } };
 
     ghost invariant = { λ e. 1 ≤ e.stages };
 }

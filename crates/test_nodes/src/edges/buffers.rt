@@ -1,4 +1,5 @@
 // A buffer, call by call.
+use crate::answer::none_is_wrong;
 use ack_buffer::AckBuffer;
 use std::alloc::Global;
 use std::test::Fail;
@@ -89,8 +90,7 @@ const ACKNOWLEDGED_FIRST: &[Call] = &[
 
 #[test]
 fn counts_what_was_acknowledged_first(rt: HostRuntime) -> Result<(), Fail> {
-    assert_eq!(rt; wrong_of_new(rt.alloc(), ACKNOWLEDGED_FIRST)?, None);
-    Ok(())
+    none_is_wrong(wrong_of_new(rt.alloc(), ACKNOWLEDGED_FIRST)?)
 }
 
 // Calls of all kinds: acknowledgements of some items, of none that is new, and past the last one; then so many items that
@@ -136,6 +136,5 @@ const MIXED: &[Call] = &[
 
 #[test]
 fn keeps_what_is_not_acknowledged(rt: HostRuntime) -> Result<(), Fail> {
-    assert_eq!(rt; wrong_of_new(rt.alloc(), MIXED)?, None);
-    Ok(())
+    none_is_wrong(wrong_of_new(rt.alloc(), MIXED)?)
 }

@@ -1,4 +1,5 @@
 // A consumer, call by call.
+use crate::answer::none_is_wrong;
 use flux_consumer::Consumer;
 use merge_order::Offer;
 use std::alloc::Global;
@@ -103,20 +104,25 @@ const TAKES_AND_TELLS: &[Call] = &[
 
 #[test]
 fn takes_and_tells(rt: HostRuntime) -> Result<(), Fail> {
-    assert_eq!(rt; wrong_of_new(rt.alloc(), TAKES_AND_TELLS)?, None);
-    Ok(())
+    none_is_wrong(wrong_of_new(rt.alloc(), TAKES_AND_TELLS)?)
 }
 
-fn row(stamp: u64) -> Item {
-    let row = Row {
-        time: 1,
-        account: 1,
-        symbol: 1,
-        qty: 1,
-        value: 1,
-    };
-    Item::Row { stamp, row }
-}
+const ROW: Row = Row {
+    time: 1,
+    account: 1,
+    symbol: 1,
+    qty: 1,
+    value: 1,
+};
+
+// The rows of the stamps 1, 2, 3 and 5.
+const ROW_1: Item = Item::Row { stamp: 1, row: ROW };
+
+const ROW_2: Item = Item::Row { stamp: 2, row: ROW };
+
+const ROW_3: Item = Item::Row { stamp: 3, row: ROW };
+
+const ROW_5: Item = Item::Row { stamp: 5, row: ROW };
 
 const SECOND_MARK: Item = Item::Mark { stamp: 4 };
 
@@ -124,47 +130,44 @@ const END: Item = Item::End { stamp: 6 };
 
 // The rows of two edges come in the order of their stamps, a mark and the end once for both edges. Between them come
 // repeats and gaps, and the marks of the edges are told.
-fn merges_two() -> [Call; 34] {
-    [
-        Call::Tuple(0, 1, row(1), Offer::Taken),
-        Call::Tuple(0, 2, row(3), Offer::Taken),
-        Call::Ready(false),
-        Call::Next(None),
-        Call::Due(Some((0, 2))),
-        Call::Tuple(1, 2, SECOND_MARK, Offer::Gap { mark: 0 }),
-        Call::Tuple(1, 1, row(2), Offer::Taken),
-        Call::Due(Some((0, 2))),
-        Call::Tell(0),
-        Call::Due(Some((1, 1))),
-        Call::Ready(true),
-        Call::Next(Some(row(1))),
-        Call::Next(Some(row(2))),
-        Call::Next(None),
-        Call::Tuple(0, 1, row(1), Offer::Repeat { mark: 2 }),
-        Call::Tuple(0, 4, END, Offer::Gap { mark: 2 }),
-        Call::Tuple(0, 3, SECOND_MARK, Offer::Taken),
-        Call::Due(Some((0, 3))),
-        Call::Tuple(1, 2, SECOND_MARK, Offer::Taken),
-        Call::Next(Some(row(3))),
-        Call::Next(Some(SECOND_MARK)),
-        Call::Ready(false),
-        Call::Tuple(0, 4, END, Offer::Taken),
-        Call::Tuple(1, 3, row(5), Offer::Taken),
-        Call::Tuple(1, 4, END, Offer::Taken),
-        Call::Tell(1),
-        Call::Told(0, 2),
-        Call::Told(1, 4),
-        Call::Due(Some((0, 4))),
-        Call::Next(Some(row(5))),
-        Call::Next(Some(END)),
-        Call::Next(None),
-        Call::Tuple(1, 3, row(5), Offer::Repeat { mark: 4 }),
-        Call::Count(6),
-    ]
-}
+const MERGES_TWO: &[Call] = &[
+    Call::Tuple(0, 1, ROW_1, Offer::Taken),
+    Call::Tuple(0, 2, ROW_3, Offer::Taken),
+    Call::Ready(false),
+    Call::Next(None),
+    Call::Due(Some((0, 2))),
+    Call::Tuple(1, 2, SECOND_MARK, Offer::Gap { mark: 0 }),
+    Call::Tuple(1, 1, ROW_2, Offer::Taken),
+    Call::Due(Some((0, 2))),
+    Call::Tell(0),
+    Call::Due(Some((1, 1))),
+    Call::Ready(true),
+    Call::Next(Some(ROW_1)),
+    Call::Next(Some(ROW_2)),
+    Call::Next(None),
+    Call::Tuple(0, 1, ROW_1, Offer::Repeat { mark: 2 }),
+    Call::Tuple(0, 4, END, Offer::Gap { mark: 2 }),
+    Call::Tuple(0, 3, SECOND_MARK, Offer::Taken),
+    Call::Due(Some((0, 3))),
+    Call::Tuple(1, 2, SECOND_MARK, Offer::Taken),
+    Call::Next(Some(ROW_3)),
+    Call::Next(Some(SECOND_MARK)),
+    Call::Ready(false),
+    Call::Tuple(0, 4, END, Offer::Taken),
+    Call::Tuple(1, 3, ROW_5, Offer::Taken),
+    Call::Tuple(1, 4, END, Offer::Taken),
+    Call::Tell(1),
+    Call::Told(0, 2),
+    Call::Told(1, 4),
+    Call::Due(Some((0, 4))),
+    Call::Next(Some(ROW_5)),
+    Call::Next(Some(END)),
+    Call::Next(None),
+    Call::Tuple(1, 3, ROW_5, Offer::Repeat { mark: 4 }),
+    Call::Count(6),
+];
 
 #[test]
 fn gives_two_edges_in_order(rt: HostRuntime) -> Result<(), Fail> {
-    assert_eq!(rt; wrong_of_new(rt.alloc(), &merges_two())?, None);
-    Ok(())
+    none_is_wrong(wrong_of_new(rt.alloc(), MERGES_TWO)?)
 }

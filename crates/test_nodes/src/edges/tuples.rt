@@ -1,6 +1,10 @@
 // Values worked out by hand, and an outbox that is used once.
+use crate::answer::{is_so, none_is_wrong};
 use std::test::Fail;
-use tuple_edge::{Body, Column, Item, NodeId, Outbox, Row, Which, route, saturating_sum_of};
+use test_kit::{A, B, CONTROL};
+use tuple_edge::{
+    Body, Column, Item, NodeId, OutOfMemory, Outbox, Row, Which, route, saturating_sum_of,
+};
 
 fn row(symbol: i64) -> Row {
     Row {
@@ -12,78 +16,102 @@ fn row(symbol: i64) -> Row {
     }
 }
 
-#[test]
-fn routes_by_the_remainder(rt: HostRuntime) {
-    for (symbol, part) in [(-7, 2), (-6, 0), (-1, 2), (0, 0), (7, 1)] {
-        assert_eq!(rt; route(&row(symbol), Column::Symbol, 3), part, "at {symbol}");
-    }
-}
+const ROUTED: &[(i64, u32)] = &[(-7, 2), (-6, 0), (-1, 2), (0, 0), (7, 1)];
 
 #[test]
-fn sums_stop_at_the_bound(rt: HostRuntime) {
-    let big = 9_000_000_000_000_000_000;
-    for (a, b, sum) in [
-        (big - 5, 10, big),
-        (big, -1, big - 1),
-        (-big, -1, -big),
-        (2, 3, 5),
-    ] {
-        assert_eq!(rt; saturating_sum_of(a, b), sum, "at {a} and {b}");
-    }
+fn routes_by_the_remainder() -> Result<(), Fail> {
+    let mut routed = ROUTED.iter();
+    none_is_wrong(routed.position(|(symbol, part)| route(&row(*symbol), Column::Symbol, 3)
+        != *part))
 }
 
-#[test]
-fn orders_items(rt: HostRuntime) {
-    let trade = Item::Row {
-        stamp: 5,
-        row: row(1),
-    };
-    let mark = Item::Mark { stamp: 5 };
-    let end = Item::End { stamp: 6 };
-    assert!(rt; trade.before(&trade, 0, 1));
-    assert!(rt; !trade.before(&trade, 1, 1));
-    assert!(rt; trade.before(&mark, 3, 0));
-    assert!(rt; mark.before(&end, 3, 0));
-    assert!(rt; !end.before(&trade, 0, 1));
-}
+const MOST: i64 = 9_000_000_000_000_000_000;
+
+const SUMS: &[(i64, i64, i64)] = &[
+    (MOST - 5, 10, MOST),
+    (MOST, -1, MOST - 1),
+    (-MOST, -1, -MOST),
+    (2, 3, 5),
+];
 
 #[test]
-fn orders_nodes(rt: HostRuntime) {
-    let (stage, part) = (1, 0);
-    let first = NodeId::Replica {
-        stage,
-        part,
-        which: Which::A,
-    };
-    let second = NodeId::Replica {
-        stage,
-        part,
-        which: Which::B,
-    };
-    let control = NodeId::Control { stage, part };
-    let next = NodeId::Replica {
-        stage,
-        part: 1,
-        which: Which::A,
-    };
-    assert!(rt; NodeId::Ingress < first);
-    assert!(rt; first < second);
-    assert!(rt; second < control);
-    assert!(rt; control < next);
-    assert!(rt; next < NodeId::Egress);
+fn sums_stop_at_the_bound() -> Result<(), Fail> {
+    let mut sums = SUMS.iter();
+    none_is_wrong(sums.position(|(a, b, sum)| saturating_sum_of(*a, *b) != *sum))
+}
+
+const TRADE: Item = Item::Row {
+    stamp: 5,
+    row: Row {
+        time: 1,
+        account: 2,
+        symbol: 1,
+        qty: 3,
+        value: 4,
+    },
+};
+
+const MARK: Item = Item::Mark { stamp: 5 };
+
+const END: Item = Item::End { stamp: 6 };
+
+// Two items, their edges, and whether the first one comes before the other.
+const ORDERED: &[(Item, Item, u32, u32, bool)] = &[
+    (TRADE, TRADE, 0, 1, true),
+    (TRADE, TRADE, 1, 1, false),
+    (TRADE, MARK, 3, 0, true),
+    (MARK, END, 3, 0, true),
+    (END, TRADE, 0, 1, false),
+];
+
+#[test]
+fn orders_items() -> Result<(), Fail> {
+    let mut ordered = ORDERED.iter();
+    none_is_wrong(ordered.position(|(item, other, on, other_on, first)| {
+        item.before(other, *on, *other_on) != *first
+    }))
+}
+
+const NEXT: NodeId = NodeId::Replica {
+    stage: 1,
+    part: 1,
+    which: Which::A,
+};
+
+// Each node comes before the one beside it.
+const RISING: &[(NodeId, NodeId)] = &[
+    (NodeId::Ingress, A),
+    (A, B),
+    (B, CONTROL),
+    (CONTROL, NEXT),
+    (NEXT, NodeId::Egress),
+];
+
+#[test]
+fn orders_nodes() -> Result<(), Fail> {
+    let mut rising = RISING.iter();
+    none_is_wrong(rising.position(|(node, other)| !(*node < *other)))
+}
+
+// Two packets, one behind the other, and none after them.
+fn has_two(out: &Outbox) -> bool {
+    out.len() == 2
+        && out.get(0) == Some((NodeId::Egress, Body::AskBack))
+        && out.get(1) == Some((NodeId::Ingress, Body::Begin { inc: 2 }))
+        && out.get(2).is_none()
+}
+
+fn keeps_two(out: &mut Outbox) -> Result<bool, OutOfMemory> {
+    out.reserve(2)?;
+    out.push(NodeId::Egress, Body::AskBack);
+    out.push(NodeId::Ingress, Body::Begin { inc: 2 });
+    let two = has_two(out);
+    out.clear();
+    Ok(two && out.is_empty())
 }
 
 #[test]
 fn keeps_packets_in_order(rt: HostRuntime) -> Result<(), Fail> {
     let mut out = Outbox::new(rt.alloc());
-    out.reserve(2)?;
-    out.push(NodeId::Egress, Body::AskBack);
-    out.push(NodeId::Ingress, Body::Begin { inc: 2 });
-    assert_eq!(rt; out.len(), 2);
-    assert_eq!(rt; out.get(0), Some((NodeId::Egress, Body::AskBack)));
-    assert_eq!(rt; out.get(1), Some((NodeId::Ingress, Body::Begin { inc: 2 })));
-    assert_eq!(rt; out.get(2), None);
-    out.clear();
-    assert!(rt; out.is_empty());
-    Ok(())
+    is_so(keeps_two(&mut out)?)
 }

@@ -1,8 +1,10 @@
 // Ingress and egress of one plan, and the steps of a test: what is done with them, and what has to come of it.
+ghost use Rattle.std.specs.Prelude.{◌≡◌, false};
+
+use crate::answer::none_is_wrong;
 use ingress_egress::{Egress, Ingress};
 use plan_reader::{Plan, read_plan};
 use std::alloc::Global;
-use std::process::Abort;
 use std::test::Fail;
 use test_kit::replica;
 use trade_text::{Trades, read_cash, read_trades};
@@ -16,51 +18,26 @@ pub(crate) enum Step {
     MakesNoMore,
     // So many makes were done.
     Made(u64),
-    // A source has produced so many items on an edge, and keeps this one under its number.
-    Produced {
-        source: u32,
-        to: u32,
-        count: u64,
-    },
-    Kept {
-        source: u32,
-        to: u32,
-        number: u64,
-        item: Option<Item>,
-    },
+    // A source has produced on an edge so many items, and keeps there under a number this one.
+    Produced(u32, u32, u64),
+    Kept(u32, u32, u64, Option<Item>),
     // Ingress is given a packet, which has to be admitted.
-    GiveIngress {
-        from: NodeId,
-        body: Body,
-    },
+    GiveIngress(NodeId, Body),
     // A piece of ingress' work sends just this packet; so many pieces send something; none is due.
     IngressSends(NodeId, Body),
     IngressSendsSome(u64),
     IngressIsIdle,
     // Egress is given a packet, which has to be admitted; the next item of an edge; all that ingress keeps.
-    GiveEgress {
-        from: NodeId,
-        body: Body,
-    },
-    Pull {
-        edge: u32,
-        item: Item,
-    },
+    GiveEgress(NodeId, Body),
+    Pull(u32, Item),
     HandOn,
     // A piece of egress' work merges an item and sends nothing; sends just this body to both replicas of a partition of the
     // last stage; none is due.
     EgressMerges,
-    EgressSends {
-        stage: u32,
-        part: u32,
-        body: Body,
-    },
+    EgressSends(u32, u32, Body),
     EgressIsIdle,
-    // Egress has emitted these rows, and whether it is done.
-    Emitted {
-        rows: &'static [Row],
-        done: bool,
-    },
+    // Egress has emitted these rows, of which it handed none on, and whether it is done.
+    Emitted { rows: &'static [Row], done: bool },
 }
 
 /// The two nodes of a plan over its inputs, and what the last piece of work sent.
@@ -72,17 +49,24 @@ pub(crate) struct Boundary {
     out: Outbox,
 }
 
+// The movements of a text are merged into the trades.
+fn merge(alloc: Global, trades: &mut Trades, cash: &[u8]) -> Result<(), OutOfMemory>
+    requires { trades.old.merged ≡ false }
+{
+    let room = 100_000 - trades.rows().len() as u32;
+    let Ok(cash) = read_cash(alloc, cash, room) else {
+        return Err(OutOfMemory);
+    };
+    trades.merge_cash(&cash)
+}
+
 // The trades of a text, with its movements; without movements where their text is empty.
 fn inputs(alloc: Global, trades: &[u8], cash: &[u8]) -> Result<Trades, OutOfMemory> {
     let Ok(mut trades) = read_trades(alloc, trades) else {
         return Err(OutOfMemory);
     };
     if !cash.is_empty() {
-        let room = 100_000 - trades.rows().len() as u32;
-        let Ok(cash) = read_cash(alloc, cash, room) else {
-            return Err(OutOfMemory);
-        };
-        trades.merge_cash(&cash)?;
+        merge(alloc, &mut trades, cash)?;
     }
     Ok(trades)
 }
@@ -108,7 +92,6 @@ pub(crate) fn opened(
 
 // Each of the steps comes to what it has to.
 pub(crate) fn check(
-    rt: &impl Abort,
     alloc: Global,
     plan: &[u8],
     trades: &[u8],
@@ -116,41 +99,44 @@ pub(crate) fn check(
     steps: &[Step],
 ) -> Result<(), Fail> {
     let mut nodes = opened(alloc, plan, trades, cash)?;
-    for (place, step) in steps.iter().enumerate() {
-        let well = nodes.goes(step)?;
-        assert!(rt; well, "at {place}");
-    }
-    Ok(())
+    let wrong = nodes.first_wrong(steps);
+    drop(nodes);
+    none_is_wrong(wrong?)
 }
 
 impl Boundary {
+    // The first of these steps that doesn't come to what it has to.
+    fn first_wrong(&mut self, steps: &[Step]) -> Result<Option<usize>, OutOfMemory> {
+        for (place, step) in steps.iter().enumerate() {
+            if !self.goes(step)? {
+                return Ok(Some(place));
+            }
+        }
+        Ok(None)
+    }
+
     // Whether a step comes to what it has to.
     fn goes(&mut self, step: &Step) -> Result<bool, OutOfMemory> {
         match *step {
             Step::Makes(count) => self.makes(count),
             Step::MakesNoMore => Ok(self.ingress.make()? == Worked::Idle),
             Step::Made(count) => Ok(self.ingress.makes() == count),
-            Step::Produced { source, to, count } => Ok(self.produced(source, to) == count),
-            Step::Kept {
-                source,
-                to,
-                number,
-                item,
-            } => Ok(self.kept(source, to, number) == item),
-            Step::GiveIngress { from, body } => Ok(self.give_ingress(from, &body)),
+            Step::Produced(source, to, count) => Ok(self.produced(source, to) == count),
+            Step::Kept(source, to, number, item) => Ok(self.kept(source, to, number) == item),
+            Step::GiveIngress(from, body) => Ok(self.give_ingress(from, &body)),
             Step::IngressSends(to, body) => Ok(
                 self.ingress_works()? && self.has_sent(&[(to, body)]),
             ),
             Step::IngressSendsSome(count) => self.ingress_sends(count),
             Step::IngressIsIdle => Ok(!self.ingress_works()? && self.out.is_empty()),
-            Step::GiveEgress { from, body } => self.give_egress(from, &body),
-            Step::Pull { edge, item } => self.pull(edge, item),
+            Step::GiveEgress(from, body) => self.give_egress(from, &body),
+            Step::Pull(edge, item) => self.pull(edge, item),
             Step::HandOn => self.hand_on(),
             Step::EgressMerges => Ok(self.egress_works()? && self.out.is_empty()),
-            Step::EgressSends { stage, part, body } => self.egress_sends(stage, part, body),
+            Step::EgressSends(stage, part, body) => self.egress_sends(stage, part, body),
             Step::EgressIsIdle => Ok(!self.egress_works()? && self.out.is_empty()),
             Step::Emitted { rows, done } => {
-                Ok(self.egress.emitted() == rows && self.egress.done() == done)
+                Ok(self.egress.held() == rows && self.egress.done() == done)
             }
         }
     }

@@ -1,8 +1,9 @@
 // What ingress makes of its inputs, and to whom it sends that.
-use crate::ends::boundary::{Step, check, opened};
+use crate::answer::none_is_wrong;
+use crate::ends::boundary::{Boundary, Step, check, opened};
 use std::alloc::{AllocError, Global};
 use std::test::Fail;
-use test_kit::{A, B, CONTROL, FIRST_EDGE, NAMES, ONE, control, replica};
+use test_kit::{A, B, CONTROL, FIRST_EDGE, NAMES, ONE};
 use tuple_edge::{Body, EdgeId, Item, NodeId, Row, Which};
 
 // The edge from the second source to the first partition.
@@ -24,71 +25,60 @@ const ROW: Item = Item::Row {
     },
 };
 
-// An item of the first edge.
-fn tuple(number: u64, item: Item) -> Body {
-    let edge = FIRST_EDGE;
-    Body::Tuple { edge, number, item }
-}
+// The first items of the first edge: that row, and the end.
+const FIRST_TUPLE: Body = Body::Tuple {
+    edge: FIRST_EDGE,
+    number: 1,
+    item: ROW,
+};
 
-fn produced(to: u32, count: u64) -> Step {
-    let source = 0;
-    Step::Produced { source, to, count }
-}
+const END_TUPLE: Body = Body::Tuple {
+    edge: FIRST_EDGE,
+    number: 2,
+    item: Item::End { stamp: 2 },
+};
 
-fn kept(source: u32, to: u32, number: u64, item: Option<Item>) -> Step {
-    Step::Kept {
-        source,
-        to,
-        number,
-        item,
-    }
-}
-
-fn routed() -> [Step; 21] {
-    [
-        Step::Makes(1),
-        Step::Made(1),
-        produced(0, 0),
-        produced(1, 1),
-        Step::Makes(1),
-        Step::Made(2),
-        produced(0, 2),
-        produced(1, 2),
-        Step::Makes(1),
-        Step::Made(3),
-        produced(0, 2),
-        produced(1, 3),
-        Step::Makes(1),
-        Step::Made(4),
-        produced(0, 3),
-        produced(1, 4),
-        Step::MakesNoMore,
-        Step::Made(4),
-        kept(0, 0, 2, Some(Item::Mark { stamp: 2 })),
-        kept(0, 0, 3, Some(Item::End { stamp: 4 })),
-        kept(0, 1, 4, Some(Item::End { stamp: 4 })),
-    ]
-}
+const ROUTED: &[Step] = &[
+    Step::Makes(1),
+    Step::Made(1),
+    Step::Produced(0, 0, 0),
+    Step::Produced(0, 1, 1),
+    Step::Makes(1),
+    Step::Made(2),
+    Step::Produced(0, 0, 2),
+    Step::Produced(0, 1, 2),
+    Step::Makes(1),
+    Step::Made(3),
+    Step::Produced(0, 0, 2),
+    Step::Produced(0, 1, 3),
+    Step::Makes(1),
+    Step::Made(4),
+    Step::Produced(0, 0, 3),
+    Step::Produced(0, 1, 4),
+    Step::MakesNoMore,
+    Step::Made(4),
+    Step::Kept(0, 0, 2, Some(Item::Mark { stamp: 2 })),
+    Step::Kept(0, 0, 3, Some(Item::End { stamp: 4 })),
+    Step::Kept(0, 1, 4, Some(Item::End { stamp: 4 })),
+];
 
 // A row goes on the edge that routing names, a mark and the end on each.
 #[test]
 fn makes_rows_marks_and_the_end(rt: HostRuntime) -> Result<(), Fail> {
     let plan = b"flux 1\nmark 2\nstage 1 parts 2 by account total account\n";
     let trades = b"time,account,symbol,side,qty,price\n1,1,A,B,1,1\n1,2,A,B,1,1\n1,3,A,B,1,1\n";
-    check(&rt, rt.alloc(), plan, trades, b"", &routed())
+    check(rt.alloc(), plan, trades, b"", ROUTED)
 }
 
-fn marked() -> [Step; 7] {
-    [
-        Step::Makes(63),
-        produced(0, 63),
-        Step::Makes(1),
-        produced(0, 65),
-        kept(0, 0, 65, Some(Item::Mark { stamp: 64 })),
-        Step::Makes(1),
-        produced(0, 66),
-    ]
-}
+const MARKED: &[Step] = &[
+    Step::Makes(63),
+    Step::Produced(0, 0, 63),
+    Step::Makes(1),
+    Step::Produced(0, 0, 65),
+    Step::Kept(0, 0, 65, Some(Item::Mark { stamp: 64 })),
+    Step::Makes(1),
+    Step::Produced(0, 0, 66),
+];
 
 // So many trades.
 fn trades(alloc: Global, count: u32) -> Result<Vec<u8>, AllocError> {
@@ -103,45 +93,63 @@ fn trades(alloc: Global, count: u32) -> Result<Vec<u8>, AllocError> {
 #[test]
 fn marks_the_sixty_fourth_row(rt: HostRuntime) -> Result<(), Fail> {
     let trades = trades(rt.alloc(), 65)?;
-    check(&rt, rt.alloc(), ONE, &trades, b"", &marked())
+    check(rt.alloc(), ONE, &trades, b"", MARKED)
 }
 
-fn sent() -> [Step; 13] {
-    [
-        Step::IngressIsIdle,
-        Step::Makes(2),
-        Step::IngressSends(A, tuple(1, ROW)),
-        Step::IngressSends(B, tuple(1, ROW)),
-        Step::IngressSends(A, tuple(2, Item::End { stamp: 2 })),
-        Step::IngressSends(B, tuple(2, Item::End { stamp: 2 })),
-        Step::IngressIsIdle,
-        Step::GiveIngress {
-            from: CONTROL,
-            body: Body::Ack {
-                edge: FIRST_EDGE,
-                upto: 1,
-            },
+const SENT: &[Step] = &[
+    Step::IngressIsIdle,
+    Step::Makes(2),
+    Step::IngressSends(A, FIRST_TUPLE),
+    Step::IngressSends(B, FIRST_TUPLE),
+    Step::IngressSends(A, END_TUPLE),
+    Step::IngressSends(B, END_TUPLE),
+    Step::IngressIsIdle,
+    Step::GiveIngress(
+        CONTROL,
+        Body::Ack {
+            edge: FIRST_EDGE,
+            upto: 1,
         },
-        kept(0, 0, 1, None),
-        Step::GiveIngress {
-            from: B,
-            body: Body::Want {
-                edge: FIRST_EDGE,
-                from: 1,
-            },
+    ),
+    Step::Kept(0, 0, 1, None),
+    Step::GiveIngress(
+        B,
+        Body::Want {
+            edge: FIRST_EDGE,
+            from: 1,
         },
-        Step::IngressSends(B, tuple(2, Item::End { stamp: 2 })),
-        Step::IngressIsIdle,
-        Step::MakesNoMore,
-    ]
-}
+    ),
+    Step::IngressSends(B, END_TUPLE),
+    Step::IngressIsIdle,
+    Step::MakesNoMore,
+];
 
 // Each item goes to both replicas, again where one of them wants it, and no more once it is acknowledged.
 #[test]
 fn sends_to_both_replicas(rt: HostRuntime) -> Result<(), Fail> {
     let trades = b"time,account,symbol,side,qty,price\n1,1,A,B,1,1\n";
-    check(&rt, rt.alloc(), ONE, trades, b"", &sent())
+    check(rt.alloc(), ONE, trades, b"", SENT)
 }
+
+const OTHER_CONTROL: NodeId = NodeId::Control { stage: 1, part: 1 };
+
+const OTHER_REPLICA: NodeId = NodeId::Replica {
+    stage: 1,
+    part: 1,
+    which: Which::A,
+};
+
+// A sender, an edge from a source to a partition and up to which number it acknowledges that, and whether it is admitted.
+const ACKS: &[(NodeId, u32, u32, u64, bool)] = &[
+    (OTHER_CONTROL, 0, 1, 7, true),
+    (OTHER_CONTROL, 0, 1, (1 << 62) - 1, true),
+    (OTHER_CONTROL, 0, 1, 1 << 62, false),
+    (CONTROL, 0, 1, 7, false),
+    (OTHER_CONTROL, 1, 1, 7, false),
+    (NodeId::Control { stage: 2, part: 0 }, 0, 0, 7, false),
+    (OTHER_REPLICA, 0, 1, 7, false),
+    (NodeId::Egress, 0, 0, 7, false),
+];
 
 fn ack(from: u32, to: u32, upto: u64) -> Body {
     let stage = 0;
@@ -151,18 +159,15 @@ fn ack(from: u32, to: u32, upto: u64) -> Body {
     }
 }
 
-// A sender and what it sends, and whether that is admitted.
-fn packets() -> [(NodeId, Body, bool); 8] {
-    [
-        (control(1, 1), ack(0, 1, 7), true),
-        (control(1, 1), ack(0, 1, (1 << 62) - 1), true),
-        (control(1, 1), ack(0, 1, 1 << 62), false),
-        (control(1, 0), ack(0, 1, 7), false),
-        (control(1, 1), ack(1, 1, 7), false),
-        (control(2, 0), ack(0, 0, 7), false),
-        (replica(1, 1, Which::A), ack(0, 1, 7), false),
-        (NodeId::Egress, ack(0, 0, 7), false),
-    ]
+// The first of these that is admitted otherwise.
+fn first_wrong(nodes: &Boundary) -> Option<usize> {
+    for (place, (node, from, to, upto, admitted)) in ACKS.iter().enumerate() {
+        let body = ack(*from, *to, *upto);
+        if nodes.ingress.admits(&nodes.plan, *node, &body) != *admitted {
+            return Some(place);
+        }
+    }
+    None
 }
 
 // What no controller or replica of the first stage sends, or names an edge that isn't there, is not admitted.
@@ -173,54 +178,45 @@ stage 1 parts 2 by account keep qty > 0
 stage 2 parts 1 by account total account
 ";
     let nodes = opened(rt.alloc(), plan, NAMES, b"")?;
-    for (from, body, admitted) in packets() {
-        assert_eq!(rt; nodes.ingress.admits(&nodes.plan, from, &body), admitted);
-    }
-    Ok(())
+    none_is_wrong(first_wrong(&nodes))
 }
 
-fn apart() -> [Step; 15] {
-    [
-        Step::Makes(4),
-        Step::MakesNoMore,
-        Step::Made(4),
-        produced(0, 4),
-        Step::Produced {
-            source: 1,
-            to: 0,
-            count: 3,
+const APART: &[Step] = &[
+    Step::Makes(4),
+    Step::MakesNoMore,
+    Step::Made(4),
+    Step::Produced(0, 0, 4),
+    Step::Produced(1, 0, 3),
+    Step::Kept(1, 0, 2, Some(Item::Mark { stamp: 2 })),
+    Step::IngressSendsSome(14),
+    Step::IngressIsIdle,
+    Step::GiveIngress(
+        CONTROL,
+        Body::Ack {
+            edge: SECOND,
+            upto: 1,
         },
-        kept(1, 0, 2, Some(Item::Mark { stamp: 2 })),
-        Step::IngressSendsSome(14),
-        Step::IngressIsIdle,
-        Step::GiveIngress {
-            from: CONTROL,
-            body: Body::Ack {
-                edge: SECOND,
-                upto: 1,
-            },
+    ),
+    Step::Kept(0, 0, 1, Some(ROW)),
+    Step::Kept(1, 0, 1, None),
+    Step::GiveIngress(
+        A,
+        Body::Want {
+            edge: SECOND,
+            from: 3,
         },
-        kept(0, 0, 1, Some(ROW)),
-        kept(1, 0, 1, None),
-        Step::GiveIngress {
-            from: A,
-            body: Body::Want {
-                edge: SECOND,
-                from: 3,
-            },
+    ),
+    Step::IngressSends(
+        A,
+        Body::Tuple {
+            edge: SECOND,
+            number: 3,
+            item: Item::End { stamp: 4 },
         },
-        Step::IngressSends(
-            A,
-            Body::Tuple {
-                edge: SECOND,
-                number: 3,
-                item: Item::End { stamp: 4 },
-            },
-        ),
-        Step::IngressIsIdle,
-        Step::Made(4),
-    ]
-}
+    ),
+    Step::IngressIsIdle,
+    Step::Made(4),
+];
 
 // The movements are the second source: its rows go on its own edges, marks and the end on those of both.
 #[test]
@@ -228,5 +224,5 @@ fn keeps_two_sources_apart(rt: HostRuntime) -> Result<(), Fail> {
     let plan = b"flux 2\nmark 2\nstage 1 parts 1 by account total account\n";
     let trades = b"time,account,symbol,side,qty,price\n1,1,A,B,1,1\n3,1,A,B,1,1\n";
     let cash = b"time,account,amount\n2,1,5\n";
-    check(&rt, rt.alloc(), plan, trades, cash, &apart())
+    check(rt.alloc(), plan, trades, cash, APART)
 }

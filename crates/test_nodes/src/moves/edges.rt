@@ -64,26 +64,23 @@ pub(crate) fn producer(rt: &impl Abort, alloc: Global) -> Result<Producer, OutOf
     Ok(producer)
 }
 
-// An in-edge has this mark, and so many items wait on it.
-pub(crate) fn has_taken(rt: &impl Abort, consumer: &Consumer, edge: u32, mark: u64, waiting: u64) {
+// Whether an in-edge has this mark, and so many items wait on it.
+pub(crate) fn has_taken(consumer: &Consumer, edge: u32, mark: u64, waiting: u64) -> bool {
     let merge = consumer.merge();
-    assert!(rt; edge < merge.edges());
-    assert_eq!(rt; merge.mark(edge), mark, "mark of {edge}");
-    assert_eq!(rt; merge.waiting(edge), waiting, "waiting on {edge}");
+    edge < merge.edges() && merge.mark(edge) == mark && merge.waiting(edge) == waiting
 }
 
-// An out-edge has these numbers, and keeps this item of the last number produced.
+// Whether an out-edge has these numbers, and keeps this item of the last number produced.
 pub(crate) fn has_produced(
-    rt: &impl Abort,
     producer: &Producer,
     edge: u32,
     low: u64,
     produced: u64,
     last: Option<Item>,
-) {
-    assert!(rt; edge < producer.edges());
+) -> bool {
+    if edge >= producer.edges() {
+        return false;
+    }
     let buffer = producer.buffer(edge);
-    assert_eq!(rt; buffer.low(), low, "low of {edge}");
-    assert_eq!(rt; buffer.produced(), produced, "produced on {edge}");
-    assert_eq!(rt; buffer.get(produced), last, "last of {edge}");
+    buffer.low() == low && buffer.produced() == produced && buffer.get(produced) == last
 }

@@ -3,6 +3,7 @@ ghost use Rattle.state_mover.specs.MoverView.{IsMidway};
 ghost use Rattle.std.specs.Prelude.{◌≡◌, IfSome, IsSome};
 ghost use Rattle.stream_ops.specs.Times.{IsTimely};
 
+use crate::answer::none_is_wrong;
 use crate::moves::rows::total;
 use crate::moves::survivor::{Survivor, opened};
 use state_mover::{Moved, Mover};
@@ -76,65 +77,91 @@ fn moved_parts(rt: &impl Abort, alloc: Global) -> Result<Vec<Moved>, OutOfMemory
     parts
 }
 
+const FIRST: Item = Item::Mark { stamp: 1 };
+
+const SECOND: Item = Item::Mark { stamp: 2 };
+
 // Two items wait on the first in-edge; of the first out-edge the second item is kept, and the other one
-// is acknowledged up to 3.
-fn entries() -> [Entry; 10] {
-    let first = Item::Mark { stamp: 1 };
-    let second = Item::Mark { stamp: 2 };
-    let account = |account: i64, qty: i64| Entry::Keyed {
-        key: Key { account, symbol: 0 },
+// is acknowledged up to 3. The operator has a row of each of two accounts.
+const ENTRIES: &[Entry] = &[
+    Entry::Mark { edge: 0, upto: 2 },
+    Entry::Mark { edge: 1, upto: 0 },
+    Entry::Count { count: 0 },
+    Entry::Head {
+        edge: 0,
+        number: 1,
+        item: FIRST,
+    },
+    Entry::Head {
+        edge: 0,
+        number: 2,
+        item: SECOND,
+    },
+    Entry::Low {
+        edge: 0,
+        upto: 1,
+        produced: 2,
+    },
+    Entry::Low {
+        edge: 1,
+        upto: 3,
+        produced: 0,
+    },
+    Entry::Kept {
+        edge: 0,
+        number: 2,
+        item: FIRST,
+    },
+    Entry::Keyed {
+        key: Key {
+            account: 1,
+            symbol: 0,
+        },
         slot: 0,
-        a: qty,
+        a: 1,
         b: 0,
         c: 0,
-    };
-    [
-        Entry::Mark { edge: 0, upto: 2 },
-        Entry::Mark { edge: 1, upto: 0 },
-        Entry::Count { count: 0 },
-        Entry::Head {
-            edge: 0,
-            number: 1,
-            item: first,
+    },
+    Entry::Keyed {
+        key: Key {
+            account: 2,
+            symbol: 0,
         },
-        Entry::Head {
-            edge: 0,
-            number: 2,
-            item: second,
-        },
-        Entry::Low {
-            edge: 0,
-            upto: 1,
-            produced: 2,
-        },
-        Entry::Low {
-            edge: 1,
-            upto: 3,
-            produced: 0,
-        },
-        Entry::Kept {
-            edge: 0,
-            number: 2,
-            item: first,
-        },
-        account(1, 1),
-        account(2, 2),
-    ]
+        slot: 0,
+        a: 2,
+        b: 0,
+        c: 0,
+    },
+];
+
+// Whether the part at a place of the move is this entry, under the next number.
+fn is_entry(parts: &[Moved], place: usize, entry: Entry) -> bool {
+    match parts.get(place) {
+        Some(Moved::Chunk { number, entry: is }) => {
+            *number == (place as u64).saturating_add(1) && *is == entry
+        }
+        _ => false,
+    }
 }
 
-// The parts of the move, and its end.
-fn listed(alloc: Global) -> Result<Vec<Moved>, OutOfMemory> {
-    let mut parts = Vec::new(alloc);
-    for (number, entry) in (1..11).zip(entries()) {
-        parts.push(Moved::Chunk { number, entry })?;
+// The first entry that isn't where it has to be.
+fn first_wrong(parts: &[Moved]) -> Option<usize> {
+    for (place, entry) in ENTRIES.iter().enumerate() {
+        if !is_entry(parts, place, *entry) {
+            return Some(place);
+        }
     }
-    parts.push(Moved::End { count: 10 })?;
-    Ok(parts)
+    None
+}
+
+// Whether the move ends after its entries.
+fn ends(parts: &[Moved]) -> bool {
+    parts.len() == 11 && parts.last() == Some(&Moved::End { count: 10 })
 }
 
 #[test]
 fn a_move_is_what_its_list_says(rt: HostRuntime) -> Result<(), Fail> {
     let parts = moved_parts(&rt, rt.alloc())?;
-    assert_eq!(rt; parts.as_slice(), listed(rt.alloc())?.as_slice());
-    Ok(())
+    assert!(rt; ends(&parts));
+    none_is_wrong(first_wrong(&parts))
 }

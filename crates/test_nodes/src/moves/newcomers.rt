@@ -1,6 +1,7 @@
 // The answers of a newcomer.
 ghost use Rattle.std.specs.Prelude.{◌≡◌, ◌≤◌, IfOk, false, length};
 
+use crate::answer::is_so;
 use crate::moves::passing::hold;
 use catch_up::{Hold, Newcomer, Took};
 use std::alloc::Global;
@@ -9,7 +10,7 @@ use stream_ops::{By, OpSpec};
 use tuple_edge::{Entry, OutOfMemory};
 
 // Items of two in-edges that a newcomer is given, by edge and number, and what becomes of each.
-const HELD: [(u32, u64, Hold); 4] = [
+const HELD: &[(u32, u64, Hold)] = &[
     (0, 9, Hold::Kept),
     (0, 3, Hold::Kept),
     (0, 9, Hold::Repeat),
@@ -23,41 +24,37 @@ fn holds_once(newcomer: &mut Newcomer) -> Result<bool, OutOfMemory>
 {
     let mut all = true;
     for (edge, number, held) in HELD {
-        all = all && edge < 2 && hold(newcomer, edge, number)? == held;
+        all = all && *edge < 2 && hold(newcomer, *edge, *number)? == *held;
     }
     Ok(all)
 }
 
-// The numbers that are held of the first in-edge then.
-fn numbers(newcomer: &Newcomer) -> [Option<u64>; 3]
+// Two numbers are held of the first in-edge then, in their order.
+fn holds_two(newcomer: &Newcomer) -> bool
     requires { length newcomer.now.held ≡ 2 }
 {
-    [
-        newcomer.held(0, 0),
-        newcomer.held(0, 1),
-        newcomer.held(0, 2),
-    ]
+    newcomer.held(0, 0) == Some(3)
+        && newcomer.held(0, 1) == Some(9)
+        && newcomer.held(0, 2).is_none()
 }
 
-fn held_numbers(alloc: Global) -> Result<Option<[Option<u64>; 3]>, OutOfMemory> {
+fn holds_each_once(alloc: Global) -> Result<bool, OutOfMemory> {
     let mut newcomer = Newcomer::begin(alloc, 2, 2)?;
     let once = holds_once(&mut newcomer);
-    let numbers = numbers(&newcomer);
+    let two = holds_two(&newcomer);
     drop(newcomer);
-    Ok(if once? { Some(numbers) } else { None })
+    Ok(once? && two)
 }
 
 #[test]
 fn each_number_is_held_once(rt: HostRuntime) -> Result<(), Fail> {
-    let rising = [Some(3), Some(9), None];
-    assert_eq!(rt; held_numbers(rt.alloc())?, Some(rising));
-    Ok(())
+    is_so(holds_each_once(rt.alloc())?)
 }
 
 const ENTRY: Entry = Entry::Count { count: 5 };
 
 // What became of an entry of an incarnation's move, under a number, one after another.
-const CHUNKS: [(u64, u64, Took); 9] = [
+const CHUNKS: &[(u64, u64, Took)] = &[
     (2, 2, Took::Ahead),
     (1, 1, Took::OtherInc),
     (3, 9, Took::OtherInc),
@@ -72,7 +69,7 @@ const CHUNKS: [(u64, u64, Took); 9] = [
 fn takes_in_order(newcomer: &mut Newcomer) -> Result<bool, OutOfMemory> {
     let mut all = true;
     for (inc, number, took) in CHUNKS {
-        all = all && newcomer.chunk(inc, number, ENTRY)? == took;
+        all = all && newcomer.chunk(*inc, *number, ENTRY)? == *took;
     }
     Ok(all)
 }
@@ -85,18 +82,17 @@ fn has_two(newcomer: &Newcomer) -> bool {
         && newcomer.entry(3).is_none()
 }
 
-fn entries(alloc: Global) -> Result<(bool, bool), OutOfMemory> {
+fn takes_entries(alloc: Global) -> Result<bool, OutOfMemory> {
     let mut newcomer = Newcomer::begin(alloc, 2, 1)?;
     let in_order = takes_in_order(&mut newcomer);
     let two = has_two(&newcomer);
     drop(newcomer);
-    Ok((in_order?, two))
+    Ok(in_order? && two)
 }
 
 #[test]
 fn entries_are_taken_in_order(rt: HostRuntime) -> Result<(), Fail> {
-    assert_eq!(rt; entries(rt.alloc())?, (true, true));
-    Ok(())
+    is_so(takes_entries(rt.alloc())?)
 }
 
 // Whether the end of an incarnation's move with so many entries counts.
@@ -131,6 +127,5 @@ fn other_ends(alloc: Global) -> Result<bool, OutOfMemory> {
 
 #[test]
 fn another_end_changes_nothing(rt: HostRuntime) -> Result<(), Fail> {
-    assert!(rt; !other_ends(rt.alloc())?);
-    Ok(())
+    is_so(!other_ends(rt.alloc())?)
 }

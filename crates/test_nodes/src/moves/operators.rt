@@ -2,6 +2,7 @@
 ghost use Rattle.std.specs.Prelude.{◌≡◌, IfOk, Some, length};
 ghost use Rattle.stream_ops.specs.Spec.{IsSpec};
 
+use crate::answer::is_so;
 use crate::moves::edges::{has_produced, has_taken};
 use crate::moves::passing::{hold, moved};
 use crate::moves::rows::{crossing, join, keep, last, total, window};
@@ -10,7 +11,7 @@ use catch_up::{CaughtUp, Newcomer};
 use std::alloc::Global;
 use std::process::Abort;
 use std::test::Fail;
-use stream_ops::OpSpec;
+use stream_ops::{OpSpec, OpState};
 use tuple_edge::{Entry, Item, OutOfMemory};
 
 // A newcomer that holds the third and the fifth item of the first in-edge, one that it has, and one
@@ -34,20 +35,22 @@ fn newcomer(alloc: Global) -> Result<Newcomer, OutOfMemory>
     Ok(newcomer)
 }
 
-// The operator has these entries, the third item is folded in, the others that were held are not, and
-// what was produced is kept.
-fn is_caught_up(
-    rt: &impl Abort,
-    alloc: Global,
-    caught: &CaughtUp,
-    kept: &[Entry],
-) -> Result<(), Fail> {
-    assert_eq!(rt; caught.state.entries(alloc)?.as_slice(), kept);
-    has_taken(rt, &caught.consumer, 0, 3, 3);
-    has_taken(rt, &caught.consumer, 1, 0, 0);
-    has_produced(rt, &caught.producer, 0, 1, 2, Some(Item::Mark { stamp: 1 }));
-    has_produced(rt, &caught.producer, 1, 3, 0, None);
-    Ok(())
+// The third item is folded in, and the others that were held are not. What was produced is kept.
+fn has_edges(caught: &CaughtUp) -> bool {
+    let last = Some(Item::Mark { stamp: 1 });
+    has_taken(&caught.consumer, 0, 3, 3)
+        && has_taken(&caught.consumer, 1, 0, 0)
+        && has_produced(&caught.producer, 0, 1, 2, last)
+        && has_produced(&caught.producer, 1, 3, 0, None)
+}
+
+// Whether an operator has these entries.
+fn has_entries(alloc: Global, state: &OpState, kept: &[Entry]) -> Result<bool, OutOfMemory> {
+    Ok(state.entries(alloc)?.as_slice() == kept)
+}
+
+fn is_caught_up(alloc: Global, caught: &CaughtUp, kept: &[Entry]) -> Result<bool, OutOfMemory> {
+    Ok(has_edges(caught) && has_entries(alloc, &caught.state, kept)?)
 }
 
 // All of an operator is moved to a newcomer, which goes on with it. Nothing is left to take then.
@@ -64,7 +67,7 @@ fn catch_up(
 {
     let count = moved(alloc, survivor, newcomer)?;
     let ended = newcomer.end(2, count, spec, 1, 0, 2)?;
-    assert_eq!(rt; newcomer.taken(), 0);
+    assert!(rt; newcomer.taken() == 0);
     Ok(ended.ok_or("not caught up")?)
 }
 
@@ -95,9 +98,9 @@ fn moves_kept(
     requires watched { survivor.old.state.old ≡ Some survivor.old.state.entries }
 {
     let caught = caught_up(rt, alloc, survivor, spec)?;
-    let same = is_caught_up(rt, alloc, &caught, kept);
+    let same = is_caught_up(alloc, &caught, kept);
     drop(caught);
-    same
+    is_so(same?)
 }
 
 // Moves an operator with its edges, and looks at what was rebuilt. Meanwhile what it keeps has changed.
@@ -112,9 +115,7 @@ fn is_moved(
     survivor.prepare(alloc)?;
     let kept = survivor.state.entries(alloc)?;
     moves_kept(rt, alloc, survivor, spec, &kept)?;
-    let now = survivor.state.entries(alloc)?;
-    assert_eq!(rt; now.as_slice() == kept.as_slice(), kept.is_empty());
-    Ok(())
+    is_so(has_entries(alloc, &survivor.state, &kept)? == kept.is_empty())
 }
 
 fn moves(rt: &impl Abort, alloc: Global, spec: OpSpec) -> Result<(), Fail>

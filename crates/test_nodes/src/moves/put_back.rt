@@ -2,6 +2,7 @@
 ghost use Rattle.std.specs.Prelude.{◌≡◌, None};
 ghost use Rattle.stream_ops.specs.Spec.{IsSpec};
 
+use crate::answer::is_so;
 use crate::moves::rows::{crossing, given, join, keep, last, step_on, total, window};
 use std::alloc::Global;
 use std::process::Abort;
@@ -28,13 +29,17 @@ fn put_back(alloc: Global, spec: OpSpec, entries: &[Entry]) -> Result<OpState, O
     Ok(state)
 }
 
+// Whether an operator has these entries.
+fn has_entries(alloc: Global, state: &OpState, kept: &[Entry]) -> Result<bool, OutOfMemory> {
+    Ok(state.entries(alloc)?.as_slice() == kept && state.entry_count() == kept.len() as u64)
+}
+
 // Such an operator has these entries.
 fn second_of(rt: &impl Abort, alloc: Global, spec: OpSpec, kept: &[Entry]) -> Result<OpState, Fail>
     requires { IsSpec spec }
 {
     let second = put_back(alloc, spec, kept)?;
-    assert_eq!(rt; second.entries(alloc)?.as_slice(), kept);
-    assert_eq!(rt; second.entry_count(), kept.len() as u64);
+    assert!(rt; has_entries(alloc, &second, kept)?);
     Ok(second)
 }
 
@@ -52,19 +57,15 @@ fn answers(alloc: Global, state: &mut OpState) -> Result<Vec<Row>, OutOfMemory> 
     Ok(answers)
 }
 
+// Whether both answer alike, and not with nothing.
 fn answer_alike(
-    rt: &impl Abort,
     alloc: Global,
     first: &mut OpState,
     second: &mut OpState,
-) -> Result<(), Fail> {
+) -> Result<bool, OutOfMemory> {
     let answers_of_first = answers(alloc, first)?;
-    assert_eq!(rt;
-        answers(alloc, second)?.as_slice(),
-        answers_of_first.as_slice()
-    );
-    assert!(rt; !answers_of_first.is_empty());
-    Ok(())
+    let answers_of_second = answers(alloc, second)?;
+    Ok(!answers_of_first.is_empty() && answers_of_second == answers_of_first)
 }
 
 // An operator of which all entries were put back has the same entries, and answers as the first one.
@@ -77,9 +78,9 @@ fn is_put_back(
     requires { IsSpec spec }
 {
     let mut second = second(rt, alloc, spec, first)?;
-    let alike = answer_alike(rt, alloc, first, &mut second);
+    let alike = answer_alike(alloc, first, &mut second);
     drop(second);
-    alike
+    is_so(alike?)
 }
 
 fn puts_back(rt: &impl Abort, alloc: Global, spec: OpSpec) -> Result<(), Fail>

@@ -1,5 +1,6 @@
 // A move between the two replicas of a pair.
-use crate::replicas::fixture::{Event, Node, Step, first_wrong, opened};
+use crate::answer::{is_so, none_is_wrong};
+use crate::replicas::fixture::{Event, Node, Step, opened};
 use replica_node::Mode;
 use std::alloc::Global;
 use std::test::Fail;
@@ -60,23 +61,36 @@ fn wants(part: Body) -> Step {
     )
 }
 
-// These two come in this order, with the end before and repeats between. The first one makes the newcomer want the items
-// above the mark that it tells.
-fn in_any_order(first: Body, second: Body) -> [Step; 12] {
-    [
-        BEGINS,
-        STOPS_LATE,
-        takes(Body::ChunkEnd { inc: 2, count: 7 }),
-        Step::Taken(0),
-        takes(second),
-        Step::Taken(0),
-        wants(first),
-        Step::Taken(1),
-        takes(first),
-        Step::Taken(1),
-        takes(second),
-        Step::Taken(2),
-    ]
+// The end of the move comes first, and counts for nothing yet.
+const END_FIRST: &[Step] = &[
+    BEGINS,
+    STOPS_LATE,
+    Step::Does(Event::Give(A, Body::ChunkEnd { inc: 2, count: 7 })),
+    Step::Taken(0),
+];
+
+// The second of two parts comes first, and is not taken. The first one makes the newcomer want the items above the mark
+// that it tells, and is taken, though no second time.
+fn takes_in_order(
+    alloc: Global,
+    node: &mut Node,
+    first: Body,
+    second: Body,
+) -> Result<bool, OutOfMemory> {
+    Ok(
+        node.goes(alloc, END_FIRST)?
+            && node.goes(alloc, &[takes(second), Step::Taken(0)])?
+            && node.goes(alloc, &[wants(first), Step::Taken(1)])?
+            && node.goes(alloc, &[takes(first), Step::Taken(1)])?
+            && node.goes(alloc, &[takes(second), Step::Taken(2)])?,
+    )
+}
+
+fn newcomer_takes(alloc: Global, first: Body, second: Body) -> Result<bool, Fail> {
+    let mut node = opened(alloc, ONE, Which::B)?;
+    let well = takes_in_order(alloc, &mut node, first, second);
+    drop(node);
+    Ok(well?)
 }
 
 // Chunks are taken in their order, each once; the end counts only after the last of them.
@@ -85,9 +99,7 @@ fn chunks_come_in_any_order(rt: HostRuntime) -> Result<(), Fail> {
     let (Some(first), Some(second)) = first_parts(rt.alloc())? else {
         return Err(Fail::new("no two parts"));
     };
-    let steps = in_any_order(first, second);
-    assert_eq!(rt; first_wrong(rt.alloc(), ONE, Which::B, &steps)?, None);
-    Ok(())
+    is_so(newcomer_takes(rt.alloc(), first, second)?)
 }
 
 // The next part of the move goes from the survivor to its partner, which gathers, whatever that sends.
@@ -195,10 +207,16 @@ fn newcomer_moves_so(alloc: Global, before: &[Step], then: &[Step]) -> Result<bo
     well
 }
 
+fn first_wrong(alloc: Global) -> Result<Option<usize>, Fail> {
+    for (nth, (before, then)) in MOVES.iter().enumerate() {
+        if !newcomer_moves_so(alloc, before, then)? {
+            return Ok(Some(nth));
+        }
+    }
+    Ok(None)
+}
+
 #[test]
 fn a_newcomer_goes_on_from_the_move(rt: HostRuntime) -> Result<(), Fail> {
-    for (nth, (before, then)) in MOVES.iter().enumerate() {
-        assert!(rt; newcomer_moves_so(rt.alloc(), before, then)?, "at {nth}");
-    }
-    Ok(())
+    none_is_wrong(first_wrong(rt.alloc())?)
 }

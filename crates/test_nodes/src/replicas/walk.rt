@@ -1,4 +1,5 @@
 // A long walk of mixed calls beside a plain program on numbers.
+use crate::answer::is_so;
 use crate::replicas::fixture::{Event, Node, OUT_EDGE, Step, opened};
 use std::alloc::Global;
 use std::test::Fail;
@@ -118,6 +119,5 @@ fn walked(alloc: Global) -> Result<Plain, Fail> {
 #[test]
 fn a_leader_does_as_a_plain_program(rt: HostRuntime) -> Result<(), Fail> {
     let plain = walked(rt.alloc())?;
-    assert!(rt; plain.count > 150 && plain.low > 100);
-    Ok(())
+    is_so(plain.count > 150 && plain.low > 100)
 }

@@ -17,7 +17,7 @@ loop-place-preserved c =
     let within : c.loop-place.place < length c.in_ok-ids.ids.items = omega (arith, c.loop-place-test.true, c.len.ensures, c.in_ok-ids.ids.ok.0) in
     subst (λ ns. AreOpenedTo c.args.plan.now (inputs_in c.args.trades.now) c.in_ok-ids.ids.items ns (c.loop-place.place + 1)) (sym c.in_ok-push.ensures.items)
     (opened_next c.args.plan.now (inputs_in c.args.trades.now) c.in_ok-ids.ids.items c.loop-place.nodes.items c.loop-place.place c.index.result.now c.in_ok-node.node c.loop-place.invariant within c.index.ensures
-    c.in_ok-node.ensures.id c.in_ok-node.ensures.stands)
+    c.in_ok-node.ensures.id c.in_ok-node.ensures.stands c.in_ok-node.ensures.ended c.in_ok-node.ensures.gone)
 
 pub returns-clause-names : goal.returns-clause-names
 returns-clause-names c =

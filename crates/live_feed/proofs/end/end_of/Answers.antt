@@ -14,4 +14,4 @@ returns-in-Ok c given front =
     let inputs = inputs_in c.args.trades.now in
     let e = c.finish_run.ensures in
     has_run plan inputs c.args.script.now given (emitted_in c.in-Ok.left.nodes.items) c.finish_run.result e.ended e.goes_on e.front
-    (subst (λ (r : Result Left OutOfMemory). MatchResult r (λ ran. IsPrefix given (emitted_in ran.nodes.items)) (λ _. IsPrefix given (output plan inputs))) c.in-Ok.is front)
+    (subst (λ (r : Result (Left _) OutOfMemory). MatchResult r (λ ran. IsPrefix given (emitted_in ran.nodes.items)) (λ _. IsPrefix given (output plan inputs))) c.in-Ok.is front)

@@ -16,16 +16,16 @@ pub returns-in-Ok : goal.returns-in-Ok
 returns-in-Ok g c start w =
     let got = rows_got c.args.receiver in
     let sent = rows_sent c.args.side.sender in
-    let run = subst (λ (r : Result EndedView OutOfMemory). HasRun g.N.RunNames.plan g.N.RunNames.inputs g.N.RunNames.script sent r) c.in-Ok.is c.requires.run in
+    let run = subst (λ (r : Result EndedView OutOfMemory). HasRun g.N.RunNames.plan g.N.FedNames.inputs g.N.RunNames.script sent r) c.in-Ok.is c.requires.run in
     let e = c.settle-first.ensures in
     c.finish.ensures start
-    (subst (λ (l : List Row). IsWritten start (record { taken = g.W.Wire.taken c.args.out.now; faults = g.W.Wire.faults c.args.out.now }) (part_text c.args.trades.now.symbols l) c.args.written)
+    (subst (λ (l : List Row). IsWritten start (g.W.Wire.told c.args.out.now) (part_text c.args.trades.now.symbols l) c.args.written)
     (first_received got sent c.in-Ok.ended.rows c.settle-first.result e.count e.front run.1) w)
 
 pub returns : goal.returns
 returns g c start w =
     let got = rows_got c.args.receiver in
     let sent = rows_sent c.args.side.sender in
-    let given = subst (λ (r : Result EndedView OutOfMemory). HasRun g.N.RunNames.plan g.N.RunNames.inputs g.N.RunNames.script sent r) c.in-Err.is c.requires.run in
-    lives_short g.N.RunNames.plan g.N.RunNames.inputs g.N.RunNames.script c.args.trades.now.symbols start (record { taken = g.W.Wire.taken c.args.out.now; faults = g.W.Wire.faults c.args.out.now }) got c.args.written
-    (prefix_more got sent (output g.N.RunNames.plan g.N.RunNames.inputs) c.settle-first.ensures.front given) w
+    let given = subst (λ (r : Result EndedView OutOfMemory). HasRun g.N.RunNames.plan g.N.FedNames.inputs g.N.RunNames.script sent r) c.in-Err.is c.requires.run in
+    lives_short g.N.RunNames.plan g.N.FedNames.inputs g.N.RunNames.script c.args.trades.now.symbols start (g.W.Wire.told c.args.out.now) got c.args.written
+    (prefix_more got sent (output g.N.RunNames.plan g.N.FedNames.inputs) c.settle-first.ensures.front given) w

@@ -10,13 +10,13 @@ pub finish-requires-clause-there : goal.finish-requires-clause-there
 finish-requires-clause-there g c κs within =
     let h = c.loop-draft.invariant.2 in
     let split : c.loop-draft.yielded ++ c.in-Some.draft ∷ into_iter_items c.next.new.self ≡ c.args.drafts.items = ap (λ l. c.loop-draft.yielded ++ l) (sym c.in-Some.ensures.steps.0) ∙ h.left in
-    (is_finished g.N.RunNames.plan g.N.RunNames.inputs c.args.drafts.items c.requires.links c.loop-draft.yielded _ c.in-Some.draft split).there
+    λ inputs. (is_finished g.N.RunNames.plan inputs c.args.drafts.items c.requires.links c.loop-draft.yielded _ c.in-Some.draft split).there
 
 pub finish-requires-clause-linked : goal.finish-requires-clause-linked
 finish-requires-clause-linked g c κs within =
     let h = c.loop-draft.invariant.2 in
     let split : c.loop-draft.yielded ++ c.in-Some.draft ∷ into_iter_items c.next.new.self ≡ c.args.drafts.items = ap (λ l. c.loop-draft.yielded ++ l) (sym c.in-Some.ensures.steps.0) ∙ h.left in
-    (is_finished g.N.RunNames.plan g.N.RunNames.inputs c.args.drafts.items c.requires.links c.loop-draft.yielded _ c.in-Some.draft split).linked
+    (is_finished g.N.RunNames.plan [] c.args.drafts.items c.requires.links c.loop-draft.yielded _ c.in-Some.draft split).linked
 
 pub loop-draft-preserved : goal.loop-draft-preserved
 loop-draft-preserved g c =

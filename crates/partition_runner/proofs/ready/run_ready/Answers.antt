@@ -5,6 +5,7 @@ use Rattle.run_node.specs.NodeView.{name_of}
 use Rattle.linked_run.specs.Runs.{IsRun, parts_in}
 use Rattle.plan_nodes.specs.States.{StandsFor, id_of}
 use Rattle.plan_nodes.proofs.NodeOrder.{Apart, nodes_apart}
+use Rattle.partition_runner.proofs.AllFed.{all_admit}
 use Rattle.partition_runner.proofs.Unlinked.{names_distinct}
 use Rattle.partition_runner.proofs.ready.run_ready.Goals as goal
 
@@ -19,4 +20,5 @@ pub run_linked-parts-requires-clause-linked : goal.run_linked-parts-requires-cla
 run_linked-parts-requires-clause-linked g c κs within = c.ready.invariant.nodes.linked
 
 pub returns-clause-run : goal.returns-clause-run
-returns-clause-run g c = subst (λ ids. IsRun id_of StandsFor g.N.RunNames.plan g.N.RunNames.inputs g.N.RunNames.script ids (parts_in c.run_linked-parts.result.0.items)) c.ready.invariant.nodes.ids c.run_linked-parts.ensures.run
+returns-clause-run g c = subst (λ ids. IsRun id_of StandsFor g.N.RunNames.plan g.N.FedNames.inputs g.N.RunNames.script ids (parts_in g.K.Keeps.kept c.run_linked-parts.result.0.items)) c.ready.invariant.nodes.ids
+    (c.run_linked-parts.ensures.run g.N.FedNames.inputs (all_admit g.N.FedNames.inputs (parts_in g.K.Keeps.kept c.run_linked-parts.result.0.items)) c.ready.invariant.timely)

@@ -19,7 +19,7 @@ pub returns-in-Work-clause-idle : goal.returns-in-Work-clause-idle
 returns-in-Work-clause-idle c = λ idle. idle_as c.args.rise (state.Replica c.args.node.now) c.args.task.now task.Work c.in-Work.is (c.replica_works.ensures.idle idle)
 
 pub returns-in-Make-clause-idle : goal.returns-in-Make-clause-idle
-returns-in-Make-clause-idle c = λ idle. idle_as c.args.rise (state.Replica c.args.node.now) c.args.task.now task.Make c.in-Make.is (λ plan inputs p x s. refl)
+returns-in-Make-clause-idle c = λ idle. idle_as c.args.rise (state.Replica c.args.node.now) c.args.task.now task.Make c.in-Make.is (λ all plan inputs p x s. refl)
 
 pub returns-in-Kill-clause-acted : goal.returns-in-Kill-clause-acted
 returns-in-Kill-clause-acted c = subst (λ k. HasActedBehind (state.Replica c.args.node.now) (state.Replica c.replica_dies.new.node) k (Ok c.replica_dies.result) c.args.out.now.packets c.replica_dies.new.out.packets) (sym c.in-Kill.is) c.replica_dies.ensures.acted

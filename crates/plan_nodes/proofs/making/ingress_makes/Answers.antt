@@ -16,6 +16,7 @@ loop-done-preserved c =
     let act = subst (λ r. HasDone (state.Ingress c.loop-done.node) (state.Ingress c.make.new.self) task.Make r []) did (ingress_made_so c.loop-done.node c.make.new.self c.make.result e.made e.unchanged e.of_plan e.course) in
     let wanted = subst (λ h. EachHoldsFew h c.loop-done.node) c.hold.ensures.value (c.if-not-holds_few.ensures.0 refl) in record {
       made = make_more c.args.plan.now (state.Ingress c.args.node.now) (state.Ingress c.loop-done.node) (state.Ingress c.make.new.self) c.loop-done.done was.made wanted act;
+      came = λ inputs may. was.came inputs (act.acted.inputs inputs may);
       of_plan = λ plan of. c.make.ensures.of_plan plan (was.of_plan plan of);
     }
 
@@ -36,3 +37,18 @@ returns-else-done-eq0-clause-made c =
     let e = c.make.ensures in
     let act = subst (λ r. HasDone (state.Ingress c.loop-done.node) (state.Ingress c.make.new.self) task.Make r []) lacked (ingress_made_so c.loop-done.node c.make.new.self c.make.result e.made e.unchanged e.of_plan e.course) in
     make_failed c.args.plan.now (state.Ingress c.args.node.now) (state.Ingress c.loop-done.node) (state.Ingress c.make.new.self) c.in-Err.lack c.loop-done.done c.loop-done.invariant.made some act
+
+pub returns-then-done-eq0-clause-inputs : goal.returns-then-done-eq0-clause-inputs
+returns-then-done-eq0-clause-inputs c = λ inputs may.
+    let e = c.make.ensures in
+    c.loop-done.invariant.came inputs ((ingress_made_so c.loop-done.node c.make.new.self c.make.result e.made e.unchanged e.of_plan e.course).acted.inputs inputs may)
+
+pub returns-else-done-eq0-clause-inputs : goal.returns-else-done-eq0-clause-inputs
+returns-else-done-eq0-clause-inputs c = λ inputs may.
+    let e = c.make.ensures in
+    c.loop-done.invariant.came inputs ((ingress_made_so c.loop-done.node c.make.new.self c.make.result e.made e.unchanged e.of_plan e.course).acted.inputs inputs may)
+
+pub returns-in-Ok-Idle-clause-inputs : goal.returns-in-Ok-Idle-clause-inputs
+returns-in-Ok-Idle-clause-inputs c = λ inputs may.
+    let e = c.make.ensures in
+    c.loop-done.invariant.came inputs ((ingress_made_so c.loop-done.node c.make.new.self c.make.result e.made e.unchanged e.of_plan e.course).acted.inputs inputs may)

@@ -7,7 +7,7 @@ use Rattle.row_wire.proofs.writing.write_received.Goals as goal
 
 pub loop-init : goal.loop-init
 loop-init g c = record {
-  written = subst (λ (rows : List Row). IsWritten (record { taken = g.W.Wire.taken c.args.wire.now; faults = g.W.Wire.faults c.args.wire.now }) (record { taken = g.W.Wire.taken c.write_names-written.new.wire; faults = g.W.Wire.faults c.write_names-written.new.wire })
+  written = subst (λ (rows : List Row). IsWritten (g.W.Wire.told c.args.wire.now) (g.W.Wire.told c.write_names-written.new.wire)
       (part_text c.args.trades.now.symbols rows) c.write_names-written.result) (sym c.requires) (c.write_names-written.ensures _ [] (nothing_yet _));
   channel = refl;
 }

@@ -6,6 +6,6 @@ use Rattle.row_wire.proofs.writing.write_received.Given as goal
 
 abbrev pub invariant-loop : goal.invariant-loop
 invariant-loop g l = record {
-  written : IsWritten (record { taken = g.W.Wire.taken l.fn.wire; faults = g.W.Wire.faults l.fn.wire }) (record { taken = g.W.Wire.taken l.wire; faults = g.W.Wire.faults l.wire }) (part_text l.trades.symbols (rows_got l.receiver)) l.written;
+  written : IsWritten (g.W.Wire.told l.fn.wire) (g.W.Wire.told l.wire) (part_text l.trades.symbols (rows_got l.receiver)) l.written;
   channel : receives_from l.receiver ≡ receives_from l.fn.receiver;
 }

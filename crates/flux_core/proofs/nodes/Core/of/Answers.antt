@@ -8,11 +8,11 @@ index-requires c = subst (λ n. 0 < n) (sym c.args.nodes.ok.0) (first_there c.ar
 pub invariant_of-result : goal.invariant_of-result
 invariant_of-result c =
     let o = bared c.args.plan.now c.in_ok-copy_of.field-0 c.args.nodes.items c.index.result.now c.in_ok-stations.stations.items c.in_ok-stations.ensures c.in_ok-copy_of.ensures.copy c.copy_of.ensures.limits
-    c.index.ensures c.times_of.ensures c.requires.names c.requires.given in
+    c.index.ensures c.times_of.ensures c.requires.names c.requires.given c.requires.all in
     o.is
 
 pub returns : goal.returns
 returns c =
     let o = bared c.args.plan.now c.in_ok-copy_of.field-0 c.args.nodes.items c.index.result.now c.in_ok-stations.stations.items c.in_ok-stations.ensures c.in_ok-copy_of.ensures.copy c.copy_of.ensures.limits
-    c.index.ensures c.times_of.ensures c.requires.names c.requires.given in
+    c.index.ensures c.times_of.ensures c.requires.names c.requires.given c.requires.all in
     o.same

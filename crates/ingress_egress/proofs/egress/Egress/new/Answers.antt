@@ -1,4 +1,4 @@
-use Rattle.std.proofs.Common.{◌≡◌, ◌≤◌, ◌+◌, ◌∙◌, [], false, ap, length, subst, sym}
+use Rattle.std.proofs.Common.{◌≡◌, ◌≤◌, ◌+◌, ◌++◌, ◌∙◌, [], false, ap, length, subst, sym}
 use Rattle.merge_order.specs.MergeView.{opening}
 use Rattle.flux_consumer.specs.ConsumerView.{over}
 use Rattle.plan_reader.specs.Nodes.{sources_of}
@@ -20,13 +20,16 @@ returns c =
       of_plan = opens_of_plan c.args.plan.now _ (λ i. record {
         stages = length (c.stages.ensures.value i);
         consumer = (c.in_ok-consumer.ensures.opening ∙ ap (λ n. over (opening n)) sources) i;
-        emitted = c.new-2.ensures.items i;
+        emitted = c.new-2.ensures i ++ c.new-3.ensures.items i;
+        gone = c.new-2.ensures i;
         done = false;
       });
       stands = λ rows. opens c.args.plan.now rows c.stages.ensures.limits _ (λ i. record {
         stages = length (c.stages.ensures.value i);
         consumer = (c.in_ok-consumer.ensures.opening ∙ ap (λ n. over (opening n)) sources) i;
-        emitted = c.new-2.ensures.items i;
+        emitted = c.new-2.ensures i ++ c.new-3.ensures.items i;
+        gone = c.new-2.ensures i;
         done = false;
       });
+      gone = c.new-2.ensures;
     }

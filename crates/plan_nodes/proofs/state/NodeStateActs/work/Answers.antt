@@ -36,3 +36,15 @@ returns-else-count-eq0-clause-steps c =
     let work = subst (λ r. HasWorkedOnce c.loop-count.self c.work_once.new.self r before after) lacked c.work_once.ensures in
     let some : 1 ≤ c.loop-count.count = omega (arith, c.if-count-eq0.false) in
     (run_failed c.args.self.now c.loop-count.self c.work_once.new.self c.in-Err.lack c.loop-count.count c.packets_of_work-each.result before after c.loop-count.invariant.run some work).steps
+
+pub returns-then-not-fits-clause-inputs : goal.returns-then-not-fits-clause-inputs
+returns-then-not-fits-clause-inputs c = c.loop-count.invariant.run.came
+
+pub returns-clause-inputs : goal.returns-clause-inputs
+returns-clause-inputs c = c.loop-count.invariant.run.came
+
+pub returns-in-Ok-Idle-clause-inputs : goal.returns-in-Ok-Idle-clause-inputs
+returns-in-Ok-Idle-clause-inputs c = λ inputs may. c.loop-count.invariant.run.came inputs (c.work_once.ensures.done.acted.inputs inputs may)
+
+pub returns-else-count-eq0-clause-inputs : goal.returns-else-count-eq0-clause-inputs
+returns-else-count-eq0-clause-inputs c = λ inputs may. c.loop-count.invariant.run.came inputs (c.work_once.ensures.done.acted.inputs inputs may)

@@ -23,22 +23,25 @@ invariant_of-self-2 g c =
     let reserved = c.reserve_event.ensures.links in
     let sent : c.send_event.new.outs.links ≡ with_all_sent c_new packets n.outs.links = c.send_event.ensures.links ∙ ap (with_all_sent c_new packets) reserved in
     let did = c.in_ok-act.was ∙ ap Ok c.in-Did.is in
-    let allowed = subst (λ (v : NodeView _ _). (x : Node) → g.A.Acts.stands g.N.RunNames.plan g.N.RunNames.inputs v.state x → IsAllowedAt g.N.RunNames.script (event_of (g.A.Acts.id v.state) c.args.task.now) x) (sym c.self.view_is) c.requires.allowed in
     let later : n.clock < c_new = omega arith in
     let first : clock_of c.args.task.now ≡ 0 = unclocked c.args.task.now c.requires.untaken in
     let after : clock_of c.args.task.now < c_new = omega (arith, first) in
     let small : c_new < 2 ^ 62 = omega (arith, c.if-clock-ge-LAST_CLOCK.false) in
     let fresh : repeats n.fired c.args.task.now ≡ false = sym c.repeats.ensures ∙ c.if-repeats.false in
-    let sound = sound_after g.A.Acts.id g.A.Acts.of_plan g.A.Acts.stands g.N.RunNames.plan g.N.RunNames.inputs g.N.RunNames.script n.state (links_in n.ins.items) n.outs.links n.clock n.fired n.history.entries c.self.invariant.sound
-    c.args.task.now c.act.new.self packets c_new (λ arrived fit. untaken arrived c.args.task.now c.requires.untaken) later after small fresh c.act.ensures.id (c.act.ensures.of_plan g.N.RunNames.plan c.self.invariant.sound.named)
-    (c.act.ensures.here did) (c.act.ensures.step did) (c.act.ensures.linked did g.N.RunNames.plan c.self.invariant.sound.named) allowed in
     let fired : fired_after n.fired c.args.task.now ≡ c.after-self-inside.result = sym c.after-self-inside.ensures in
-    let me : c.reserve_event.new.history.node ≡ g.A.Acts.id n.state = c.reserve_event.ensures.node ∙ c.self.invariant.own in
-    let history = c.note.ensures.entries ∙ (ap (λ l. l ++ record { clock = c_new; event = event_of c.reserve_event.new.history.node c.args.task.now } ∷ []) c.reserve_event.ensures.history ∙ ap (λ k. n.history.entries ++ record { clock = c_new; event = event_of k c.args.task.now } ∷ []) me) in
-    let at_links = subst (λ l. IsSoundNode g.A.Acts.id g.A.Acts.of_plan g.A.Acts.stands g.N.RunNames.plan g.N.RunNames.inputs g.N.RunNames.script c.act.new.self (links_in n.ins.items) l c_new c.after-self-inside.result (n.history.entries ++ record { clock = c_new; event = event_of (g.A.Acts.id n.state) c.args.task.now } ∷ [])) (sym sent) (subst (λ f. IsSoundNode g.A.Acts.id g.A.Acts.of_plan g.A.Acts.stands g.N.RunNames.plan g.N.RunNames.inputs g.N.RunNames.script c.act.new.self (links_in n.ins.items) (with_all_sent c_new packets n.outs.links) c_new f (n.history.entries ++ record { clock = c_new; event = event_of (g.A.Acts.id n.state) c.args.task.now } ∷ [])) fired sound) in record {
+    let me : (g.K.Keeps.kept c.reserve_event.new.history).node ≡ g.A.Acts.id n.state = c.reserve_event.ensures.node ∙ c.self.invariant.own in
+    let history = c.note.ensures.entries ∙ (ap (λ l. l ++ record { clock = c_new; event = event_of (g.K.Keeps.kept c.reserve_event.new.history).node c.args.task.now } ∷ []) c.reserve_event.ensures.history ∙ ap (λ k. (g.K.Keeps.kept n.history).entries ++ record { clock = c_new; event = event_of k c.args.task.now } ∷ []) me) in
+    record {
       unsent = c.send_event.ensures.unsent;
-      gave = tap_later g.T.Tap.given g.A.Acts.rows n.tap n.state c.act.new.self c.act.ensures.rows c.self.invariant.gave;
-      sound = subst (λ (l : List Stamped). IsSoundNode g.A.Acts.id g.A.Acts.of_plan g.A.Acts.stands g.N.RunNames.plan g.N.RunNames.inputs g.N.RunNames.script c.act.new.self (links_in n.ins.items) c.send_event.new.outs.links c_new c.after-self-inside.result l) (sym history) at_links;
+      gave = tap_later g.T.Draws.lets_go g.T.Draws.given g.A.Acts.rows g.A.Acts.gone n.tap n.state c.act.new.self c.act.ensures.rows c.act.ensures.gone c.self.invariant.gave;
+      sound = λ inputs may timely.
+          let s = c.self.invariant.sound inputs (c.act.ensures.inputs inputs may) timely in
+          let allowed = subst (λ (v : NodeView _ _). (x : Node) → g.A.Acts.stands g.N.RunNames.plan inputs v.state x → IsAllowedAt g.N.RunNames.script (event_of (g.A.Acts.id v.state) c.args.task.now) x) (sym c.self.view_is) (c.requires.allowed inputs) in
+          let sound = sound_after g.A.Acts.id g.A.Acts.of_plan g.A.Acts.stands g.N.RunNames.plan inputs g.N.RunNames.script n.state (links_in n.ins.items) n.outs.links n.clock n.fired (g.K.Keeps.kept n.history).entries s
+          c.args.task.now c.act.new.self packets c_new (λ arrived fit. untaken arrived c.args.task.now c.requires.untaken) later after small fresh c.act.ensures.id (c.act.ensures.of_plan g.N.RunNames.plan s.named)
+          (c.act.ensures.here did) (c.act.ensures.step did) (c.act.ensures.linked did g.N.RunNames.plan s.named) allowed in
+          let at_links = subst (λ l. IsSoundNode g.A.Acts.id g.A.Acts.of_plan g.A.Acts.stands g.N.RunNames.plan inputs g.N.RunNames.script c.act.new.self (links_in n.ins.items) l c_new c.after-self-inside.result ((g.K.Keeps.kept n.history).entries ++ record { clock = c_new; event = event_of (g.A.Acts.id n.state) c.args.task.now } ∷ [])) (sym sent) (subst (λ f. IsSoundNode g.A.Acts.id g.A.Acts.of_plan g.A.Acts.stands g.N.RunNames.plan inputs g.N.RunNames.script c.act.new.self (links_in n.ins.items) (with_all_sent c_new packets n.outs.links) c_new f ((g.K.Keeps.kept n.history).entries ++ record { clock = c_new; event = event_of (g.A.Acts.id n.state) c.args.task.now } ∷ [])) fired sound) in
+          subst (λ (l : List Stamped). IsSoundNode g.A.Acts.id g.A.Acts.of_plan g.A.Acts.stands g.N.RunNames.plan inputs g.N.RunNames.script c.act.new.self (links_in n.ins.items) c.send_event.new.outs.links c_new c.after-self-inside.result l) (sym history) at_links;
       own = c.note.ensures.node ∙ c.reserve_event.ensures.node ∙ c.self.invariant.own ∙ sym c.act.ensures.id;
     }
 
@@ -58,36 +61,42 @@ returns-clause-name g c =
 pub invariant_of-self-in_err-act : goal.invariant_of-self-in_err-act
 invariant_of-self-in_err-act g c =
     let n = c.self.inside in
-    let sound = c.self.invariant.sound in
     let same = c.reserve_event.ensures.links in
-    let still = sound_still g.A.Acts.id g.A.Acts.of_plan g.A.Acts.stands g.N.RunNames.plan g.N.RunNames.inputs g.N.RunNames.script n.state (links_in n.ins.items) n.outs.links n.clock n.fired n.history.entries sound
-    c.act.new.self c.reserve_event.new.outs.links c.reserve_event.new.history.entries same c.reserve_event.ensures.history c.act.ensures.id (c.act.ensures.of_plan g.N.RunNames.plan sound.named) (λ x h. c.in_err-act.ensures.unchanged g.N.RunNames.plan g.N.RunNames.inputs x h) in record {
+    record {
       unsent = c.in_err-act.ensures.unsent;
-      gave = tap_later g.T.Tap.given g.A.Acts.rows n.tap n.state c.act.new.self c.act.ensures.rows c.self.invariant.gave;
-      sound = still;
+      gave = tap_later g.T.Draws.lets_go g.T.Draws.given g.A.Acts.rows g.A.Acts.gone n.tap n.state c.act.new.self c.act.ensures.rows c.act.ensures.gone c.self.invariant.gave;
+      sound = λ inputs may timely.
+          let s = c.self.invariant.sound inputs (c.act.ensures.inputs inputs may) timely in
+          let sound = s in
+          let still = sound_still g.A.Acts.id g.A.Acts.of_plan g.A.Acts.stands g.N.RunNames.plan inputs g.N.RunNames.script n.state (links_in n.ins.items) n.outs.links n.clock n.fired (g.K.Keeps.kept n.history).entries sound
+          c.act.new.self c.reserve_event.new.outs.links (g.K.Keeps.kept c.reserve_event.new.history).entries same c.reserve_event.ensures.history c.act.ensures.id (c.act.ensures.of_plan g.N.RunNames.plan sound.named) (λ x h. c.in_err-act.ensures.unchanged g.N.RunNames.plan inputs x h) in
+          still;
       own = c.reserve_event.ensures.node ∙ c.self.invariant.own ∙ sym c.act.ensures.id;
     }
 
 pub invariant_of-self-in-Idle : goal.invariant_of-self-in-Idle
 invariant_of-self-in-Idle g c =
     let n = c.self.inside in
-    let sound = c.self.invariant.sound in
     let same = c.reserve_event.ensures.links in
     let idle = c.act.ensures.idle (c.in_ok-act.was ∙ ap Ok c.in-Idle.is) in
-    let still = sound_still g.A.Acts.id g.A.Acts.of_plan g.A.Acts.stands g.N.RunNames.plan g.N.RunNames.inputs g.N.RunNames.script n.state (links_in n.ins.items) n.outs.links n.clock n.fired n.history.entries sound
-    c.act.new.self c.reserve_event.new.outs.links c.reserve_event.new.history.entries same c.reserve_event.ensures.history c.act.ensures.id (c.act.ensures.of_plan g.N.RunNames.plan sound.named) (λ x h. subst (λ st. g.A.Acts.stands g.N.RunNames.plan g.N.RunNames.inputs st x) (sym idle.0) h) in record {
+    record {
       unsent = idle.1;
-      gave = tap_later g.T.Tap.given g.A.Acts.rows n.tap n.state c.act.new.self c.act.ensures.rows c.self.invariant.gave;
-      sound = still;
+      gave = tap_later g.T.Draws.lets_go g.T.Draws.given g.A.Acts.rows g.A.Acts.gone n.tap n.state c.act.new.self c.act.ensures.rows c.act.ensures.gone c.self.invariant.gave;
+      sound = λ inputs may timely.
+          let s = c.self.invariant.sound inputs (c.act.ensures.inputs inputs may) timely in
+          let sound = s in
+          let still = sound_still g.A.Acts.id g.A.Acts.of_plan g.A.Acts.stands g.N.RunNames.plan inputs g.N.RunNames.script n.state (links_in n.ins.items) n.outs.links n.clock n.fired (g.K.Keeps.kept n.history).entries sound
+          c.act.new.self c.reserve_event.new.outs.links (g.K.Keeps.kept c.reserve_event.new.history).entries same c.reserve_event.ensures.history c.act.ensures.id (c.act.ensures.of_plan g.N.RunNames.plan sound.named) (λ x h. subst (λ st. g.A.Acts.stands g.N.RunNames.plan inputs st x) (sym idle.0) h) in
+          still;
       own = c.reserve_event.ensures.node ∙ c.self.invariant.own ∙ sym c.act.ensures.id;
     }
 
 pub returns-clause-happens : goal.returns-clause-happens
 returns-clause-happens g c = λ _.
     let n = c.self.inside in
-    let me : c.reserve_event.new.history.node ≡ g.A.Acts.id n.state = c.reserve_event.ensures.node ∙ c.self.invariant.own in
-    let here : HasHappened (event_of (g.A.Acts.id n.state) c.args.task.now) n.history.entries c.note.new.history.entries = record {
+    let me : (g.K.Keeps.kept c.reserve_event.new.history).node ≡ g.A.Acts.id n.state = c.reserve_event.ensures.node ∙ c.self.invariant.own in
+    let here : HasHappened (event_of (g.A.Acts.id n.state) c.args.task.now) (g.K.Keeps.kept n.history).entries (g.K.Keeps.kept c.note.new.history).entries = record {
       clock = n.clock + 1;
-      added = c.note.ensures.entries ∙ (ap (λ l. l ++ record { clock = n.clock + 1; event = event_of c.reserve_event.new.history.node c.args.task.now } ∷ []) c.reserve_event.ensures.history ∙ ap (λ k. n.history.entries ++ record { clock = n.clock + 1; event = event_of k c.args.task.now } ∷ []) me);
+      added = c.note.ensures.entries ∙ (ap (λ l. l ++ record { clock = n.clock + 1; event = event_of (g.K.Keeps.kept c.reserve_event.new.history).node c.args.task.now } ∷ []) c.reserve_event.ensures.history ∙ ap (λ k. (g.K.Keeps.kept n.history).entries ++ record { clock = n.clock + 1; event = event_of k c.args.task.now } ∷ []) me);
     } in
-    subst (λ (v : NodeView _ _). HasHappened (event_of (g.A.Acts.id v.state) c.args.task.now) v.history c.note.new.history.entries) c.self.view_is here
+    subst (λ (v : NodeView _ _). HasHappened (event_of (g.A.Acts.id v.state) c.args.task.now) v.history (g.K.Keeps.kept c.note.new.history).entries) c.self.view_is here

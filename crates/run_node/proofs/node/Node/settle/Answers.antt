@@ -38,7 +38,7 @@ invariant_of-self g c =
     record {
       unsent = c.self.invariant.unsent;
       gave = c.self.invariant.gave;
-      sound = subst (λ (l : List InLink). IsSoundNode g.A.Acts.id g.A.Acts.of_plan g.A.Acts.stands g.N.RunNames.plan g.N.RunNames.inputs g.N.RunNames.script n.state l n.outs.links n.clock n.fired n.history.entries) (sym same) c.self.invariant.sound;
+      sound = λ inputs may timely. subst (λ (l : List InLink). IsSoundNode g.A.Acts.id g.A.Acts.of_plan g.A.Acts.stands g.N.RunNames.plan inputs g.N.RunNames.script n.state l n.outs.links n.clock n.fired (g.K.Keeps.kept n.history).entries) (sym same) (c.self.invariant.sound inputs may timely);
       own = c.self.invariant.own;
     }
 
@@ -51,10 +51,10 @@ returns-clause-same g c =
     let at = stands_at n.ins.items c.args.inlet end lt c.index_mut.ensures.value in
     let same = same_links n.ins.items c.args.inlet end c.settle_to.new.end at c.settle_to.ensures.same.1 in
     let outs = c.settle_to.ensures.same.0 in
-    let receiver : ◌≡◌ {A = NodeView _ _} (record { state = n.state; ins = links_in (slice_set n.ins.items c.args.inlet c.settle_to.new.end); outs = n.outs.links; history = n.history.entries; tap = n.tap }) (record { state = n.state; ins = links_in n.ins.items; outs = n.outs.links; history = n.history.entries; tap = n.tap }) =
-    (λ i. record { state = n.state; ins = same i; outs = n.outs.links; history = n.history.entries; tap = n.tap }) in
-    let sender : ◌≡◌ {A = NodeView _ _} (record { state = s.state; ins = links_in s.ins.items; outs = c.settle_to.new.outs.links; history = s.history.entries; tap = s.tap }) (record { state = s.state; ins = links_in s.ins.items; outs = s.outs.links; history = s.history.entries; tap = s.tap }) =
-    (λ i. record { state = s.state; ins = links_in s.ins.items; outs = (outs i).links; history = s.history.entries; tap = s.tap }) in
+    let receiver : ◌≡◌ {A = NodeView _ _} (record { state = n.state; ins = links_in (slice_set n.ins.items c.args.inlet c.settle_to.new.end); outs = n.outs.links; history = (g.K.Keeps.kept n.history).entries; tap = n.tap }) (record { state = n.state; ins = links_in n.ins.items; outs = n.outs.links; history = (g.K.Keeps.kept n.history).entries; tap = n.tap }) =
+    (λ i. record { state = n.state; ins = same i; outs = n.outs.links; history = (g.K.Keeps.kept n.history).entries; tap = n.tap }) in
+    let sender : ◌≡◌ {A = NodeView _ _} (record { state = s.state; ins = links_in s.ins.items; outs = c.settle_to.new.outs.links; history = (g.K.Keeps.kept s.history).entries; tap = s.tap }) (record { state = s.state; ins = links_in s.ins.items; outs = s.outs.links; history = (g.K.Keeps.kept s.history).entries; tap = s.tap }) =
+    (λ i. record { state = s.state; ins = links_in s.ins.items; outs = (outs i).links; history = (g.K.Keeps.kept s.history).entries; tap = s.tap }) in
     (receiver ∙ c.self.view_is, sender ∙ c.sender.view_is)
 
 pub returns-clause-settled : goal.returns-clause-settled

@@ -32,44 +32,53 @@ invariant_of-self-2 g c =
     let later : n.clock < clock = omega (arith, c.max-latest.ensures) in
     let after : packet.at < clock = omega (arith, c.max-latest.ensures) in
     let small : clock < 2 ^ 62 = omega (arith, c.if-latest-ge-LAST_CLOCK.false) in
-    let named = c.self.invariant.sound.named in
     let sent : c.send_event.new.outs.links ≡ with_all_sent clock packets n.outs.links = c.send_event.ensures.links ∙ ap (with_all_sent clock packets) c.reserve_event.ensures.links in
-    let me : c.reserve_event.new.history.node ≡ g.A.Acts.id n.state = c.reserve_event.ensures.node ∙ c.self.invariant.own in
-    let told : c.take-2.new.self.entries ≡ n.history.entries ++ record { clock = clock; event = event.Take (link from (g.A.Acts.id n.state)) index } ∷ [] =
-    c.take-2.ensures.entries ∙ ap (λ l. l ++ record { clock = clock; event = event.Take (link from c.reserve_event.new.history.node) index } ∷ []) c.reserve_event.ensures.history ∙ ap (λ m. n.history.entries ++ record { clock = clock; event = event.Take (link from m) index } ∷ []) me in
-    let got = sound_received g.A.Acts.id g.A.Acts.of_plan g.A.Acts.stands g.N.RunNames.plan g.N.RunNames.inputs g.N.RunNames.script n.state first n.outs.links n.clock n.fired n.history.entries c.self.invariant.sound
-    third (λ arrived fit. fit_before k first third arrived come fit) in
-    let sound = sound_after_take g.A.Acts.id g.A.Acts.of_plan g.A.Acts.stands g.N.RunNames.plan g.N.RunNames.inputs g.N.RunNames.script n.state third n.outs.links n.clock n.fired n.history.entries got
-    k c.take.new.self packets clock (λ arrived fit. came_of k first third arrived come fit) later after small c.take.ensures.acted.id (c.take.ensures.acted.of_plan g.N.RunNames.plan named) (c.take.ensures.acted.step did) (c.take.ensures.acted.linked did g.N.RunNames.plan named) in
-    let at_links = subst (λ (l : List OutLink). IsSoundNode g.A.Acts.id g.A.Acts.of_plan g.A.Acts.stands g.N.RunNames.plan g.N.RunNames.inputs g.N.RunNames.script c.take.new.self third l clock n.fired (n.history.entries ++ record { clock = clock; event = event.Take (link from (g.A.Acts.id n.state)) index } ∷ [])) (sym sent) sound in record {
+    let me : (g.K.Keeps.kept c.reserve_event.new.history).node ≡ g.A.Acts.id n.state = c.reserve_event.ensures.node ∙ c.self.invariant.own in
+    let told : (g.K.Keeps.kept c.take-2.new.self).entries ≡ (g.K.Keeps.kept n.history).entries ++ record { clock = clock; event = event.Take (link from (g.A.Acts.id n.state)) index } ∷ [] =
+    c.take-2.ensures.entries ∙ ap (λ l. l ++ record { clock = clock; event = event.Take (link from (g.K.Keeps.kept c.reserve_event.new.history).node) index } ∷ []) c.reserve_event.ensures.history ∙ ap (λ m. (g.K.Keeps.kept n.history).entries ++ record { clock = clock; event = event.Take (link from m) index } ∷ []) me in
+    record {
       unsent = c.send_event.ensures.unsent;
-      gave = tap_later g.T.Tap.given g.A.Acts.rows n.tap n.state c.take.new.self c.take.ensures.acted.rows c.self.invariant.gave;
-      sound = subst (λ (l : List Stamped). IsSoundNode g.A.Acts.id g.A.Acts.of_plan g.A.Acts.stands g.N.RunNames.plan g.N.RunNames.inputs g.N.RunNames.script c.take.new.self third c.send_event.new.outs.links clock n.fired l) (sym told) at_links;
+      gave = tap_later g.T.Draws.lets_go g.T.Draws.given g.A.Acts.rows g.A.Acts.gone n.tap n.state c.take.new.self c.take.ensures.acted.rows c.take.ensures.acted.gone c.self.invariant.gave;
+      sound = λ inputs may timely.
+          let s = c.self.invariant.sound inputs (c.take.ensures.acted.inputs inputs may) timely in
+          let named = s.named in
+          let got = sound_received g.A.Acts.id g.A.Acts.of_plan g.A.Acts.stands g.N.RunNames.plan inputs g.N.RunNames.script n.state first n.outs.links n.clock n.fired (g.K.Keeps.kept n.history).entries s
+          third (λ arrived fit. fit_before k first third arrived come fit) in
+          let sound = sound_after_take g.A.Acts.id g.A.Acts.of_plan g.A.Acts.stands g.N.RunNames.plan inputs g.N.RunNames.script n.state third n.outs.links n.clock n.fired (g.K.Keeps.kept n.history).entries got
+          k c.take.new.self packets clock (λ arrived fit. came_of k first third arrived come fit) later after small c.take.ensures.acted.id (c.take.ensures.acted.of_plan g.N.RunNames.plan named) (c.take.ensures.acted.step did) (c.take.ensures.acted.linked did g.N.RunNames.plan named) in
+          let at_links = subst (λ (l : List OutLink). IsSoundNode g.A.Acts.id g.A.Acts.of_plan g.A.Acts.stands g.N.RunNames.plan inputs g.N.RunNames.script c.take.new.self third l clock n.fired ((g.K.Keeps.kept n.history).entries ++ record { clock = clock; event = event.Take (link from (g.A.Acts.id n.state)) index } ∷ [])) (sym sent) sound in
+          subst (λ (l : List Stamped). IsSoundNode g.A.Acts.id g.A.Acts.of_plan g.A.Acts.stands g.N.RunNames.plan inputs g.N.RunNames.script c.take.new.self third c.send_event.new.outs.links clock n.fired l) (sym told) at_links;
       own = c.take-2.ensures.node ∙ me ∙ sym c.take.ensures.acted.id;
     }
 
 pub invariant_of-self-in_err-take : goal.invariant_of-self-in_err-take
 invariant_of-self-in_err-take g c =
     let n = c.self.inside in
-    let sound = c.self.invariant.sound in
-    let still = sound_still g.A.Acts.id g.A.Acts.of_plan g.A.Acts.stands g.N.RunNames.plan g.N.RunNames.inputs g.N.RunNames.script n.state (links_in n.ins.items) n.outs.links n.clock n.fired n.history.entries sound
-    c.take.new.self c.reserve_event.new.outs.links c.reserve_event.new.history.entries c.reserve_event.ensures.links c.reserve_event.ensures.history c.take.ensures.acted.id (c.take.ensures.acted.of_plan g.N.RunNames.plan sound.named) (λ x h. c.in_err-take.ensures.acted.unchanged g.N.RunNames.plan g.N.RunNames.inputs x h) in record {
+    record {
       unsent = c.in_err-take.ensures.acted.unsent;
-      gave = tap_later g.T.Tap.given g.A.Acts.rows n.tap n.state c.take.new.self c.take.ensures.acted.rows c.self.invariant.gave;
-      sound = subst (λ (l : List InLink). IsSoundNode g.A.Acts.id g.A.Acts.of_plan g.A.Acts.stands g.N.RunNames.plan g.N.RunNames.inputs g.N.RunNames.script c.take.new.self l c.reserve_event.new.outs.links n.clock n.fired c.reserve_event.new.history.entries) (sym c.waiting_at.ensures.links) still;
+      gave = tap_later g.T.Draws.lets_go g.T.Draws.given g.A.Acts.rows g.A.Acts.gone n.tap n.state c.take.new.self c.take.ensures.acted.rows c.take.ensures.acted.gone c.self.invariant.gave;
+      sound = λ inputs may timely.
+          let s = c.self.invariant.sound inputs (c.take.ensures.acted.inputs inputs may) timely in
+          let sound = s in
+          let still = sound_still g.A.Acts.id g.A.Acts.of_plan g.A.Acts.stands g.N.RunNames.plan inputs g.N.RunNames.script n.state (links_in n.ins.items) n.outs.links n.clock n.fired (g.K.Keeps.kept n.history).entries sound
+          c.take.new.self c.reserve_event.new.outs.links (g.K.Keeps.kept c.reserve_event.new.history).entries c.reserve_event.ensures.links c.reserve_event.ensures.history c.take.ensures.acted.id (c.take.ensures.acted.of_plan g.N.RunNames.plan sound.named) (λ x h. c.in_err-take.ensures.acted.unchanged g.N.RunNames.plan inputs x h) in
+          subst (λ (l : List InLink). IsSoundNode g.A.Acts.id g.A.Acts.of_plan g.A.Acts.stands g.N.RunNames.plan inputs g.N.RunNames.script c.take.new.self l c.reserve_event.new.outs.links n.clock n.fired (g.K.Keeps.kept c.reserve_event.new.history).entries) (sym c.waiting_at.ensures.links) still;
       own = c.reserve_event.ensures.node ∙ c.self.invariant.own ∙ sym c.take.ensures.acted.id;
     }
 
 pub invariant_of-self-in-Idle : goal.invariant_of-self-in-Idle
 invariant_of-self-in-Idle g c =
     let n = c.self.inside in
-    let sound = c.self.invariant.sound in
     let idle = c.take.ensures.acted.idle (c.in_ok-take.was ∙ ap Ok c.in-Idle.is) in
-    let still = sound_still g.A.Acts.id g.A.Acts.of_plan g.A.Acts.stands g.N.RunNames.plan g.N.RunNames.inputs g.N.RunNames.script n.state (links_in n.ins.items) n.outs.links n.clock n.fired n.history.entries sound
-    c.take.new.self c.reserve_event.new.outs.links c.reserve_event.new.history.entries c.reserve_event.ensures.links c.reserve_event.ensures.history c.take.ensures.acted.id (c.take.ensures.acted.of_plan g.N.RunNames.plan sound.named) (λ x h. subst (λ st. g.A.Acts.stands g.N.RunNames.plan g.N.RunNames.inputs st x) (sym idle.0) h) in record {
+    record {
       unsent = idle.1;
-      gave = tap_later g.T.Tap.given g.A.Acts.rows n.tap n.state c.take.new.self c.take.ensures.acted.rows c.self.invariant.gave;
-      sound = subst (λ (l : List InLink). IsSoundNode g.A.Acts.id g.A.Acts.of_plan g.A.Acts.stands g.N.RunNames.plan g.N.RunNames.inputs g.N.RunNames.script c.take.new.self l c.reserve_event.new.outs.links n.clock n.fired c.reserve_event.new.history.entries) (sym c.waiting_at.ensures.links) still;
+      gave = tap_later g.T.Draws.lets_go g.T.Draws.given g.A.Acts.rows g.A.Acts.gone n.tap n.state c.take.new.self c.take.ensures.acted.rows c.take.ensures.acted.gone c.self.invariant.gave;
+      sound = λ inputs may timely.
+          let s = c.self.invariant.sound inputs (c.take.ensures.acted.inputs inputs may) timely in
+          let sound = s in
+          let still = sound_still g.A.Acts.id g.A.Acts.of_plan g.A.Acts.stands g.N.RunNames.plan inputs g.N.RunNames.script n.state (links_in n.ins.items) n.outs.links n.clock n.fired (g.K.Keeps.kept n.history).entries sound
+          c.take.new.self c.reserve_event.new.outs.links (g.K.Keeps.kept c.reserve_event.new.history).entries c.reserve_event.ensures.links c.reserve_event.ensures.history c.take.ensures.acted.id (c.take.ensures.acted.of_plan g.N.RunNames.plan sound.named) (λ x h. subst (λ st. g.A.Acts.stands g.N.RunNames.plan inputs st x) (sym idle.0) h) in
+          subst (λ (l : List InLink). IsSoundNode g.A.Acts.id g.A.Acts.of_plan g.A.Acts.stands g.N.RunNames.plan inputs g.N.RunNames.script c.take.new.self l c.reserve_event.new.outs.links n.clock n.fired (g.K.Keeps.kept c.reserve_event.new.history).entries) (sym c.waiting_at.ensures.links) still;
       own = c.reserve_event.ensures.node ∙ c.self.invariant.own ∙ sym c.take.ensures.acted.id;
     }
 
@@ -93,10 +102,10 @@ returns-clause-takes g c = λ _.
     let id = c.take.ensures.acted.id in
     let names : ◌≡◌ {A = NodeName} (record { id = g.A.Acts.id c.take.new.self; ins = in_names third; outs = out_names c.send_event.new.outs.links; tapped = is_some n.tap }) (record { id = g.A.Acts.id n.state; ins = in_names first; outs = out_names n.outs.links; tapped = is_some n.tap }) =
     (λ i. record { id = id i; ins = ins i; outs = outs i; tapped = is_some n.tap }) in
-    let me : c.reserve_event.new.history.node ≡ g.A.Acts.id n.state = c.reserve_event.ensures.node ∙ c.self.invariant.own in
-    let here : HasHappened (event.Take (link from (g.A.Acts.id n.state)) index) n.history.entries c.take-2.new.self.entries = record {
+    let me : (g.K.Keeps.kept c.reserve_event.new.history).node ≡ g.A.Acts.id n.state = c.reserve_event.ensures.node ∙ c.self.invariant.own in
+    let here : HasHappened (event.Take (link from (g.A.Acts.id n.state)) index) (g.K.Keeps.kept n.history).entries (g.K.Keeps.kept c.take-2.new.self).entries = record {
       clock = clock;
-      added = c.take-2.ensures.entries ∙ ap (λ l. l ++ record { clock = clock; event = event.Take (link from c.reserve_event.new.history.node) index } ∷ []) c.reserve_event.ensures.history ∙ ap (λ m. n.history.entries ++ record { clock = clock; event = event.Take (link from m) index } ∷ []) me;
+      added = c.take-2.ensures.entries ∙ ap (λ l. l ++ record { clock = clock; event = event.Take (link from (g.K.Keeps.kept c.reserve_event.new.history).node) index } ∷ []) c.reserve_event.ensures.history ∙ ap (λ m. (g.K.Keeps.kept n.history).entries ++ record { clock = clock; event = event.Take (link from m) index } ∷ []) me;
     } in
-    let after : NodeView _ _ = record { state = c.take.new.self; ins = third; outs = c.send_event.new.outs.links; history = c.take-2.new.self.entries; tap = n.tap } in
+    let after : NodeView _ _ = record { state = c.take.new.self; ins = third; outs = c.send_event.new.outs.links; history = (g.K.Keeps.kept c.take-2.new.self).entries; tap = n.tap } in
     (k, subst (λ (v : NodeView _ _). Takes g.A.Acts.id v after k) c.self.view_is (record { name = names; came = come; event = here }))

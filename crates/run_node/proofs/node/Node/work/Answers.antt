@@ -24,14 +24,17 @@ invariant_of-self-2 g c =
     let me = c.reserve_event.ensures.node ∙ c.self.invariant.own in
     let sent : c.flush.new.self.links ≡ with_steps_sent n.clock sends n.outs.links =
     ap (λ (o : OutsView). o.links) c.flush.ensures ∙ c.send_steps.ensures.links ∙ ap (with_steps_sent n.clock sends) c.reserve_event.ensures.links in
-    let told : c.work_times.new.self.entries ≡ n.history.entries ++ works_after (g.A.Acts.id n.state) n.clock count =
-    c.work_times.ensures.entries ∙ ap (λ l. l ++ works_after c.reserve_event.new.history.node n.clock count) c.reserve_event.ensures.history ∙ ap (λ k. n.history.entries ++ works_after k n.clock count) me in
-    let sound = sound_after_steps g.A.Acts.id g.A.Acts.of_plan g.A.Acts.stands g.N.RunNames.plan g.N.RunNames.inputs g.N.RunNames.script (links_in n.ins.items) n.fired task.Work work_is_own sends n.state c.work.new.self n.outs.links n.clock n.history.entries c.self.invariant.sound small did.steps in
-    let counted = subst (λ k. IsSoundNode g.A.Acts.id g.A.Acts.of_plan g.A.Acts.stands g.N.RunNames.plan g.N.RunNames.inputs g.N.RunNames.script c.work.new.self (links_in n.ins.items) (with_steps_sent n.clock sends n.outs.links) (n.clock + k) n.fired (n.history.entries ++ works_after (g.A.Acts.id n.state) n.clock k)) all sound in
-    let at_links = subst (λ (l : List OutLink). IsSoundNode g.A.Acts.id g.A.Acts.of_plan g.A.Acts.stands g.N.RunNames.plan g.N.RunNames.inputs g.N.RunNames.script c.work.new.self (links_in n.ins.items) l (n.clock + count) n.fired (n.history.entries ++ works_after (g.A.Acts.id n.state) n.clock count)) (sym sent) counted in record {
+    let told : (g.K.Keeps.kept c.work_times.new.self).entries ≡ (g.K.Keeps.kept n.history).entries ++ works_after (g.A.Acts.id n.state) n.clock count =
+    c.work_times.ensures.entries ∙ ap (λ l. l ++ works_after (g.K.Keeps.kept c.reserve_event.new.history).node n.clock count) c.reserve_event.ensures.history ∙ ap (λ k. (g.K.Keeps.kept n.history).entries ++ works_after k n.clock count) me in
+    record {
       unsent = c.send_steps.ensures.emptied;
-      gave = tap_later g.T.Tap.given g.A.Acts.rows n.tap n.state c.work.new.self c.work.ensures.rows c.self.invariant.gave;
-      sound = subst (λ (l : List Stamped). IsSoundNode g.A.Acts.id g.A.Acts.of_plan g.A.Acts.stands g.N.RunNames.plan g.N.RunNames.inputs g.N.RunNames.script c.work.new.self (links_in n.ins.items) c.flush.new.self.links (n.clock + count) n.fired l) (sym told) at_links;
+      gave = tap_later g.T.Draws.lets_go g.T.Draws.given g.A.Acts.rows g.A.Acts.gone n.tap n.state c.work.new.self c.work.ensures.rows c.work.ensures.gone c.self.invariant.gave;
+      sound = λ inputs may timely.
+          let s = c.self.invariant.sound inputs (c.work.ensures.inputs inputs may) timely in
+          let sound = sound_after_steps g.A.Acts.id g.A.Acts.of_plan g.A.Acts.stands g.N.RunNames.plan inputs g.N.RunNames.script (links_in n.ins.items) n.fired task.Work work_is_own sends n.state c.work.new.self n.outs.links n.clock (g.K.Keeps.kept n.history).entries s small did.steps in
+          let counted = subst (λ k. IsSoundNode g.A.Acts.id g.A.Acts.of_plan g.A.Acts.stands g.N.RunNames.plan inputs g.N.RunNames.script c.work.new.self (links_in n.ins.items) (with_steps_sent n.clock sends n.outs.links) (n.clock + k) n.fired ((g.K.Keeps.kept n.history).entries ++ works_after (g.A.Acts.id n.state) n.clock k)) all sound in
+          let at_links = subst (λ (l : List OutLink). IsSoundNode g.A.Acts.id g.A.Acts.of_plan g.A.Acts.stands g.N.RunNames.plan inputs g.N.RunNames.script c.work.new.self (links_in n.ins.items) l (n.clock + count) n.fired ((g.K.Keeps.kept n.history).entries ++ works_after (g.A.Acts.id n.state) n.clock count)) (sym sent) counted in
+          subst (λ (l : List Stamped). IsSoundNode g.A.Acts.id g.A.Acts.of_plan g.A.Acts.stands g.N.RunNames.plan inputs g.N.RunNames.script c.work.new.self (links_in n.ins.items) c.flush.new.self.links (n.clock + count) n.fired l) (sym told) at_links;
       own = c.work_times.ensures.node ∙ me ∙ sym c.work.ensures.id;
     }
 
@@ -50,11 +53,14 @@ returns-clause-name g c =
 pub invariant_of-self-in_err-steps : goal.invariant_of-self-in_err-steps
 invariant_of-self-in_err-steps g c =
     let n = c.self.inside in
-    let sound = c.self.invariant.sound in
-    let still = sound_still g.A.Acts.id g.A.Acts.of_plan g.A.Acts.stands g.N.RunNames.plan g.N.RunNames.inputs g.N.RunNames.script n.state (links_in n.ins.items) n.outs.links n.clock n.fired n.history.entries sound
-    c.work.new.self c.reserve_event.new.outs.links c.reserve_event.new.history.entries c.reserve_event.ensures.links c.reserve_event.ensures.history c.work.ensures.id (c.work.ensures.of_plan g.N.RunNames.plan sound.named) (λ x h. c.in_err-steps.ensures.unchanged g.N.RunNames.plan g.N.RunNames.inputs x h) in record {
+    record {
       unsent = c.in_err-steps.ensures.unsent;
-      gave = tap_later g.T.Tap.given g.A.Acts.rows n.tap n.state c.work.new.self c.work.ensures.rows c.self.invariant.gave;
-      sound = still;
+      gave = tap_later g.T.Draws.lets_go g.T.Draws.given g.A.Acts.rows g.A.Acts.gone n.tap n.state c.work.new.self c.work.ensures.rows c.work.ensures.gone c.self.invariant.gave;
+      sound = λ inputs may timely.
+          let s = c.self.invariant.sound inputs (c.work.ensures.inputs inputs may) timely in
+          let sound = s in
+          let still = sound_still g.A.Acts.id g.A.Acts.of_plan g.A.Acts.stands g.N.RunNames.plan inputs g.N.RunNames.script n.state (links_in n.ins.items) n.outs.links n.clock n.fired (g.K.Keeps.kept n.history).entries sound
+          c.work.new.self c.reserve_event.new.outs.links (g.K.Keeps.kept c.reserve_event.new.history).entries c.reserve_event.ensures.links c.reserve_event.ensures.history c.work.ensures.id (c.work.ensures.of_plan g.N.RunNames.plan sound.named) (λ x h. c.in_err-steps.ensures.unchanged g.N.RunNames.plan inputs x h) in
+          still;
       own = c.reserve_event.ensures.node ∙ c.self.invariant.own ∙ sym c.work.ensures.id;
     }

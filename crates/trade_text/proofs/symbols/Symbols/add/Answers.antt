@@ -1,4 +1,4 @@
-use Rattle.std.proofs.Common.{◌≡◌, ◌<◌, ◌≤◌, ◌∙◌, ◌++◌, ◌∷◌, [], List, ℕ, None, Some, ap, sym, refl, subst, false, length, if◌then◌else◌, ◌+◌, arith, position}
+use Rattle.std.proofs.Common.{◌≡◌, ◌<◌, ◌≤◌, ◌∙◌, ◌++◌, ◌∷◌, [], List, ℕ, None, Some, ap, sym, refl, subst, false, length, if◌then◌else◌, ◌+◌, arith}
 use Rattle.std.specs.List.{list_any}
 use Rattle.std.specs.Str.{bytes_eq}
 use Rattle.trade_text.specs.Symbols.{number_in, texts}

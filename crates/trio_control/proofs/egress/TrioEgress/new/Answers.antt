@@ -21,12 +21,14 @@ returns c =
         stages = length (c.stages.ensures.value i);
         consumer = (c.in_ok-consumer.ensures.opening ∙ ap (λ n. over (opening n)) sources) i;
         emitted = c.new-2.ensures.items i;
+        gone = [];
         done = false;
       });
       stands = λ inputs. opens c.args.plan.now inputs c.stages.ensures.limits _ (λ i. record {
         stages = length (c.stages.ensures.value i);
         consumer = (c.in_ok-consumer.ensures.opening ∙ ap (λ n. over (opening n)) sources) i;
         emitted = c.new-2.ensures.items i;
+        gone = [];
         done = false;
       });
     }
