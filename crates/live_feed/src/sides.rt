@@ -154,16 +154,18 @@ fn fork<N: FedNames, T: SendingTap + Send, R: Threads + Wait + Sync, W: Wire + S
 {
     // Each side has an allocator of its own to borrow.
     let for_writing = alloc;
-    let mut run = || -> RunSide
-        requires { (plan.now ≡ N.plan) × (inputs_in trades.now ≡ N.inputs) × (script.now ≡ N.script) × IsTrue (is_some ready.now) }
-        ensures { HasRun N.plan N.inputs N.script (rows_sent result.sender) result.end × (sends_to result.sender ≡ T.channel) }
-    { run_side(rt, alloc, plan, trades, script, turns, gate, ready) };
     let mut write = || -> Written
         requires { rows_got receiver.now ≡ [] }
         ensures { IsWritten (W.told out.entry.now) (W.told out.exit.now) (part_text named.entry.now.symbols (rows_got receiver.exit.now)) result
             × (receives_from receiver.exit.now ≡ receives_from receiver.entry.now) }
     { write_received(rt, for_writing, named, receiver, out) };
-    join_mut(rt, &mut run, &mut write)
+    let mut run = || -> RunSide
+        requires { (plan.now ≡ N.plan) × (inputs_in trades.now ≡ N.inputs) × (script.now ≡ N.script) × IsTrue (is_some ready.now) }
+        ensures { HasRun N.plan N.inputs N.script (rows_sent result.sender) result.end × (sends_to result.sender ≡ T.channel) }
+    { run_side(rt, alloc, plan, trades, script, turns, gate, ready) };
+    // The one that waits for the other has the new thread: where none can be made it comes last, and finds what was sent.
+    let (written, side) = join_mut(rt, &mut write, &mut run);
+    (side, written)
 }
 
 // Runs what is ready and writes meanwhile what its tap sends, and then what is missing.
