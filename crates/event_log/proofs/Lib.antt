@@ -4,3 +4,4 @@ pub mod Places
 pub mod Pushing
 pub mod Readings
 pub mod Repeated
+pub mod Written

@@ -1,7 +1,7 @@
 -- A log with one more event, and its reader with one less.
 use Rattle.std.proofs.Common.{ℕ, suc, ◌≡◌, ◌+◌, ◌<◌, ◌≤◌, List, [], ◌∷◌, ◌++◌, length, drop, get_or, ◌⊎◌, inl, inr, refl, sym, ap, subst, ◌∙◌, arith, length-append}
-use Rattle.std.specs.Prelude.{Some, IfSome, slice_get}
-use Rattle.std.proofs.lemmas.List.{get_or_default}
+use Rattle.std.specs.Prelude.{Some, IfSome, replicate, slice_get}
+use Rattle.std.proofs.lemmas.List.{get_or_default, length-replicate}
 use Rattle.tuple_edge.specs.declared.event.Stamped.{Stamped}
 use Rattle.tuple_edge.specs.declared.node.NodeId.{NodeId}
 use Rattle.event_log.specs.declared.entry.Entry.{Entry}
@@ -13,6 +13,13 @@ use Rattle.event_log.proofs.Readings.{length-whole_of, meaning_kept, read_on, re
 pub length-reading : (names : Names) (now : Progress) (es : List Entry) → length (reading names now es) ≡ length es
 length-reading names now [] = refl
 length-reading names now (e ∷ es) = ap suc (length-reading names (after_entry names now e) es)
+
+pub length-more : (es after : List Entry) (e : Entry) (n : ℕ) → length es ≡ n → after ≡ es ++ e ∷ [] → length after ≡ n + 1
+length-more es after e n long pushed = ap length pushed ∙ length-append es (e ∷ []) ∙ ap (λ k. k + 1) long
+
+pub length-times : (es after : List Entry) (e : Entry) (n times : ℕ) → length es ≡ n → after ≡ es ++ replicate times e → length after ≡ n + times
+length-times es after e n times long pushed =
+    ap length pushed ∙ length-append es (replicate times e) ∙ ap (λ k. k + length (replicate times e)) long ∙ ap (λ k. n + k) (length-replicate times e)
 
 -- the next entry means the event, by the names that there are then
 next_means : (node : NodeId) (before after : SendersView) (clock : ℕ) (whole : List Stamped) (e : Entry) (stamped : Stamped) → (k : Continues node before clock e stamped after)
@@ -52,19 +59,15 @@ pushed_reading node before after clock entries entries_after whole whole_after e
 
 -- ---- the first entry
 
-first_is : (es : List Entry) (e : Entry) → Some e ≡ slice_get es 0 → es ≡ e ∷ drop 1 es
-first_is [] e is = absurd (cc)
-first_is (x ∷ es) e is = let same : e ≡ x = cc in ap (λ (y : Entry). y ∷ es) (sym same)
-
 -- the whole event that the first entry needs is there
 pub head_within : (senders used whole : ℕ) (es rest : List Entry) (e : Entry) → es ≡ e ∷ rest → AreKnown senders used whole es → used + needed e ≤ whole
 head_within senders used whole es rest e is known =
     let there : AreKnown senders used whole (e ∷ rest) = subst (AreKnown senders used whole) is known in
     used_within senders (used + needed e) whole rest there.1
 
-pub first_within : (senders used whole : ℕ) (es : List Entry) (e : Entry) → Some e ≡ slice_get es 0 → needed e ≡ 1 → AreKnown senders used whole es → used < whole
+pub first_within : (senders used whole : ℕ) (es : List Entry) (e : Entry) → es ≡ e ∷ drop 1 es → needed e ≡ 1 → AreKnown senders used whole es → used < whole
 first_within senders used whole es e is one known =
-    let few : used + needed e ≤ whole = head_within senders used whole es (drop 1 es) e (first_is es e is) known in
+    let few : used + needed e ≤ whole = head_within senders used whole es (drop 1 es) e is known in
     omega arith
 
 meaning_whole : (names : Names) (now : Progress) (e : Entry) (d : Stamped) → needed e ≡ 1 → now.used < length names.whole → get_or names.whole now.used d ≡ meaning names now e
@@ -74,10 +77,10 @@ meaning_whole names now (entry.Take sender rise) d one within = absurd (omega ar
 meaning_whole names now (entry.Jump sender) d one within = get_or_default names.whole now.used d _ within
 meaning_whole names now entry.Whole d one within = get_or_default names.whole now.used d _ within
 
-pub first_whole : (names : Names) (now : Progress) (es : List Entry) (e : Entry) (d : Stamped) → Some e ≡ slice_get es 0 → needed e ≡ 1 → now.used < length names.whole
+pub first_whole : (names : Names) (now : Progress) (es : List Entry) (e : Entry) (d : Stamped) → es ≡ e ∷ drop 1 es → needed e ≡ 1 → now.used < length names.whole
     → Some (get_or names.whole now.used d) ≡ slice_get (reading names now es) 0
 first_whole names now es e d is one within =
-    ap Some (meaning_whole names now e d one within) ∙ ap (λ l. slice_get (reading names now l) 0) (sym (first_is es e is))
+    ap Some (meaning_whole names now e d one within) ∙ ap (λ l. slice_get (reading names now l) 0) (sym is)
 
 pub needed_one : (e : Entry) → ((sender : ℕ) × (e ≡ entry.Jump sender)) ⊎ (e ≡ entry.Whole) → needed e ≡ 1
 needed_one e (inl jumps) = ap needed jumps.1

@@ -6,7 +6,7 @@ use Rattle.tuple_edge.specs.declared.event.Stamped.{Stamped}
 use Rattle.tuple_edge.specs.declared.node.NodeId.{NodeId}
 use Rattle.event_log.specs.declared.entry.Entry.{Entry}
 use Rattle.event_log.specs.declared.entry.Entry.TheVariants as entry
-use Rattle.event_log.specs.Views.{SendersView}
+use Rattle.event_log.specs.Views.{EntriesView, SendersView}
 
 -- what entries speak of: the log's node, its senders by their places, and the events that stand whole
 pub record Names : Type 0 where
@@ -163,9 +163,11 @@ abbrev pub ContinuesTake : SendersView → NodeId → Option ℕ → ℕ → Ent
 ContinuesTake before sender risen index e after = (node : NodeId) (clock now : ℕ) → IfSome risen (λ rise. now ≡ later clock rise)
     → Continues node before clock e (record { clock = now; event = event.Take (record { «from» = sender; to = node }) index }) after
 
--- the entries of a log were read to its clock and its senders' last takes, and its lists have room for so many more
-pub record IsLog {Z : Type 0} (node : NodeId) (senders : SendersView) (clock room : ℕ) (entries : Vec Entry Z) (whole : Vec Stamped Z) : Type 0 where
-  pub read : IsReadTo (names_of node senders.nodes whole.items) entries.items (progress_of clock senders.taken (length whole.items))
+-- the entries of a log, one for each event, were read to its clock and its senders' last takes, and its lists have room for so many more
+pub record IsLog {Z : Type 0} (node : NodeId) (senders : SendersView) (clock events room : ℕ) (entries : EntriesView) (whole : Vec Stamped Z) : Type 0 where
+  pub read : IsReadTo (names_of node senders.nodes whole.items) entries.entries (progress_of clock senders.taken (length whole.items))
+  pub counted : length entries.entries ≡ events
+  pub countable : events + room < 2 ^ 64
   pub senders_fit : room ≤ senders.spare
-  pub entries_fit : vec_len entries + room ≤ vec_capacity entries
+  pub entries_fit : room ≤ entries.spare
   pub whole_fit : vec_len whole + room ≤ vec_capacity whole

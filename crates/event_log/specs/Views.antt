@@ -5,6 +5,7 @@ use Rattle.tuple_edge.specs.declared.event.Event.TheVariants as event
 use Rattle.tuple_edge.specs.declared.event.History.{History}
 use Rattle.tuple_edge.specs.declared.event.Stamped.{Stamped}
 use Rattle.tuple_edge.specs.declared.node.NodeId.{NodeId}
+use Rattle.event_log.specs.declared.entry.Entry.{Entry}
 
 -- a log: whose it is, the events in order, and how many more fit without memory
 pub record LogView : Type 0 where
@@ -43,3 +44,9 @@ pub record AreMet (before after : SendersView) : Type 0 where
   pub more : List NodeId
   pub nodes : after.nodes ≡ before.nodes ++ more
   pub taken : after.taken ≡ before.taken ++ map (λ sender. 0) more
+
+-- the entries of a log in order, what comes where the last one comes again, and how many more fit without memory
+pub record EntriesView : Type 0 where
+  pub entries : List Entry
+  pub again : Entry
+  pub spare : ℕ

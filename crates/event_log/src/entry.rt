@@ -21,6 +21,7 @@ const _: () = prove!(size_of::<Entry>() == 4);
 
 impl Entry {
     ghost use Rattle.event_log.specs.Reading.{needed};
+    ghost use Rattle.event_log.specs.Stored.{again_of};
 
     /// How many whole events it needs: one or none.
     pub(crate) fn needed(self) -> usize
@@ -29,6 +30,18 @@ impl Entry {
         match self {
             Entry::Work { .. } | Entry::Make { .. } | Entry::Take { .. } => 0,
             Entry::Jump { .. } | Entry::Whole => 1,
+        }
+    }
+
+    /// The entry of the same again: with the next clock, and of a sender the next packet.
+    pub(crate) fn again(self) -> Entry
+        ensures { result ≡ again_of self }
+    {
+        match self {
+            Entry::Work { .. } => Entry::Work { rise: 1 },
+            Entry::Make { .. } => Entry::Make { rise: 1 },
+            Entry::Take { sender, .. } | Entry::Jump { sender } => Entry::Take { sender, rise: 1 },
+            Entry::Whole => Entry::Whole,
         }
     }
 }

@@ -1,6 +1,6 @@
 // What a node asks of its history.
 ghost use Rattle.event_log.specs.Views.{LogView, makes_after, works_after};
-ghost use Rattle.std.specs.Prelude.{◌≡◌, ◌≤◌, ◌<◌, ◌+◌, ◌^◌, ◌++◌, ◌∷◌, [], OnOk};
+ghost use Rattle.std.specs.Prelude.{◌≡◌, ◌≤◌, ◌<◌, ◌+◌, ◌^◌, ◌++◌, ◌∷◌, [], OnOk, OnErr};
 ghost use Rattle.tuple_edge.specs.declared.event.Event.TheVariants as event;
 ghost use Rattle.tuple_edge.specs.declared.node.NodeId.{NodeId};
 
@@ -22,11 +22,14 @@ pub trait Keeps: Send + Drop {
     fn node(&self) -> NodeId
         ensures { result ≡ (kept self.now).node };
 
-    /// Makes room for this many further events.
+    /// Makes room for this many further events. Where there is room already it is never refused.
     fn reserve(&mut self, entries: usize) -> Result<(), OutOfMemory>
         ensures same { kept self.new ≡ record (kept self.old) { spare = (kept self.new).spare } }
         ensures spare { OnOk result (entries ≤ (kept self.new).spare) }
-        ensures kept { (kept self.old).spare ≤ (kept self.new).spare };
+        ensures kept { (kept self.old).spare ≤ (kept self.new).spare }
+
+        // What is there already is never refused.
+        ensures refused { OnErr result ((kept self.old).spare + 1 ≤ entries) };
 
     /// How many further events surely fit without memory.
     fn spare(&self) -> usize

@@ -1,11 +1,12 @@
 // A log of events.
 ghost use Rattle.std.specs.Prelude.{◌≡◌, ◌≤◌, ◌<◌, ◌+◌, ◌^◌, ◌++◌, ◌∷◌, [], length, IfOk, OnOk, OnErr, IsTrue, ◌↔◌};
-ghost use Rattle.std.specs.Prelude.{replicate, vec_len, vec_capacity};
+ghost use Rattle.std.specs.Prelude.{vec_len, vec_capacity};
 ghost use Rattle.tuple_edge.specs.declared.event.Event.TheVariants as event;
 ghost use Rattle.event_log.specs.Reading.{whole_of};
 ghost use Rattle.event_log.specs.Views.{makes_after, named_histories, named_logs, works_after};
 
 use crate::coding::{entry_of, rise_of, take_of, work_entry};
+use crate::entries::Entries;
 use crate::entry::Entry;
 use crate::reader::Reader;
 use crate::senders::Senders;
@@ -23,9 +24,10 @@ pub struct Log {
     senders: Senders,
     // The last event's.
     clock: u64,
-    // So many more events surely fit into the lists.
+    // So many events there are, and so many more surely fit into the lists.
+    events: usize,
     room: usize,
-    entries: Vec<Entry>,
+    entries: Entries,
     whole: Vec<Stamped>,
 }
 
@@ -37,11 +39,11 @@ impl Model for Log {
 
     ghost view = { λ l. record {
       node = l.node;
-      entries = reading (names_of l.node l.senders.nodes l.whole.items) at_start l.entries.items;
+      entries = reading (names_of l.node l.senders.nodes l.whole.items) at_start l.entries.entries;
       spare = l.room;
     } };
 
-    ghost invariant = { λ l. IsLog l.node l.senders l.clock l.room l.entries l.whole };
+    ghost invariant = { λ l. IsLog l.node l.senders l.clock l.events l.room l.entries l.whole };
 }
 
 // Keeps an event whole where its entry needs that.
@@ -57,18 +59,6 @@ fn keep_whole(whole: &mut Vec<Stamped>, entry: Entry, stamped: Stamped)
     }
 }
 
-// Appends an entry so many times.
-fn push_times(entries: &mut Vec<Entry>, entry: Entry, times: usize)
-    requires { vec_len entries.old + times ≤ vec_capacity entries.old }
-    ensures items { entries.new.items ≡ entries.old.items ++ replicate times entry }
-    ensures len { vec_len entries.new ≡ vec_len entries.old + times }
-    ensures capacity { vec_capacity entries.new ≡ vec_capacity entries.old }
-{
-    for _nth in 0..times {
-        entries.push_reserved(entry);
-    }
-}
-
 impl Log {
     /// The log of a node at which nothing happened.
     pub fn new(alloc: Global, node: NodeId) -> Log
@@ -78,8 +68,9 @@ impl Log {
             node,
             senders: Senders::new(alloc),
             clock: 0,
+            events: 0,
             room: 0,
-            entries: Vec::new(alloc),
+            entries: Entries::new(alloc),
             whole: Vec::new(alloc),
         }
     }
@@ -104,6 +95,9 @@ impl Log {
             return Ok(());
         }
         let entries = entries.max(LEAST_ROOM);
+        if entries > usize::MAX - self.events {
+            return Err(OutOfMemory);
+        }
         self.senders.reserve(entries)?;
         self.entries.reserve(entries)?;
         self.whole.reserve(entries)?;
@@ -127,8 +121,9 @@ impl Log {
     {
         let entry = entry_of(self.node, &mut self.senders, self.clock, stamped);
         keep_whole(&mut self.whole, entry, stamped);
-        self.entries.push_reserved(entry);
+        self.entries.push(entry);
         self.clock = stamped.clock;
+        self.events += 1;
         self.room -= 1;
     }
 
@@ -142,8 +137,9 @@ impl Log {
         let entry = work_entry(rise_of(self.clock, clock));
         let event = Event::Work { node: self.node };
         keep_whole(&mut self.whole, entry, Stamped { clock, event });
-        self.entries.push_reserved(entry);
+        self.entries.push(entry);
         self.clock = clock;
+        self.events += 1;
         self.room -= 1;
     }
 
@@ -160,8 +156,9 @@ impl Log {
             return;
         }
         self.work(clock + 1);
-        push_times(&mut self.entries, Entry::Work { rise: 1 }, times - 1);
+        self.entries.push_times(Entry::Work { rise: 1 }, times - 1);
         self.clock = clock + times as u64;
+        self.events += times - 1;
         self.room -= times - 1;
     }
 
@@ -181,8 +178,9 @@ impl Log {
             clock: clock + 1,
             event: Event::Make,
         });
-        push_times(&mut self.entries, Entry::Make { rise: 1 }, times - 1);
+        self.entries.push_times(Entry::Make { rise: 1 }, times - 1);
         self.clock = clock + times as u64;
+        self.events += times - 1;
         self.room -= times - 1;
     }
 
@@ -204,8 +202,9 @@ impl Log {
         let rise = rise_of(self.clock, clock);
         let entry = take_of(&mut self.senders, sender, rise, index);
         keep_whole(&mut self.whole, entry, stamped);
-        self.entries.push_reserved(entry);
+        self.entries.push(entry);
         self.clock = clock;
+        self.events += 1;
         self.room -= 1;
     }
 
@@ -213,7 +212,7 @@ impl Log {
     pub fn len(&self) -> usize
         ensures { result ≡ length self.now.entries }
     {
-        self.entries.len()
+        self.events
     }
 
     /// Whether there is no event.
@@ -244,7 +243,7 @@ impl Log {
             self.node,
             self.senders.nodes(),
             &self.whole,
-            &self.entries,
+            self.entries.reader(),
         )
     }
 }

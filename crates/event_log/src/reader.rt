@@ -3,6 +3,7 @@ ghost use Rattle.std.specs.Prelude.{◌≡◌, IfOk, [], ◌∷◌};
 
 use crate::counting::count;
 use crate::entry::Entry;
+use crate::entry_reader::EntryReader;
 use std::alloc::Global;
 use std::marker::Model;
 use tuple_edge::{Event, LinkId, NodeId, OutOfMemory, Stamped};
@@ -13,7 +14,7 @@ pub struct Reader<'a> {
     node: NodeId,
     senders: &'a [NodeId],
     whole: &'a [Stamped],
-    entries: &'a [Entry],
+    entries: EntryReader<'a>,
     clock: u64,
     taken: Vec<u64>,
     used: usize,
@@ -26,9 +27,9 @@ impl<'a> Model for Reader<'a> {
 
     ghost Value = { List Stamped };
 
-    ghost view = { λ r. reading (names_of r.node r.senders.now r.whole.now) (progress_of r.clock r.taken.items r.used) r.entries.now };
+    ghost view = { λ r. reading (names_of r.node r.senders.now r.whole.now) (progress_of r.clock r.taken.items r.used) r.entries };
 
-    ghost invariant = { λ r. CanBeRead r.senders.now r.whole.now r.taken.items r.used r.entries.now };
+    ghost invariant = { λ r. CanBeRead r.senders.now r.whole.now r.taken.items r.used r.entries };
 }
 
 impl<'a> Reader<'a> {
@@ -41,10 +42,10 @@ impl<'a> Reader<'a> {
         node: NodeId,
         senders: &'a [NodeId],
         whole: &'a [Stamped],
-        entries: &'a [Entry],
+        entries: EntryReader<'a>,
     ) -> Result<Reader<'a>, OutOfMemory>
-        requires { AreKnown (length senders.now) 0 (length whole.now) entries.now }
-        ensures { IfOk result (λ reader. reader ≡ reading (names_of node senders.now whole.now) at_start entries.now) }
+        requires { AreKnown (length senders.now) 0 (length whole.now) entries }
+        ensures { IfOk result (λ reader. reader ≡ reading (names_of node senders.now whole.now) at_start entries.entry) }
     {
         let taken = vec![in alloc; 0u64; senders.len()]?;
         Ok(Reader {
@@ -62,7 +63,7 @@ impl<'a> Reader<'a> {
     pub fn peek(&self) -> Option<Stamped>
         ensures { result ≡ slice_get self.now 0 }
     {
-        let entry = *self.entries.first()?;
+        let entry = self.entries.first()?;
         Some(match entry {
             Entry::Work { rise } => Stamped {
                 clock: self.clock.saturating_add(u64::from(rise)),
@@ -92,11 +93,10 @@ impl<'a> Reader<'a> {
         ensures rest { self.new ≡ drop 1 self.old }
     {
         let stamped = self.peek()?;
-        let (entry, rest) = self.entries.split_first()?;
-        count(&mut self.taken, *entry, stamped.event);
+        let entry = self.entries.next()?;
+        count(&mut self.taken, entry, stamped.event);
         self.used += entry.needed();
         self.clock = stamped.clock;
-        self.entries = rest;
         Some(stamped)
     }
 }

@@ -167,3 +167,121 @@ fn strays_and_many_senders_read_back(rt: HostRuntime) -> Result<(), Fail> {
     assert!(rt; reads_strays(&mut log.reader(rt.alloc())?));
     Ok(())
 }
+
+// What a node does several times, one after another.
+#[derive(Clone, Copy)]
+enum Deed {
+    // It takes packets of a sender, from this index on.
+    Take(u32, u32),
+    Work,
+    Make,
+    AskBack,
+}
+
+// Deeds, the clock after which each is done, and how many times, each with the next clock: one link is cut by another,
+// some are done more often than two bytes count, some come on where the ones before end, and some after a gap.
+const RUNS: [(Deed, u32, u32); 12] = [
+    (Deed::Take(1, 1), 10, 300),
+    (Deed::Take(2, 1), 310, 1),
+    (Deed::Take(1, 301), 311, 300),
+    (Deed::Take(2, 2), 611, 70_000),
+    (Deed::Take(1, 601), 70_611, 1),
+    (Deed::Take(1, 900), 70_612, 5),
+    (Deed::Work, 70_617, 65_536),
+    (Deed::Work, 136_153, 65_537),
+    (Deed::Work, 300_000, 3),
+    (Deed::Make, 300_003, 200_000),
+    (Deed::AskBack, 500_003, 4),
+    (Deed::Take(2, 70_002), 500_007, 2),
+];
+
+// All of them together.
+const RUN_EVENTS: usize = 401_689;
+
+// The nth event of a deed that is done after a clock, counted from 0.
+fn deed_at(deed: Deed, clock: u32, nth: u32) -> Stamped {
+    let event = match deed {
+        Deed::Take(number, index) => Event::Take {
+            link: LinkId {
+                from: sender(u64::from(number)),
+                to: NODE,
+            },
+            index: u64::from(index) + u64::from(nth),
+        },
+        Deed::Work => Event::Work { node: NODE },
+        Deed::Make => Event::Make,
+        Deed::AskBack => Event::AskBack { node: NODE },
+    };
+    Stamped {
+        clock: u64::from(clock) + u64::from(nth) + 1,
+        event,
+    }
+}
+
+// Appends a deed, event by event.
+fn append_each(log: &mut Log, deed: Deed, clock: u32, times: u32) -> Result<(), OutOfMemory> {
+    for nth in 0..times {
+        log.reserve(1)?;
+        append(log, deed_at(deed, clock, nth));
+    }
+    Ok(())
+}
+
+// Appends a deed by one call where there is one for it.
+fn append_run(log: &mut Log, deed: Deed, clock: u32, times: u32) -> Result<(), OutOfMemory> {
+    log.reserve(times as usize)?;
+    match deed {
+        Deed::Work => log.work_times(u64::from(clock), times as usize),
+        Deed::Make => log.make_times(u64::from(clock), times as usize),
+        Deed::Take(..) | Deed::AskBack => append_each(log, deed, clock, times)?,
+    }
+    Ok(())
+}
+
+// A log of all deeds, event by event.
+fn event_by_event(alloc: Global) -> Result<Log, OutOfMemory> {
+    let mut log = Log::new(alloc, NODE);
+    for (deed, clock, times) in RUNS {
+        append_each(&mut log, deed, clock, times)?;
+    }
+    Ok(log)
+}
+
+// A log of all deeds, run by run.
+fn run_by_run(alloc: Global) -> Result<Log, OutOfMemory> {
+    let mut log = Log::new(alloc, NODE);
+    for (deed, clock, times) in RUNS {
+        append_run(&mut log, deed, clock, times)?;
+    }
+    Ok(log)
+}
+
+fn reads_run(reader: &mut Reader<'_>, deed: Deed, clock: u32, times: u32) -> bool {
+    for nth in 0..times {
+        if !is_next(reader, deed_at(deed, clock, nth)) {
+            return false;
+        }
+    }
+    true
+}
+
+fn reads_runs(reader: &mut Reader<'_>) -> bool {
+    for (deed, clock, times) in RUNS {
+        if !reads_run(reader, deed, clock, times) {
+            return false;
+        }
+    }
+    reader.next().is_none()
+}
+
+// Whether a log holds all deeds.
+fn holds_runs(alloc: Global, log: &Log) -> Result<bool, OutOfMemory> {
+    Ok(log.len() == RUN_EVENTS && reads_runs(&mut log.reader(alloc)?))
+}
+
+#[test]
+fn what_comes_again_reads_back(rt: HostRuntime) -> Result<(), Fail> {
+    assert!(rt; holds_runs(rt.alloc(), &event_by_event(rt.alloc())?)?);
+    assert!(rt; holds_runs(rt.alloc(), &run_by_run(rt.alloc())?)?);
+    Ok(())
+}

@@ -1,9 +1,10 @@
-use Rattle.std.proofs.Common.{◌≡◌, ◌∙◌, ◌≤◌, ap, arith, length, subst}
+use Rattle.std.proofs.Common.{◌∙◌, ◌-◌, ◌≤◌, ap, arith, length}
 use Rattle.tuple_edge.specs.declared.event.Event.TheVariants as event
 use Rattle.event_log.specs.declared.entry.Entry.TheVariants as entry
 use Rattle.event_log.specs.Reading.{names_of, progress_of}
 use Rattle.event_log.specs.Views.{LogView}
-use Rattle.event_log.proofs.Again.{IsNext, next_make, run_holds, run_read}
+use Rattle.event_log.proofs.Again.{next_make, run_holds, run_read}
+use Rattle.event_log.proofs.Pushing.{length-times}
 use Rattle.event_log.proofs.log.Log.make_times.Goals as goal
 
 pub invariant_of-self : goal.invariant_of-self
@@ -14,9 +15,11 @@ invariant_of-self c =
     let some : 1 ≤ c.args.times = omega (arith, c.if-times-eq0.false) in
     let last = ap (λ (v : LogView). v.entries) c.self.view_is ∙ c.push_reserved.ensures.entries in
     record {
-      read = run_read names (entry.Make 1) event.Make (next_make names) c.args.clock c.args.times now n.entries.items c.push_times.new.entries.items c.args.self.now.entries some c.requires.clocks c.self.invariant.read last c.push_times.ensures.items;
+      read = run_read names (entry.Make 1) event.Make (next_make names) c.args.clock c.args.times now n.entries.entries c.push_times.new.self.entries c.args.self.now.entries some c.requires.clocks c.self.invariant.read last c.push_times.ensures.entries;
+      counted = length-times n.entries.entries c.push_times.new.self.entries _ n.events (c.args.times - 1) c.self.invariant.counted c.push_times.ensures.entries;
+      countable = omega (arith, some, c.self.invariant.countable, c.push_reserved.ensures.spare, c.requires.room, ap (λ (v : LogView). v.spare) c.self.view_is);
       senders_fit = omega (arith, c.self.invariant.senders_fit);
-      entries_fit = omega (arith, some, c.self.invariant.entries_fit, c.push_times.ensures.len, c.push_times.ensures.capacity, c.push_reserved.ensures.spare, c.requires.room, ap (λ (v : LogView). v.spare) c.self.view_is);
+      entries_fit = omega (arith, some, c.self.invariant.entries_fit, c.push_times.ensures.spare, c.push_reserved.ensures.spare, c.requires.room, ap (λ (v : LogView). v.spare) c.self.view_is);
       whole_fit = omega (arith, c.self.invariant.whole_fit);
     }
 
@@ -27,4 +30,4 @@ returns-clause-entries c =
     let now = progress_of n.clock n.senders.taken (length n.whole.items) in
     let some : 1 ≤ c.args.times = omega (arith, c.if-times-eq0.false) in
     let last = ap (λ (v : LogView). v.entries) c.self.view_is ∙ c.push_reserved.ensures.entries in
-    run_holds names (entry.Make 1) event.Make (next_make names) c.args.clock c.args.times now n.entries.items c.push_times.new.entries.items c.args.self.now.entries some c.requires.clocks c.self.invariant.read last c.push_times.ensures.items
+    run_holds names (entry.Make 1) event.Make (next_make names) c.args.clock c.args.times now n.entries.entries c.push_times.new.self.entries c.args.self.now.entries some c.requires.clocks c.self.invariant.read last c.push_times.ensures.entries
