@@ -4,7 +4,9 @@ pub mod Choices
 pub mod Counts
 pub mod Fewer
 pub mod Forms
+pub mod HeadStamps
 pub mod Heads
+pub mod LeastStamp
 pub mod Rest
 pub mod RunLaw
 pub mod Standing

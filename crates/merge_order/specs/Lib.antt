@@ -1,5 +1,6 @@
 pub mod Counts
 pub mod Edges
+pub mod HeadStamps
 pub mod MergeView
 pub mod Merged
 pub mod Runs

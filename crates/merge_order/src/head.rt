@@ -1,7 +1,8 @@
 // The heads of the edges, and the least of them.
-ghost use Rattle.std.specs.Prelude.{◌≡◌, ◌<◌, Some, length};
+ghost use Rattle.std.specs.List.{IsFirstBest};
+ghost use Rattle.std.specs.Prelude.{◌≡◌, ◌≤◌, ◌<◌, Some, length, nat_lt};
 ghost use Rattle.tuple_edge.specs.Limits.{edge_limit};
-ghost use Rattle.merge_order.specs.MergeView.{all_wait, least};
+ghost use Rattle.merge_order.specs.MergeView.{least};
 
 use crate::queue::Queue;
 use tuple_edge::Item;
@@ -13,18 +14,6 @@ pub struct Head {
     pub source: u32,
     /// The item.
     pub item: Item,
-}
-
-/// Whether each queue has an item.
-pub(crate) fn all_waiting(queues: &[Queue]) -> bool
-    ensures { result ≡ all_wait queues.now }
-{
-    for queue in queues {
-        if queue.len() == 0 {
-            return false;
-        }
-    }
-    true
 }
 
 /// The least of the heads by stamp, kind and source, where each queue has one.
@@ -46,4 +35,21 @@ pub(crate) fn least_head(queues: &[Queue]) -> Option<Head>
         source,
         item: *least,
     })
+}
+
+/// The place of the least stamp, and of the first one where several are least.
+pub(crate) fn least_place(stamps: &[u64]) -> usize
+    requires { 1 ≤ length stamps.now }
+    ensures { IsFirstBest nat_lt stamps.now (length stamps.now) result }
+{
+    let mut least = stamps[0];
+    let mut least_at = 0;
+    for place in 1..stamps.len() {
+        let stamp = stamps[place];
+        if stamp < least {
+            least = stamp;
+            least_at = place;
+        }
+    }
+    least_at
 }

@@ -10,6 +10,7 @@ mod head;
 mod law;
 mod merge;
 mod queue;
+mod queues;
 
 pub use head::Head;
 pub use law::{all_are_used, any_order_merges, edges_stay_in_order, gives_a_front};

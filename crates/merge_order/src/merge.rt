@@ -1,5 +1,5 @@
 // The merge: what each edge has given, what waits, and how many items were merged.
-ghost use Rattle.std.specs.Prelude.{◌≡◌, ◌<◌, ◌≤◌, ◌+◌, ◌↔◌, [], ℕ, List, None, Some, IfOk, IfSome, IsSome, IsTrue, OnErr, OnOk, OnSome, length, replicate, slice_get, slice_index_or, sum_by};
+ghost use Rattle.std.specs.Prelude.{◌≡◌, ◌<◌, ◌≤◌, ◌+◌, ◌↔◌, [], ℕ, List, None, Some, IfOk, IfSome, IsSome, IsTrue, OnErr, OnOk, OnSome, length, slice_get, slice_index_or, sum_by};
 ghost use Rattle.tuple_edge.specs.Limits.{number_limit};
 ghost use Rattle.tuple_edge.specs.declared.item.Item.{Item};
 ghost use Rattle.merge_order.specs.Edges.{AreEdges, edge_of, item_at};
@@ -7,8 +7,8 @@ ghost use Rattle.merge_order.specs.Merged.{items, merged, used};
 ghost use Rattle.merge_order.specs.MergeView.{ComesFirst, after_next, after_offer, all_wait, item_of, least, mark_of, offer_of, opening, starting, waiting_of};
 ghost use Rattle.merge_order.specs.StandsFor.{AllBelow, AllTaken, StandsFor};
 
-use crate::head::{Head, all_waiting, least_head};
-use crate::queue::{Queue, pop_signs};
+use crate::head::Head;
+use crate::queues::{Queues, zeros};
 use std::alloc::Global;
 use std::marker::Model;
 use tuple_edge::{Item, OutOfMemory};
@@ -20,7 +20,7 @@ use tuple_edge::{Item, OutOfMemory};
 #[derive(Drop)]
 pub struct Merge {
     marks: Vec<u64>,
-    waiting: Vec<Queue>,
+    waiting: Queues,
     count: u64,
 }
 
@@ -31,9 +31,9 @@ impl Model for Merge {
 
     ghost Value = { MergeView };
 
-    ghost view = { λ m. record { marks = m.marks.items; waiting = m.waiting.items; count = m.count } };
+    ghost view = { λ m. record { marks = m.marks.items; waiting = m.waiting; count = m.count } };
 
-    ghost invariant = { λ m. (1 ≤ length m.waiting.items) × (length m.waiting.items < edge_limit) × (length m.marks.items ≡ length m.waiting.items) };
+    ghost invariant = { λ m. (1 ≤ length m.waiting) × (length m.waiting < edge_limit) × (length m.marks.items ≡ length m.waiting) };
 }
 
 /// What became of an item that was offered.
@@ -61,7 +61,7 @@ impl Merge {
         ensures stands { IfOk result (λ merge. (last : ℕ) (es : List (List Item)) → AreEdges last es → length es ≡ edges → StandsFor last es merge) }
     {
         let marks = zeros(alloc, edges as usize)?;
-        let waiting = empty_queues(alloc, edges as usize)?;
+        let waiting = Queues::new(alloc, edges as usize)?;
         Ok(Merge {
             marks,
             waiting,
@@ -84,7 +84,7 @@ impl Merge {
             return Err(OutOfMemory);
         }
         let kept = Vec::from_slice(alloc, marks)?;
-        let waiting = empty_queues(alloc, marks.len())?;
+        let waiting = Queues::new(alloc, marks.len())?;
         Ok(Merge {
             marks: kept,
             waiting,
@@ -121,7 +121,7 @@ impl Merge {
         // Over edges for which it stands.
         ensures below { (last : ℕ) (edges : List (List Item)) → StandsFor last edges self.now → IsTrue result ↔ AllBelow last edges self.now }
     {
-        all_waiting(&self.waiting)
+        self.waiting.all_wait()
     }
 
     /// How many items wait on an edge.
@@ -129,7 +129,7 @@ impl Merge {
         requires { edge < length self.now.marks }
         ensures { result ≡ length (waiting_of self.now edge) }
     {
-        self.waiting[edge as usize].len()
+        self.waiting.len_of(edge as usize)
     }
 
     /// The item that waits at a place of an edge, from 0.
@@ -137,7 +137,7 @@ impl Merge {
         requires { edge < length self.now.marks }
         ensures { result ≡ slice_get (waiting_of self.now edge) nth }
     {
-        self.waiting[edge as usize].get(nth as usize)
+        self.waiting.get(edge as usize, nth as usize)
     }
 
     /// Takes an item of an edge where its number follows the edge's mark, and says what became of it.
@@ -163,7 +163,7 @@ impl Merge {
         ensures whole { (last : ℕ) (edges : List (List Item)) → AreEdges last edges → StandsFor last edges self.now
             → AllTaken edges self.now → result ≡ None → self.now.count ≡ length (merged last edges) }
     {
-        least_head(&self.waiting)
+        self.waiting.least()
     }
 
     /// Takes the least head, which is this one, as the next item of the merged list.
@@ -217,7 +217,7 @@ impl Merge {
         if number - mark > 1 {
             return Ok(Offer::Gap { mark });
         }
-        self.waiting[edge as usize].push(item)?;
+        self.waiting.push(edge as usize, item)?;
         self.marks[edge as usize] = number;
         Ok(Offer::Taken)
     }
@@ -229,28 +229,9 @@ impl Merge {
         ensures { self.new ≡ after_next self.old }
     {
         match head.item {
-            Item::Row { .. } => self.waiting[head.source as usize].pop(),
-            Item::Mark { .. } | Item::End { .. } => pop_signs(&mut self.waiting, &head.item),
+            Item::Row { .. } => self.waiting.pop(head.source as usize),
+            Item::Mark { .. } | Item::End { .. } => self.waiting.pop_signs(&head.item),
         }
         self.count += 1;
     }
-}
-
-// Marks of edges that have taken nothing.
-fn zeros(alloc: Global, edges: usize) -> Result<Vec<u64>, OutOfMemory>
-    ensures { IfOk result (λ marks. marks.items ≡ replicate edges 0) }
-{
-    let marks = vec![in alloc; 0; edges]?;
-    Ok(marks)
-}
-
-// Queues where nothing waits.
-fn empty_queues(alloc: Global, edges: usize) -> Result<Vec<Queue>, OutOfMemory>
-    ensures { IfOk result (λ queues. queues.items ≡ replicate edges []) }
-{
-    let mut queues = Vec::with_capacity(alloc, edges)?;
-    for _edge in 0..edges {
-        queues.push(Queue::new(alloc))?;
-    }
-    Ok(queues)
 }

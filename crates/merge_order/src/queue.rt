@@ -1,6 +1,7 @@
 // The items that wait on one edge, as a queue that contracts see as a list.
-ghost use Rattle.std.specs.Prelude.{◌≡◌, ◌∷◌, ◌++◌, [], OnErr, OnOk, drop, length, map, option_copied, slice_get};
-ghost use Rattle.merge_order.specs.MergeView.{is_alike, without};
+ghost use Rattle.std.specs.Prelude.{◌≡◌, ◌∷◌, ◌++◌, [], OnErr, OnOk, drop, length, option_copied, slice_get};
+ghost use Rattle.merge_order.specs.HeadStamps.{head_stamp, starts_with};
+ghost use Rattle.merge_order.specs.MergeView.{is_alike};
 
 use std::alloc::Global;
 use std::collections::VecDeque;
@@ -51,6 +52,16 @@ impl Queue {
         self.items.front()
     }
 
+    /// The stamp of the first item, or 0 where nothing waits.
+    pub(crate) fn head_stamp(&self) -> u64
+        ensures { result ≡ head_stamp self.now }
+    {
+        match self.first() {
+            Some(head) => head.stamp(),
+            None => 0,
+        }
+    }
+
     pub(crate) fn push(&mut self, item: Item) -> Result<(), OutOfMemory>
         ensures pushed { OnOk result (self.new ≡ self.old ++ item ∷ []) }
         ensures unchanged { OnErr result (self.new ≡ self.old) }
@@ -66,13 +77,11 @@ impl Queue {
         let _ = self.items.pop_front();
     }
 
-    // Takes the first item away where it is this mark or this end.
-    fn pop_sign(&mut self, sign: &Item)
-        ensures { self.new ≡ without sign.now self.old }
+    /// Whether this mark or this end stands first.
+    pub(crate) fn starts_with(&self, sign: &Item) -> bool
+        ensures { result ≡ starts_with sign.now self.now }
     {
-        if self.first().is_some_and(|first| is_alike(sign, first)) {
-            self.pop();
-        }
+        self.first().is_some_and(|first| is_alike(sign, first))
     }
 }
 
@@ -85,14 +94,5 @@ fn is_alike(item: &Item, other: &Item) -> bool
         | (Item::Mark { .. }, Item::Mark { .. })
         | (Item::End { .. }, Item::End { .. }) => item.stamp() == other.stamp(),
         _ => false,
-    }
-}
-
-/// Takes this mark or this end away from each queue that has it first.
-pub(crate) fn pop_signs(queues: &mut [Queue], sign: &Item)
-    ensures { queues.new ≡ map (without sign.now) queues.old }
-{
-    for queue in queues.iter_mut() {
-        queue.pop_sign(sign);
     }
 }

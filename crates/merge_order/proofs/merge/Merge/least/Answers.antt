@@ -7,11 +7,11 @@ use Rattle.merge_order.proofs.Heads.{comes_first, found_is}
 use Rattle.merge_order.proofs.RunLaw.{all_given}
 use Rattle.merge_order.proofs.merge.Merge.least.Goals as goal
 
-waiting_is : (c : goal.After-least_head) → c.self.inside.waiting.items ≡ c.args.self.now.waiting
+waiting_is : (c : goal.After-least) → c.self.inside.waiting ≡ c.args.self.now.waiting
 waiting_is c = ap (λ (v : MergeView). v.waiting) c.self.view_is
 
-least_found : (c : goal.After-least_head) → c.least_head.result ≡ least c.args.self.now.waiting
-least_found c = c.least_head.ensures ∙ ap least (c.deref.ensures.value ∙ waiting_is c)
+least_found : (c : goal.After-least) → c.least.result ≡ least c.args.self.now.waiting
+least_found c = c.least.ensures ∙ ap least (waiting_is c)
 
 pub returns-clause-known : goal.returns-clause-known
 returns-clause-known c =

@@ -8,4 +8,4 @@ use Rattle.merge_order.proofs.merge.Merge.ready.Goals as goal
 pub returns-clause-below : goal.returns-clause-below
 returns-clause-below c last es s =
     let P : Bool → Type 0 = λ b. IsTrue b ↔ AllBelow last es c.args.self.now in
-    subst P (sym (c.all_waiting.ensures ∙ ap all_wait (c.deref.ensures.value ∙ ap (λ (v : MergeView). v.waiting) c.self.view_is))) (ready_is last es c.args.self.now s)
+    subst P (sym (c.all_wait.ensures ∙ ap (λ (v : MergeView). all_wait v.waiting) c.self.view_is)) (ready_is last es c.args.self.now s)
