@@ -2,4 +2,5 @@ pub mod Timely
 pub mod Tasks
 pub mod Steps
 pub mod Acted
+pub mod Coming
 pub mod Limits

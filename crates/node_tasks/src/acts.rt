@@ -1,14 +1,16 @@
 // What a node does.
 ghost use mathlib.Core.List.{IsPrefix};
 ghost use Rattle.node_tasks.specs.Acted.{HasActed};
+ghost use Rattle.node_tasks.specs.Coming.{HaveCome};
 ghost use Rattle.node_tasks.specs.Steps.{DoesMake, DoesTask, StepByStep, pieces};
 ghost use Rattle.node_tasks.specs.declared.task.Task.{Task};
 ghost use Rattle.node_tasks.specs.declared.task.Task.TheVariants as task;
 ghost use Rattle.pair_machine.specs.Machine.{replica_in};
 ghost use Rattle.pair_machine.specs.Numbers.{Node};
 ghost use Rattle.pair_machine.specs.Scripts.{HasMerged};
+ghost use Rattle.plan_reader.specs.Nodes.{is_replica};
 ghost use Rattle.plan_reader.specs.PlanView.{PlanView};
-ghost use Rattle.std.specs.Prelude.{◌≡◌, ◌≤◌, ◌*◌, ◌↔◌, ◌++◌, ◌∷◌, [], Bool, List, IfOk, IfSome, MatchOption, Ok, OnErr, IsTrue, length, replicate};
+ghost use Rattle.std.specs.Prelude.{◌≡◌, ◌≤◌, ◌+◌, ◌*◌, ◌↔◌, ◌++◌, ◌∷◌, [], Bool, List, IfOk, IfSome, MatchOption, Ok, OnErr, IsNone, IsTrue, false, length, replicate, true};
 ghost use Rattle.tuple_edge.specs.Input.{Input};
 ghost use Rattle.tuple_edge.specs.Limits.{most_packets};
 ghost use Rattle.tuple_edge.specs.declared.event.Worked.TheVariants.{Idle};
@@ -127,6 +129,11 @@ pub trait Acts: Send + Drop {
 
     /// Takes the next input that comes, which waits until it is made. It is no event of the machine. False where it takes none.
     fn feed(&mut self, input: Input) -> Result<bool, OutOfMemory>
+        // Where it takes the input, that came behind those that had come. Else it is as it was.
+        ensures came { IfOk result (λ taken. IsTrue taken → (before : List Input) → HaveCome admits self.old before
+            → HaveCome admits self.new (before ++ input ∷ [])) }
+        ensures left { IfOk result (λ taken. taken ≡ false → self.new ≡ self.old) }
+        ensures unchanged { OnErr result (self.new ≡ self.old) }
         ensures inputs { (inputs : List Input) → admits self.new inputs → admits self.old inputs }
         // It stands for the same numbers, of each list of inputs with which all that came begins.
         ensures stands { (plan : PlanView) (inputs : List Input) (x : Node) → admits self.new inputs → stands plan inputs self.old x → stands plan inputs self.new x }
@@ -137,7 +144,12 @@ pub trait Acts: Send + Drop {
 
     /// How many items it has merged, where it is a replica that runs.
     fn merged(&self) -> Option<u64>
-        ensures { IfSome result (λ k. (plan : PlanView) (inputs : List Input) (x : Node) → stands plan inputs self.now x → HasMerged k (replica_in x)) };
+        ensures merged { IfSome result (λ k. (plan : PlanView) (inputs : List Input) (x : Node) → stands plan inputs self.now x → HasMerged k (replica_in x)) }
+        // It has merged no more, and a replica that tells nothing doesn't run.
+        ensures most { IfSome result (λ k. (plan : PlanView) (inputs : List Input) (x : Node) → stands plan inputs self.now x
+            → HasMerged (k + 1) (replica_in x) → ⊥) }
+        ensures runs { IsNone result → is_replica (id self.now) ≡ true → (plan : PlanView) (inputs : List Input) (x : Node)
+            → stands plan inputs self.now x → HasMerged 0 (replica_in x) → ⊥ };
 
     /// Whether egress has merged its end.
     fn is_done(&self) -> bool
@@ -155,6 +167,8 @@ pub trait Acts: Send + Drop {
     /// Hands on the first row that it holds, and holds it no longer. It is no event of the machine.
     fn let_go(&mut self) -> Option<Row>
         ensures gone { MatchOption result ((gone self.new ≡ gone self.old) × (gone self.old ≡ rows self.old)) (λ row. gone self.new ≡ gone self.old ++ row ∷ []) }
+        // So the row is the first that was not handed on.
+        ensures first { IsPrefix (gone self.new) (rows self.new) }
         ensures rows { rows self.new ≡ rows self.old }
         // It stands for the same numbers, and is the same node of the same plans.
         ensures stands { (plan : PlanView) (inputs : List Input) (x : Node) → stands plan inputs self.old x → stands plan inputs self.new x }

@@ -12,5 +12,5 @@ mod limits;
 mod task;
 
 pub use acts::{Acts, Steps};
-pub use limits::PORTION;
+pub use limits::{PORTION, PORTION_UNDER_ORDERS};
 pub use task::Task;

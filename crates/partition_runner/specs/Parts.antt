@@ -7,10 +7,11 @@ use Rattle.plan_nodes.specs.States.{id_of}
 use Rattle.plan_nodes.specs.declared.state.NodeState.{NodeState}
 use Rattle.partition_runner.specs.declared.ran.Left.{Left}
 
--- the nodes of parts, and their histories with their names, both in the order of the parts
+-- the nodes of parts, in their order
 abbrev pub nodes_in : List (NodeState × List Stamped) → List NodeState
 nodes_in parts = map (λ (p : NodeState × List Stamped). p.0) parts
 
+-- the histories of parts, each under its node's name, in their order
 abbrev pub named_parts : List (NodeState × List Stamped) → List (NodeId × List Stamped)
 named_parts parts = map (λ (p : NodeState × List Stamped). (id_of p.0, p.1)) parts
 

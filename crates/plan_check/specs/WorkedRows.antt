@@ -89,8 +89,8 @@ pub record PlansWarned : Type 0 where
       ∷ warning.SumsOfSums (numbered 3 (total column.Account)) (numbered 1 (total column.Account))
       ∷ []
   -- a long mark and a short hold, and the greatest mark and the least hold that aren't warned of
-  pub settings : plan_warnings (plan 513 63 (total column.Account ∷ [])) ≡ warning.LongMark 513 ∷ warning.ShortHold 63 ∷ []
-  pub bounds : plan_warnings (plan 512 64 (total column.Account ∷ [])) ≡ []
+  pub settings : plan_warnings (plan 513 511 (total column.Account ∷ [])) ≡ warning.LongMark 513 ∷ warning.ShortHold 511 ∷ []
+  pub bounds : plan_warnings (plan 512 512 (total column.Account ∷ [])) ≡ []
 
 -- ---- scripts
 

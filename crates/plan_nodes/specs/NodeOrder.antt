@@ -11,6 +11,7 @@ use Rattle.pair_machine.specs.Drain.{pairs_up_to}
 use Rattle.pair_machine.specs.Flow.{Flow}
 use Rattle.pair_machine.specs.Numbers.{Partition, control_at, replica_at}
 
+-- the nodes of a pair: replica A, replica B and the controller
 abbrev pub pair_nodes : ℕ → ℕ → List NodeId
 pair_nodes stage part = node.Replica stage part A ∷ node.Replica stage part B ∷ node.Control stage part ∷ []
 
@@ -28,6 +29,7 @@ stages_nodes number (s ∷ stages) = stage_nodes number s.parts ++ stages_nodes 
 abbrev pub nodes_before_egress : PlanView → List NodeId
 nodes_before_egress plan = node.Ingress ∷ stages_nodes 1 plan.stages
 
+-- all nodes of a plan, in their order
 abbrev pub nodes_of : PlanView → List NodeId
 nodes_of plan = nodes_before_egress plan ++ node.Egress ∷ []
 

@@ -112,6 +112,7 @@ has_merged_end (state.Egress e) = e.done
 abbrev pub HoldsFew : ℕ → ProducerView → Type 0
 HoldsFew hold y = (t : ℕ) → t < length y.edges → (buffer_at y t).produced - (buffer_at y t).low < hold
 
+-- each edge of each source of ingress holds fewer items than this
 abbrev pub EachHoldsFew : ℕ → IngressView → Type 0
 EachHoldsFew hold i = (q : ℕ) → q < length i.producers → HoldsFew hold (producer_at i q)
 
@@ -128,26 +129,31 @@ HasMade plan old new count = StepByStep (DoesMake id_of IsOfPlan StandsFor (Want
 
 -- ---- what it may do
 
+-- ingress may take a packet that it admits, work and make, and nothing else
 abbrev pub IngressMay : IngressView → Task → Type 0
 IngressMay i (task.Take from index packet) = ingress.IsAdmitted i from packet.body
 IngressMay i task.Work = Unit {0}
 IngressMay i task.Make = Unit {0}
 IngressMay i t = ⊥
 
+-- a replica may take a packet that it admits, and work where its phase lets it; whatever else it is asked is free
 abbrev pub ReplicaMay : ReplicaView → Task → Type 0
 ReplicaMay r (task.Take from index packet) = replica_admitted.IsAdmitted r from packet.body
 ReplicaMay r task.Work = replica_admitted.MayWorkIn r.phase
 ReplicaMay r t = Unit {0}
 
+-- a controller may take a packet that it admits, and nothing else
 abbrev pub ControlMay : ControllerView → Task → Type 0
 ControlMay c (task.Take from index packet) = control_admitted.IsAdmitted c from packet.body
 ControlMay c t = ⊥
 
+-- egress may take a packet that it admits, and work while its count stays within its limit; whatever else it is asked is free
 abbrev pub EgressMay : EgressView → Task → Type 0
 EgressMay e (task.Take from index packet) = egress.IsAdmitted e from packet.body
 EgressMay e task.Work = MayWork e
 EgressMay e t = Unit {0}
 
+-- a node may do a task, by its kind
 abbrev pub MayDo : NodeState → Task → Type 0
 MayDo (state.Ingress i) t = IngressMay i t
 MayDo (state.Replica r) t = ReplicaMay r t

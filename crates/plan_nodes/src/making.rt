@@ -1,9 +1,10 @@
 // Ingress makes inputs into items, one after another.
+ghost use Rattle.node_tasks.specs.Coming.{HaveCome};
 ghost use Rattle.plan_nodes.specs.States.{Admits, EachHoldsFew, HasMade, HoldsFew, IsOfPlan, StandsFor, StandsLike};
 ghost use Rattle.plan_nodes.specs.declared.state.NodeState.TheVariants as state;
 ghost use Rattle.plan_reader.specs.PlanView.{PlanView};
 ghost use Rattle.pair_machine.specs.Numbers.{Node};
-ghost use Rattle.std.specs.Prelude.{◌≤◌, ◌↔◌, IfOk, IsTrue, List, OnErr};
+ghost use Rattle.std.specs.Prelude.{◌≡◌, ◌≤◌, ◌↔◌, ◌++◌, ◌∷◌, [], IfOk, IsTrue, List, OnErr, false};
 ghost use Rattle.tuple_edge.specs.Input.{Input};
 
 use flux_producer::Producer;
@@ -40,6 +41,10 @@ pub(crate) fn ingress_makes(
 
 /// Takes the next input that comes.
 pub(crate) fn ingress_feeds(node: &mut Ingress, input: Input) -> Result<bool, OutOfMemory>
+    ensures came { IfOk result (λ taken. IsTrue taken → (before : List Input) → HaveCome Admits (state.Ingress node.old) before
+        → HaveCome Admits (state.Ingress node.new) (before ++ input ∷ [])) }
+    ensures left { IfOk result (λ taken. taken ≡ false → node.new ≡ node.old) }
+    ensures unchanged { OnErr result (node.new ≡ node.old) }
     ensures inputs { (inputs : List Input) → Admits (state.Ingress node.new) inputs → Admits (state.Ingress node.old) inputs }
     ensures stands { (plan : PlanView) (inputs : List Input) (x : Node) → Admits (state.Ingress node.new) inputs
         → StandsFor plan inputs (state.Ingress node.old) x → StandsFor plan inputs (state.Ingress node.new) x }

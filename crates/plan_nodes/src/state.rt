@@ -6,7 +6,7 @@ ghost use Rattle.plan_reader.specs.PlanView.{PlanView};
 ghost use Rattle.replica_node.specs.StandsFor as replica;
 ghost use Rattle.plan_nodes.specs.States.{Admits, HasActedBehind, IsIdle, IsOfPlan, MayDo, StandsFor, WantsRows, gone_of, has_merged_end, id_of, rows_of};
 ghost use Rattle.tuple_edge.specs.Limits.{most_packets};
-ghost use Rattle.std.specs.Prelude.{◌≡◌, ◌≤◌, IfSome, List, Ok};
+ghost use Rattle.std.specs.Prelude.{◌≡◌, ◌≤◌, ◌+◌, IfSome, IsNone, List, Ok};
 ghost use Rattle.tuple_edge.specs.Input.{Input};
 ghost use Rattle.tuple_edge.specs.declared.event.Worked.TheVariants.{Idle};
 
@@ -178,7 +178,9 @@ impl Acts for NodeState {
 
 // How many items a replica has merged, where it runs.
 fn merged_by(node: &Replica) -> Option<u64>
-    ensures { IfSome result (λ k. (plan : PlanView) (inputs : List Input) (x : Node) → replica.StandsFor plan inputs node.now x → HasMerged k (replica_in x)) }
+    ensures merged { IfSome result (λ k. (plan : PlanView) (inputs : List Input) (x : Node) → replica.StandsFor plan inputs node.now x → HasMerged k (replica_in x)) }
+    ensures most { IfSome result (λ k. (plan : PlanView) (inputs : List Input) (x : Node) → replica.StandsFor plan inputs node.now x → HasMerged (k + 1) (replica_in x) → ⊥) }
+    ensures runs { IsNone result → (plan : PlanView) (inputs : List Input) (x : Node) → replica.StandsFor plan inputs node.now x → HasMerged 0 (replica_in x) → ⊥ }
 {
     if node.mode() == Mode::Running {
         Some(node.count())

@@ -34,9 +34,11 @@ pub record InEndView : Type 0 where
   pub link : InLink
   pub next : Option Arrival
 
+-- the links of these ends on which a node receives
 abbrev pub links_in : List InEndView → List InLink
 links_in ins = map (λ e. e.link) ins
 
+-- the links of these ends on which a node sends
 abbrev pub links_of : List OutEndView → List OutLink
 links_of outs = map (λ e. e.link) outs
 

@@ -20,11 +20,14 @@ pub record NodeName : Type 0 where
   pub outs : List (NodeId × Identity)
   pub tapped : Bool
 
+-- of each link on which a node receives: who sends there, and which link it is
 abbrev pub in_names : List InLink → List (NodeId × Identity)
 in_names ins = map (λ l. (l.from, l.identity)) ins
 
+-- of each link on which a node sends: who receives there, and which link it is
 abbrev pub out_names : List OutLink → List (NodeId × Identity)
 out_names outs = map (λ l. (l.to, l.identity)) outs
 
+-- the name that a node has for good
 abbrev pub name_of : {A T : Type 0} → (A → NodeId) → NodeView A T → NodeName
 name_of id n = record { id = id n.state; ins = in_names n.ins; outs = out_names n.outs; tapped = is_some n.tap }

@@ -22,6 +22,7 @@ mod names;
 mod node;
 mod out_end;
 mod outs;
+mod pace;
 mod part;
 mod place_range;
 mod receiving;

@@ -8,6 +8,7 @@ ghost use Rattle.pair_machine.specs.Numbers.{Node as NodeNumbers};
 ghost use Rattle.pair_machine.specs.Scripts.{IsAllowedAt};
 ghost use Rattle.plan_reader.specs.Nodes.{has_link};
 ghost use Rattle.plan_reader.specs.PlanView.{IsPlan};
+ghost use Rattle.node_tasks.specs.Coming.{HaveCome};
 ghost use Rattle.node_tasks.specs.Timely.{AreTimely};
 ghost use Rattle.run_node.specs.Ends.{leads_to, links_in, links_of};
 ghost use Rattle.run_node.specs.Fits.{HasHappened, HasMade, HasWorked, Taken};
@@ -18,7 +19,7 @@ ghost use Rattle.run_node.specs.Takes.{HasTaken, Takes, TakesNothing};
 ghost use Rattle.node_tasks.specs.Tasks.{event_of, packet_of};
 ghost use Rattle.tuple_edge.specs.Input.{Input};
 ghost use Rattle.tuple_edge.specs.Limits.{most_packets};
-ghost use Rattle.std.specs.Prelude.{◌≡◌, ◌≢◌, ◌≤◌, ◌++◌, ◌∷◌, [], ℕ, List, None, true, IfOk, IsTrue, Ok, OnErr, OnOk, length};
+ghost use Rattle.std.specs.Prelude.{◌≡◌, ◌≢◌, ◌≤◌, ◌++◌, ◌∷◌, [], ℕ, List, None, false, true, IfOk, IsTrue, Ok, OnErr, OnOk, length};
 ghost use Rattle.tuple_edge.specs.declared.node.NodeId.{NodeId};
 
 use crate::draws::Draws;
@@ -41,10 +42,6 @@ use tuple_edge::{Input, MOST_PACKETS, NUMBER_LIMIT, OutOfMemory, Outbox, Stamped
 
 // No clock passes it.
 const LAST_CLOCK: u64 = NUMBER_LIMIT - 1;
-
-// Where a mark rose by so much since it was told, reports are always asked for. To ask later would save little, and ingress
-// goes on only while its edges hold few items that are not acknowledged.
-const MOST_RISE: u64 = 32;
 
 // Makes room for what one event adds: an entry of the history, and the packets that it sends.
 fn reserve_event<K: Keeps, O: Outlet + Drop>(
@@ -302,10 +299,15 @@ impl<N: RunNames, A: Acts, K: Keeps, M: Links, T: Draws> Node<N, A, K, M, T> {
         Ok(count)
     }
 
-    /// Takes the next input that comes, if it is ingress. It is no event.
+    /// Takes the next input that comes, if it is ingress. It is no event. False where it takes none.
     pub fn feed(&mut self, input: Input) -> Result<bool, OutOfMemory>
+        // Where it takes the input, that came behind those that had come. Else the node is as it was.
+        ensures came { IfOk result (λ taken. IsTrue taken → (before : List Input) → HaveCome A.admits self.old.state before
+            → HaveCome A.admits self.new.state (before ++ input ∷ [])) }
+        ensures left { IfOk result (λ taken. taken ≡ false → self.new ≡ self.old) }
+        ensures unchanged { OnErr result (self.new ≡ self.old) }
+        ensures same { self.new ≡ record self.old { state = self.new.state } }
         ensures name { name_of A.id self.new ≡ name_of A.id self.old }
-        ensures history { self.new.history ≡ self.old.history }
         ensures inputs { (inputs : List Input) → A.admits self.new.state inputs → A.admits self.old.state inputs }
     {
         self.state.feed(input)
@@ -321,12 +323,12 @@ impl<N: RunNames, A: Acts, K: Keeps, M: Links, T: Draws> Node<N, A, K, M, T> {
         tap.draw(&mut self.state);
     }
 
-    // Pushes what waits, and begins a round over its in-links. Small reports are left for later.
-    pub(crate) fn begin_turn(&mut self, plan: &Plan)
+    // Pushes what waits, and begins a round over its in-links. Reports of marks that rose by less are left for later.
+    pub(crate) fn begin_turn(&mut self, plan: &Plan, most_rise: u64)
         ensures { name_of A.id self.new ≡ name_of A.id self.old }
     {
         self.outs.flush();
         self.round = self.round.renewed(self.ins.len());
-        self.rise = (plan.hold() / 4).clamp(1, MOST_RISE);
+        self.rise = (plan.hold() / 4).min(most_rise).max(1);
     }
 }

@@ -1,14 +1,15 @@
 // One turn of a node.
 ghost use Rattle.run_node.specs.NodeView.{name_of};
-ghost use Rattle.std.specs.Prelude.{◌≡◌};
+ghost use Rattle.std.specs.Prelude.{◌≡◌, ◌≤◌};
 
 use crate::draws::Draws;
 use crate::links::Links;
 use crate::names::RunNames;
 use crate::node::Node;
+use crate::pace::Pace;
 use event_log::Keeps;
 use failure_script::Script;
-use node_tasks::{Acts, PORTION};
+use node_tasks::Acts;
 use plan_reader::Plan;
 use tuple_edge::OutOfMemory;
 
@@ -20,8 +21,9 @@ impl<N: RunNames, A: Acts, K: Keeps, M: Links, T: Draws> Node<N, A, K, M, T> {
         requires { script.now ≡ N.script }
         ensures { name_of A.id self.new ≡ name_of A.id self.old }
     {
-        self.begin_turn(plan);
-        let result = self.act_some(plan, script);
+        let pace = Pace::of(script);
+        self.begin_turn(plan, pace.most_rise);
+        let result = self.act_some(plan, script, pace.portion);
         self.offer();
         result
     }
@@ -34,24 +36,25 @@ impl<N: RunNames, A: Acts, K: Keeps, M: Links, T: Draws> Node<N, A, K, M, T> {
     }
 
     // What a turn does, up to where memory is wanting.
-    fn act_some(&mut self, plan: &Plan, script: &Script) -> Result<bool, OutOfMemory>
-        requires { script.now ≡ N.script }
+    fn act_some(&mut self, plan: &Plan, script: &Script, portion: u64) -> Result<bool, OutOfMemory>
+        requires script { script.now ≡ N.script }
+        requires some { 1 ≤ portion }
         ensures { name_of A.id self.new ≡ name_of A.id self.old }
     {
         let fired = self.fire(script)?;
-        let took = self.take(PORTION)? > 0;
-        let made = self.make_some(plan)?;
-        let did = self.work_some(script)?;
+        let took = self.take(portion)? > 0;
+        let made = self.make_some(portion, plan)?;
+        let did = self.work_some(portion, script)?;
         if fired || took || made || did {
             return Ok(true);
         }
-        self.report_some(script)
+        self.report_some(portion, script)
     }
 
-    fn make_some(&mut self, plan: &Plan) -> Result<bool, OutOfMemory>
+    fn make_some(&mut self, portion: u64, plan: &Plan) -> Result<bool, OutOfMemory>
         ensures { name_of A.id self.new ≡ name_of A.id self.old }
     {
-        let mut left = PORTION;
+        let mut left = portion;
         while left > 0 {
             let count = self.make(left, plan)?;
             if count == 0 {
@@ -59,23 +62,25 @@ impl<N: RunNames, A: Acts, K: Keeps, M: Links, T: Draws> Node<N, A, K, M, T> {
             }
             left -= count;
         }
-        Ok(left < PORTION)
+        Ok(left < portion)
     }
 
     // Where a turn came to nothing else, marks are reported by however little they rose.
-    fn report_some(&mut self, script: &Script) -> Result<bool, OutOfMemory>
+    fn report_some(&mut self, portion: u64, script: &Script) -> Result<bool, OutOfMemory>
+        requires { 1 ≤ portion }
         ensures { name_of A.id self.new ≡ name_of A.id self.old }
     {
         self.rise = 1;
-        self.work_some(script)
+        self.work_some(portion, script)
     }
 
     // The pieces are done several in one call, but one by one where an order becomes due in this turn.
-    fn work_some(&mut self, script: &Script) -> Result<bool, OutOfMemory>
+    fn work_some(&mut self, portion: u64, script: &Script) -> Result<bool, OutOfMemory>
+        requires { 1 ≤ portion }
         ensures { name_of A.id self.new ≡ name_of A.id self.old }
     {
-        let most = self.portion(script, PORTION);
-        let mut left = PORTION;
+        let most = self.portion(script, portion);
+        let mut left = portion;
         while left > 0 {
             let count = self.work(left.min(most))?;
             if count == 0 {
@@ -83,6 +88,6 @@ impl<N: RunNames, A: Acts, K: Keeps, M: Links, T: Draws> Node<N, A, K, M, T> {
             }
             left -= count;
         }
-        Ok(left < PORTION)
+        Ok(left < portion)
     }
 }

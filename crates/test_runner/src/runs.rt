@@ -152,7 +152,7 @@ fn is_finished<R: Threads + Sync>(
 
 // Whether it does where an edge holds so many items, of 40 rows more.
 fn passes_at<R: Threads + Sync>(rt: &R, alloc: Global, hold: u32) -> Result<bool, OutOfMemory>
-    requires { hold ≤ 130 }
+    requires { hold ≤ 516 }
 {
     let plan = format!(in alloc;
         "flux 1\nmark 4\nhold {hold}\nstage 1 parts 1 by account total account\n"
@@ -164,7 +164,7 @@ fn passes_at<R: Threads + Sync>(rt: &R, alloc: Global, hold: u32) -> Result<bool
 }
 
 fn all_pass<R: Threads + Sync>(rt: &R, alloc: Global) -> Result<bool, OutOfMemory> {
-    for hold in 16..=130u32 {
+    for hold in 16..=516u32 {
         if !passes_at(rt, alloc, hold)? {
             return Ok(false);
         }
@@ -173,7 +173,7 @@ fn all_pass<R: Threads + Sync>(rt: &R, alloc: Global) -> Result<bool, OutOfMemor
 }
 
 // Marks are reported late, but ingress always comes to make its next row, however few items its edges may hold: there are
-// 40 rows more than it may hold at once. From 128 on marks are reported alike.
+// 40 rows more than it may hold at once. From 512 on marks are reported alike.
 #[test]
 fn no_run_stalls_whatever_an_edge_holds(rt: HostRuntime) -> Result<(), Fail> {
     is_so(all_pass(&rt, rt.alloc())?)

@@ -60,24 +60,24 @@ fn portions_of(alloc: Global, ran: &Ran, node: NodeId) -> Result<Vec<(Kind, u64)
     Ok(Vec::new(alloc))
 }
 
-// A plan and a script, so many turns of one worker, and what a node then has done.
+// A plan and a script, so many turns of one worker, and what a node then has done first.
 struct Case {
     plan: &'static [u8],
     script: &'static [u8],
     turns: u64,
     node: NodeId,
-    portions: &'static [(Kind, u64)],
+    begins: &'static [(Kind, u64)],
 }
 
 // The worker turns ingress, both replicas, their controller and egress, and begins again.
 const CASES: &[Case] = &[
-    // Rows are made before they are sent, 64 in a turn, and 64 items are sent, each to both replicas.
+    // Rows are made before they are sent, 512 in a turn at most.
     Case {
         plan: ONE,
         script: b"",
         turns: 1,
         node: NodeId::Ingress,
-        portions: &[(Kind::Make, 64), (Kind::Work, 64)],
+        begins: &[(Kind::Make, 512)],
     },
     // Rows are made while an edge holds fewer items than the plan says.
     Case {
@@ -85,15 +85,23 @@ const CASES: &[Case] = &[
         script: b"",
         turns: 1,
         node: NodeId::Ingress,
-        portions: &[(Kind::Make, 16), (Kind::Work, 32)],
+        begins: &[(Kind::Make, 16), (Kind::Work, 32)],
     },
-    // What came is taken before it is merged and sent on.
+    // The 128 items that a ring holds are taken before they are merged and sent on, and reported.
     Case {
         plan: ONE,
         script: b"",
         turns: 2,
         node: A,
-        portions: &[(Kind::Take, 32), (Kind::Work, 64)],
+        begins: &[(Kind::Take, 128), (Kind::Work, 257)],
+    },
+    // Under a script there are at most 64 of each in a turn, of all nodes: so A is given 32 items in its first one.
+    Case {
+        plan: ONE,
+        script: b"kill 1.0.a at 1 back never\n",
+        turns: 1,
+        node: NodeId::Ingress,
+        begins: &[(Kind::Make, 64), (Kind::Work, 64)],
     },
     // An order comes first in the turn after the one in which its count was reached. Behind it come 32 items that have no
     // effect any more, and what egress acknowledges.
@@ -102,7 +110,7 @@ const CASES: &[Case] = &[
         script: b"kill 1.0.a at 1 back never\n",
         turns: 7,
         node: A,
-        portions: &[
+        begins: &[
             (Kind::Take, 32),
             (Kind::Work, 64),
             (Kind::Order, 1),
@@ -111,9 +119,9 @@ const CASES: &[Case] = &[
     },
 ];
 
-// Whether a node has done this.
+// Whether a node has done this first.
 fn has_done(alloc: Global, ran: &Ran, case: &Case) -> Result<bool, OutOfMemory> {
-    Ok(portions_of(alloc, ran, case.node)?.as_slice() == case.portions)
+    Ok(portions_of(alloc, ran, case.node)?.starts_with(case.begins))
 }
 
 fn turns_so<R: Threads + Sync>(
@@ -129,7 +137,7 @@ fn turns_so<R: Threads + Sync>(
 }
 
 fn is_as_told<R: Threads + Sync>(rt: &R, alloc: Global, case: &Case) -> Result<bool, OutOfMemory> {
-    let story = made(alloc, case.plan, 3, 500, case.script)?;
+    let story = made(alloc, case.plan, 3, 700, case.script)?;
     let well = turns_so(rt, alloc, &story, case);
     drop(story);
     well
@@ -149,8 +157,10 @@ fn a_turn_has_its_steps_in_order(rt: HostRuntime) -> Result<(), Fail> {
     none_is_wrong(first_wrong(&rt, rt.alloc())?)
 }
 
-// Eight partitions that answer the end with some 550 rows each, and nothing before.
+// Eight partitions that answer the end with a row for nearly each of their trades, and nothing before.
 const BURST: &[u8] = b"flux 1\nstage 1 parts 8 by account window both 1000000\n";
+// Its nodes: ingress, three of each partition, and egress.
+const NODES: u64 = 26;
 
 // How many items a replica has sent to its first receiver.
 fn sent(replica: &Replica) -> u64 {
@@ -181,6 +191,11 @@ fn most_under_way(ran: &Ran) -> u64 {
     most
 }
 
+// Whether a ring is full, with at most what one call of work sends beside it.
+fn is_full(under_way: u64) -> bool {
+    128 < under_way && under_way <= 128 + 24
+}
+
 // The most events of a kind that came one after another.
 fn most_at_once(portions: &[(Kind, u64)], kind: Kind) -> u64 {
     let mut most = 0u64;
@@ -198,7 +213,7 @@ fn takes_at_most(alloc: Global, ran: &Ran, most: u64) -> Result<bool, OutOfMemor
     Ok(most_at_once(&portions, Kind::Take) == most)
 }
 
-// Whether after so many turns the end has not come to egress, so many items are under way, and egress took so many at once.
+// Whether after so many turns the end has not come to egress, a ring is full, and egress took 512 packets at once at most.
 fn is_in_between<R: Threads + Sync>(
     rt: &R,
     alloc: Global,
@@ -206,27 +221,22 @@ fn is_in_between<R: Threads + Sync>(
     turns: u64,
 ) -> Result<bool, OutOfMemory> {
     let outcome = run(rt, alloc, story, 1, turns, &mut Rings, &FreeGate)?;
-    let under_way = !is_done(&outcome.ran.nodes) && most_under_way(&outcome.ran) == 128 + 9;
-    let takes = takes_at_most(alloc, &outcome.ran, 64);
+    let under_way = !is_done(&outcome.ran.nodes) && is_full(most_under_way(&outcome.ran));
+    let takes = takes_at_most(alloc, &outcome.ran, 512);
     drop(outcome);
     Ok(under_way && takes?)
 }
 
-// Of what eight replicas send, egress takes 64 packets in a turn. A ring holds 128, and a replica goes on working until
-// some more wait: of the 24 that one call of work sends, the last 9. After 182 turns of each of the 26 nodes the end has come to
-// all replicas, and not to egress.
+// Of what eight replicas send, egress takes 512 packets in a turn. A ring holds 128, and a replica goes on working until
+// some more wait, of the 24 that one call of work sends. After 23 turns of each node the end has come to all replicas, which
+// have some 550 rows each, and not to egress.
 #[test]
 fn a_turn_takes_a_portion_and_begins_work_while_nothing_waits(rt: HostRuntime) -> Result<(), Fail> {
     let story = made(rt.alloc(), BURST, 3, 5_000, b"")?;
-    let well = is_in_between(&rt, rt.alloc(), &story, 182 * 26);
+    let well = is_in_between(&rt, rt.alloc(), &story, 23 * NODES);
     drop(story);
     is_so(well?)
 }
-
-// Four partitions that answer the end with some 350 rows each, more than egress takes from them in the meantime.
-const FOUR: &[u8] = b"flux 1\nstage 1 parts 4 by account window both 1000000\n";
-// Its nodes: ingress, three of each partition, and egress.
-const NODES: u64 = 14;
 
 // The most items under way after so many turns of one worker, if those are legal and emit a front of the output, and
 // whether the run is then at its end.
@@ -250,8 +260,8 @@ fn most_of_some<R: Threads + Sync>(
     story: &Story,
 ) -> Result<Option<u64>, OutOfMemory> {
     let mut most = 0u64;
-    for fours in 10..25 {
-        let Some((under_way, _done)) = runs_full(rt, alloc, story, fours * 4 * NODES)? else {
+    for rounds in 5..13 {
+        let Some((under_way, _done)) = runs_full(rt, alloc, story, rounds * NODES)? else {
             return Ok(None);
         };
         most = most.max(under_way);
@@ -271,13 +281,13 @@ fn come_through<R: Threads + Sync>(
     let Some((_under_way, done)) = runs_full(rt, alloc, story, 1_000_000)? else {
         return Ok(false);
     };
-    Ok(128 < most && most <= 128 + 24 && done)
+    Ok(is_full(most) && done)
 }
 
 // Where a ring is full up to 24 items wait beside it, and no row is lost, doubled or out of its place.
 #[test]
 fn rows_come_through_full_rings(rt: HostRuntime) -> Result<(), Fail> {
-    let story = made(rt.alloc(), FOUR, 3, 1_500, b"")?;
+    let story = made(rt.alloc(), BURST, 3, 1_500, b"")?;
     let well = come_through(&rt, rt.alloc(), &story);
     drop(story);
     is_so(well?)

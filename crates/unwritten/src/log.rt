@@ -1,6 +1,6 @@
 // A log that takes no memory.
 ghost use Rattle.event_log.specs.Views.{makes_after, repeated_after, works_after};
-ghost use Rattle.std.specs.Prelude.{◌≡◌, ◌≤◌, ◌<◌, ◌+◌, ◌-◌, ◌^◌, ◌++◌, ◌∷◌, [], OnOk};
+ghost use Rattle.std.specs.Prelude.{◌≡◌, ◌≤◌, ◌<◌, ◌+◌, ◌-◌, ◌^◌, ◌++◌, ◌∷◌, [], OnOk, OnErr};
 ghost use Rattle.tuple_edge.specs.declared.event.Event.TheVariants as event;
 
 use event_log::Keeps;
@@ -59,6 +59,7 @@ impl Log {
         ensures same { self.new ≡ record self.old { spare = self.new.spare } }
         ensures spare { OnOk result (_entries ≤ self.new.spare) }
         ensures kept { self.old.spare ≤ self.new.spare }
+        ensures refused { OnErr result (self.old.spare + 1 ≤ _entries) }
     {
         let _node = self.node;
         Ok(())

@@ -1,7 +1,6 @@
 use Rattle.std.proofs.Common.{◌≡◌, ◌∙◌, ◌+◌, ◌++◌, ◌∷◌, [], ap, sym, arith, append_assoc, append-nil, length, length-append}
 use Rattle.std.specs.Vec.Iter.{into_iter_items}
 use Rattle.run_node.specs.NodeView.{name_of}
-use Rattle.plan_nodes.specs.States.{id_of}
 use Rattle.linked_run.proofs.Gathered.{empty_list}
 use Rattle.partition_runner.proofs.Unlinked.{is_finished, map_last}
 use Rattle.partition_runner.proofs.making.finish_all.Goals as goal
@@ -29,7 +28,7 @@ loop-draft-preserved g c =
         count = omega (arith, h.count, c.push_reserved.ensures.len, more);
         room = omega (arith, h.room, c.push_reserved.ensures.capacity);
         left = append_assoc c.loop-draft.yielded (c.in-Some.draft ∷ []) (into_iter_items c.next.new.self) ∙ (ap (λ l. c.loop-draft.yielded ++ l) (sym step.0) ∙ h.left);
-        made = map_last _ (name_of id_of) c.loop-draft.nodes.items c.push_reserved.new.self.items c.finish.result c.loop-draft.yielded c.in-Some.draft c.push_reserved.ensures.items h.made c.finish.ensures;
+        made = map_last _ (name_of g.A.Acts.id) c.loop-draft.nodes.items c.push_reserved.new.self.items c.finish.result c.loop-draft.yielded c.in-Some.draft c.push_reserved.ensures.items h.made c.finish.ensures;
       },
     )
 

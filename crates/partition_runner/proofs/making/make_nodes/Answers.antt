@@ -1,6 +1,9 @@
 use Rattle.std.proofs.Common.{◌≡◌, ◌∙◌, ◌++◌, List, length, take, drop, sym, subst, arith}
+use Rattle.std.proofs.lemmas.Result.{IfOk-weaker}
+use Rattle.std.specs.Prelude.{map}
+use Rattle.plan_nodes.specs.States.{id_of}
 use Rattle.linked_run.specs.Linked.{AreDistinct, AreLinked}
-use Rattle.run_node.specs.NodeView.{NodeName}
+use Rattle.run_node.specs.NodeView.{NodeName, name_of}
 use Rattle.partition_runner.specs.Ready.{AreNodesOf, HaveTheirLinks}
 use Rattle.run_node.proofs.Places.{written}
 use Rattle.partition_runner.proofs.Unlinked.{all_distinct, all_linked, have_links}
@@ -29,4 +32,5 @@ returns g c =
     let long : length c.deref_mut.result.now ≡ old.len = omega (arith, c.deref_mut.ensures.len) in
     let same : take old.len (new ++ drop (length new) old.items) ≡ new = written old.len new old.items (c.connect_all.auto.drafts ∙ long) in
     let links = subst (HaveTheirLinks c.args.plan.now) (sym same) (have_links c.args.plan.now c.deref_mut.result.now new (c.deref_mut.ensures.value ∙ c.in_ok-drafts.ensures) e.grown e.linked e.leads) in
-    subst (AreNodesOf c.args.plan.now) (sym c.in_ok-nodes.ensures) links.nodes
+    IfOk-weaker c.finished.result (λ nodes. map (name_of id_of) nodes.items ≡ take old.len (new ++ drop (length new) old.items)) (λ nodes. AreNodesOf c.args.plan.now (map (name_of id_of) nodes.items))
+    (λ nodes same_names. subst (AreNodesOf c.args.plan.now) (sym same_names) links.nodes) c.finished.ensures

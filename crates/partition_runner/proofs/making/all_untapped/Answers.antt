@@ -6,7 +6,7 @@ use Rattle.pair_machine.specs.Lists.{Each}
 use Rattle.pair_machine.proofs.Lists.{each_left}
 use Rattle.plan_nodes.specs.NodeOrder.{nodes_before_egress}
 use Rattle.plan_nodes.proofs.NodeOrder.{nodes_there}
-use Rattle.partition_runner.proofs.making.drafts_of.Goals as goal
+use Rattle.partition_runner.proofs.making.all_untapped.Goals as goal
 
 pub untapped-requires-clause-there : goal.untapped-requires-clause-there
 untapped-requires-clause-there g c κs within =

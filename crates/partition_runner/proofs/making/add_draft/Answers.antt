@@ -5,7 +5,7 @@ use Rattle.plan_nodes.specs.States.{StandsFor, gone_of, id_of, rows_of}
 use Rattle.plan_nodes.specs.declared.state.NodeState.{NodeState}
 use Rattle.trade_text.specs.TradesView.{inputs_in}
 use Rattle.partition_runner.proofs.AllFed.{fits, opens}
-use Rattle.partition_runner.proofs.making.draft_of.Goals as goal
+use Rattle.partition_runner.proofs.making.add_draft.Goals as goal
 
 pub new-requires-2-clause-opening : goal.new-requires-2-clause-opening
 new-requires-2-clause-opening g c κs within = λ inputs e. subst (λ (s : NodeState). StandsFor g.N.RunNames.plan inputs s (new_node (id_of s))) (sym c.new.ensures)
