@@ -13,6 +13,7 @@ use Rattle.bucket_move.specs.ByKey.{is_keyed}
 use Rattle.bucket_move.specs.Limits.{buckets}
 use Rattle.bucket_move.specs.Rows.{bucket_of, items_of, rows_in}
 
+-- the buckets of a plan's one stage: where each stands, what is kept of it, and what came of the rows fed
 pub record BucketsView : Type 0 where
   -- the one stage of the plan
   pub stage : Stage
@@ -60,10 +61,11 @@ part_of table bucket = slice_index table bucket
 abbrev pub state_after : OpSpec → List Row → StateView
 state_after spec rows = rebuilt spec (entries spec (items_of rows))
 
--- what a partition keeps of a bucket
+-- what is kept of a bucket, by what its partition keeps of each
 abbrev pub state_in : OpSpec → List StateView → ℕ → StateView
 state_in spec states bucket = slice_index_or states bucket (unseen spec)
 
+-- what a partition keeps of a bucket
 abbrev pub state_at : OpSpec → List (List StateView) → ℕ → ℕ → StateView
 state_at spec kept part bucket = state_in spec (slice_index_or kept part []) bucket
 
@@ -109,6 +111,7 @@ keys_kept spec table part rows = min (keys_of_first spec table part rows buckets
 
 -- ---- what is always true
 
+-- the stage answers by key; each bucket stands at one of its partitions, and each partition has a state for each bucket
 pub record IsRight (b : BucketsView) : Type 0 where
   pub stage : IsStage b.stage
   pub keyed : is_keyed b.stage.by b.stage.op ≡ true

@@ -5,6 +5,7 @@ use Rattle.std.specs.Prelude.{ℕ}
 abbrev pub buckets : ℕ
 buckets = 64
 
+-- the most bytes of a text of moves
 abbrev pub max_moves_bytes : ℕ
 max_moves_bytes = 65536
 

@@ -12,6 +12,7 @@ fault_at line fault.Grammar = error.Grammar line
 fault_at line fault.Range = error.Range line
 fault_at line fault.NotRising = error.NotRising line
 
+-- the text that says why moves are refused
 abbrev pub moves_fault : MovesError → List ℕ
 moves_fault error.Header = codes "header"
 moves_fault (error.Grammar line) = at_line line (codes "grammar")

@@ -17,6 +17,7 @@ use Rattle.bucket_move.specs.declared.partition.Place.{Place}
 abbrev pub place_of : Column → List ℕ → Row → Place
 place_of by table r = record { part = part_of table (bucket_of by r); bucket = bucket_of by r }
 
+-- the bucket of each row, and its partition
 abbrev pub places_of : Column → List ℕ → List Row → List Place
 places_of by table rows = map (place_of by table) rows
 
@@ -44,10 +45,11 @@ abbrev pub first_of : List (Option Row) → Option Row
 first_of [] = None
 first_of (answer ∷ answers) = answer
 
--- what partitions keep, and their answers
+-- what partitions keep
 abbrev pub kept_in : List Partition → List (List StateView)
 kept_in parts = map (λ p. p.states.items) parts
 
+-- the answers of partitions, each to its own rows
 abbrev pub queues_in : List Partition → List (List (Option Row))
 queues_in parts = map (λ p. p.answers.items) parts
 

@@ -21,6 +21,7 @@ pub record NewcomerView : Type 0 where
 abbrev pub begun : ℕ → ℕ → NewcomerView
 begun inc edges = record { inc = inc; taken = []; held = replicate edges [] }
 
+-- the items that a newcomer holds of an in-edge, each under its number
 abbrev pub held_of : NewcomerView → ℕ → List (ℕ × Item)
 held_of n edge = slice_index_or n.held edge []
 
@@ -28,16 +29,19 @@ held_of n edge = slice_index_or n.held edge []
 abbrev pub held_at : List (ℕ × Item) → ℕ → Option Item
 held_at held number = lookup (is_at (nat_cmp number)) held
 
+-- whether a newcomer holds an item of an in-edge under this number
 abbrev pub is_held : NewcomerView → ℕ → ℕ → Bool
 is_held n edge number = is_some (held_at (held_of n edge) number)
 
--- a tuple is kept once
+-- what becomes of a tuple: a newcomer keeps it, unless it holds one under its number
 abbrev pub hold_of : NewcomerView → ℕ → ℕ → Hold
 hold_of n edge number = if is_held n edge number then hold.Repeat else hold.Kept
 
+-- the items that are held, with one more under its number
 abbrev pub with_held : List (ℕ × Item) → ℕ → Item → List (ℕ × Item)
 with_held held number item = insert_entry nat_cmp held number item
 
+-- a newcomer after a tuple came: it holds the tuple, unless it held one under its number
 abbrev pub after_hold : NewcomerView → ℕ → ℕ → Item → NewcomerView
 after_hold n edge number item =
     if is_held n edge number then n else record n { held = slice_set n.held edge (with_held (held_of n edge) number item) }
@@ -49,12 +53,14 @@ took_of n inc number =
     then (if nat_le number (length n.taken) then took.Repeat else if number == length n.taken + 1 then took.Taken else took.Ahead)
     else took.OtherInc
 
+-- a newcomer after an entry came of which it says this: the entry is taken where it is the next one, and else given up
 abbrev pub taken_by : Took → NewcomerView → Entry → NewcomerView
 taken_by took.Taken n entry = record n { taken = n.taken ++ entry ∷ [] }
 taken_by took.Repeat n entry = n
 taken_by took.Ahead n entry = n
 taken_by took.OtherInc n entry = n
 
+-- a newcomer after an entry of a move came: the entry is taken where it is the next one of its own move
 abbrev pub after_chunk : NewcomerView → ℕ → ℕ → Entry → NewcomerView
 after_chunk n inc number entry = taken_by (took_of n inc number) n entry
 

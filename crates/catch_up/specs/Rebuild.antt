@@ -10,7 +10,8 @@ use Rattle.merge_order.specs.MergeView.{MergeView, after_offer, starting}
 
 -- ---- the merge
 
--- the marks of the in-edges, each less by the items that wait: those are offered again; an entry of an edge that isn't there changes nothing
+-- the marks of the in-edges after an entry, each less by the items that wait: those are offered again; an entry of an edge that
+-- isn't there changes nothing
 abbrev pub marks_step : List ℕ → Entry → List ℕ
 marks_step marks (entry.Mark q upto) = slice_set marks q upto
 marks_step marks (entry.Count count) = marks
@@ -19,10 +20,11 @@ marks_step marks (entry.Low t low produced) = marks
 marks_step marks (entry.Kept t number item) = marks
 marks_step marks (entry.Keyed k slot a b c) = marks
 
+-- the marks of so many in-edges that entries make, each less by the items that wait
 abbrev pub marks_in : ℕ → List Entry → List ℕ
 marks_in edges es = fold marks_step (replicate edges 0) es
 
--- how many items were merged
+-- how many items were merged, after an entry
 abbrev pub count_step : ℕ → Entry → ℕ
 count_step n (entry.Mark q upto) = n
 count_step n (entry.Count count) = count
@@ -31,10 +33,11 @@ count_step n (entry.Low t low produced) = n
 count_step n (entry.Kept t number item) = n
 count_step n (entry.Keyed k slot a b c) = n
 
+-- how many items were merged, as the last entry of a count says
 abbrev pub count_in : List Entry → ℕ
 count_in es = fold count_step 0 es
 
--- items that wait are offered
+-- a merge after an entry: an item that waits is offered
 abbrev pub heads_step : MergeView → Entry → MergeView
 heads_step m (entry.Mark q upto) = m
 heads_step m (entry.Count count) = m
@@ -43,14 +46,17 @@ heads_step m (entry.Low t low produced) = m
 heads_step m (entry.Kept t number item) = m
 heads_step m (entry.Keyed k slot a b c) = m
 
+-- the merge of so many in-edges that entries make: it has their marks and their count, and is offered the items that wait
 abbrev pub merge_in : ℕ → List Entry → MergeView
 merge_in edges es = fold heads_step (starting (marks_in edges es) (count_in es)) es
 
 -- ---- the buffers, their room left aside
 
+-- a buffer with no room to spare
 abbrev pub without_spare : BufferView → BufferView
 without_spare b = record b { spare = 0 }
 
+-- the buffer of an out-edge, or an empty one where there is none
 abbrev pub buffer_of : List BufferView → ℕ → BufferView
 buffer_of bs t = slice_index_or bs t (starting_at 0 0)
 
@@ -63,6 +69,7 @@ buffers_step bs (entry.Low t low produced) = bs ++ starting_at low (min low prod
 buffers_step bs (entry.Kept t number item) = slice_set bs t (without_spare (produced_on (buffer_of bs t) item))
 buffers_step bs (entry.Keyed k slot a b c) = bs
 
+-- the buffers of the out-edges that entries make
 abbrev pub buffers_in : List Entry → List BufferView
 buffers_in es = fold buffers_step [] es
 
@@ -78,6 +85,7 @@ lows_in (entry.Keyed k slot a b c ∷ es) = lows_in es
 
 -- ---- the operator's state
 
+-- the entries of an operator, with a further entry if it is the operator's
 abbrev pub keyed_step : List Entry → Entry → List Entry
 keyed_step es (entry.Mark q upto) = es
 keyed_step es (entry.Count count) = es
@@ -86,6 +94,7 @@ keyed_step es (entry.Low t low produced) = es
 keyed_step es (entry.Kept t number item) = es
 keyed_step es (entry.Keyed k slot a b c) = es ++ entry.Keyed k slot a b c ∷ []
 
+-- those of these entries that are the operator's
 abbrev pub keyed_in : List Entry → List Entry
 keyed_in es = fold keyed_step [] es
 
@@ -98,23 +107,26 @@ IsNextOf spec es (entry.Low t low produced) = Unit {0}
 IsNextOf spec es (entry.Kept t number item) = Unit {0}
 IsNextOf spec es (entry.Keyed k slot a b c) = IsNextEntry spec es (entry.Keyed k slot a b c)
 
+-- each of these entries that is the operator's is the next one of a state with those before it
 abbrev pub AllNext : OpSpec → List Entry → List Entry → Type 0
 AllNext spec es [] = Unit {0}
 AllNext spec es (f ∷ fs) = IsNextOf spec es f × AllNext spec (keyed_step es f) fs
 
 -- ---- the fold-in
 
--- items of an in-edge are offered by rising number: those that follow the mark without a gap are taken, and the others given up
+-- an item of an in-edge is offered under its number: it is taken if it follows the mark, and else given up
 abbrev pub offered : ℕ → MergeView → ℕ × Item → MergeView
 offered q m e = after_offer m q e.0 e.1
 
+-- items of an in-edge are offered by rising number: those that follow the mark without a gap are taken, and the others given up
 abbrev pub all_offered : ℕ → MergeView → List (ℕ × Item) → MergeView
 all_offered q m held = fold (offered q) m held
 
--- the same for the first n in-edges
+-- the items that are held of the first n in-edges are offered, edge by edge
 abbrev pub folded_below : ℕ → MergeView → List (List (ℕ × Item)) → MergeView
 folded_below zero m held = m
 folded_below (suc n) m held = all_offered n (folded_below n m held) (slice_index_or held n [])
 
+-- a merge after the fold-in: the items that are held of all in-edges are offered to it
 abbrev pub folded : MergeView → List (List (ℕ × Item)) → MergeView
 folded m held = folded_below (length held) m held

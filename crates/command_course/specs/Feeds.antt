@@ -40,6 +40,7 @@ with_feed plan trades cash next = with_plan plan cash (λ it. with_trades trades
 
 -- ---- as the code holds it
 
+-- the plan, the inputs and the symbols that code has read
 abbrev pub feed_of : Feed → FeedView
 feed_of feed = record { plan = feed.plan; inputs = inputs_in feed.trades; symbols = feed.trades.symbols }
 

@@ -68,10 +68,11 @@ GivesBy before after way value = (next : _ → Course) → Came before after (wa
 abbrev pub StopsBy : {A : Type 0} → FilesTold → FilesTold → Way A → Stop → Type 0
 StopsBy before after way why = (next : _ → Course) → StopsOf before after (way next) why
 
--- the same of what a file of at most so many bytes says
+-- whatever a command does next with what a file of at most so many bytes says, it came there
 abbrev pub Gives : {A : Type 0} → FilesTold → FilesTold → ℕ → (List ℕ → List ℕ → Reading A) → List ℕ → A → Type 0
 Gives before after most reading name value = GivesBy before after (reads most reading name) value
 
+-- whatever it would have done next with what a file of at most so many bytes says, it stopped there
 abbrev pub StopsAt : {A : Type 0} → FilesTold → FilesTold → ℕ → (List ℕ → List ℕ → Reading A) → List ℕ → Stop → Type 0
 StopsAt before after most reading name why = StopsBy before after (reads most reading name) why
 

@@ -9,7 +9,9 @@ use Rattle.command_line.specs.Words.{Kept, Text, given, kept_as}
 pub record Options : Type 0 where
   pub cash : Option Text
   pub script : Option Text
+  -- how many threads there are
   pub threads : ℕ
+  -- how many turns each of them does at most
   pub turns : ℕ
   pub journal : Option Text
 
@@ -29,17 +31,19 @@ pub data Request : Type 0 where
 abbrev pub max_digits : ℕ
 max_digits = 10
 
--- how many threads there are: at least (a run says at most how many), and without the option
+-- the fewest threads of a run
 abbrev pub min_threads : ℕ
 min_threads = 1
 
+-- how many threads a run has without the option
 abbrev pub default_threads : ℕ
 default_threads = 4
 
--- how many turns there are: at most, and without the option
+-- the most turns that each thread may be told to do
 abbrev pub max_turns : ℕ
 max_turns = 10000000
 
+-- how many turns each thread does at most without the option
 abbrev pub default_turns : ℕ
 default_turns = 200000
 
@@ -51,6 +55,7 @@ max_start = 2147483647
 abbrev pub max_count : ℕ
 max_count = 100000
 
+-- a number, if there is one and it is in this range
 abbrev pub within : ℕ → ℕ → Option ℕ → Option ℕ
 within least most None = None
 within least most (Some n) = if nat_le least n && nat_le n most then Some n else None
@@ -66,6 +71,7 @@ number_or default least most (Some word) = number_within least most word
 
 -- ---- the words by their names
 
+-- the words by what they are: up to three positional ones, and the value of each option
 pub record Parts : Type 0 where
   pub first : Option Text
   pub second : Option Text
@@ -76,6 +82,7 @@ pub record Parts : Type 0 where
   pub turns : Option Text
   pub journal : Option Text
 
+-- the parts that are kept under their names
 abbrev pub parts_in : Kept → Parts
 parts_in kept = record {
   first = kept_as (codes "first") kept;
@@ -88,34 +95,39 @@ parts_in kept = record {
   journal = kept_as (codes "journal") kept;
 }
 
--- exactly two positional words, and exactly three
+-- the first two of three words, where the third isn't there
 abbrev pub two : Option Text → Option Text → Option Text → Option (Text × Text)
 two (Some first) (Some second) None = Some (first, second)
 two _ _ _ = None
 
+-- the positional words, where they are exactly two
 abbrev pub two_of : Parts → Option (Text × Text)
 two_of parts = two parts.first parts.second parts.third
 
+-- all three of these words, where they are there
 abbrev pub three : Option Text → Option Text → Option Text → Option (Text × Text × Text)
 three (Some first) (Some second) (Some third) = Some (first, second, third)
 three _ _ _ = None
 
+-- the positional words, where they are three
 abbrev pub three_of : Parts → Option (Text × Text × Text)
 three_of parts = three parts.first parts.second parts.third
 
--- no option but `--cash`, and none at all
+-- whether there is no option but `--cash`
 abbrev pub has_cash_alone : Parts → Bool
 has_cash_alone parts = not (is_some parts.script) && not (is_some parts.threads) && not (is_some parts.turns) && not (is_some parts.journal)
 
+-- whether there is no option
 abbrev pub has_no_option : Parts → Bool
 has_no_option parts = not (is_some parts.cash) && has_cash_alone parts
 
--- what the options say, where their numbers are in range
+-- the options, where the numbers of threads and of turns are in range
 abbrev pub options_with : Parts → Option ℕ → Option ℕ → Option Options
 options_with parts (Some threads) (Some turns) =
     Some (record { cash = parts.cash; script = parts.script; threads = threads; turns = turns; journal = parts.journal })
 options_with parts _ _ = None
 
+-- what the options of `run` and `trial` say, where their numbers are in range
 abbrev pub options_of : Parts → Option Options
 options_of parts = options_with parts (number_or default_threads min_threads max_threads parts.threads) (number_or default_turns 0 max_turns parts.turns)
 
@@ -133,11 +145,12 @@ run_form parts = option_and_then (λ names. option_map (λ options. Run names.0 
 unfoldable pub replay_form : Parts → Option Request
 replay_form parts = if has_cash_alone parts then option_map (λ names. Replay names.0 names.1 names.2 parts.cash) (three_of parts) else None
 
--- `START COUNT`, as numbers
+-- two numbers, where both are there
 abbrev pub made_with : Option ℕ → Option ℕ → Option (ℕ × ℕ)
 made_with (Some start) (Some count) = Some (start, count)
 made_with _ _ = None
 
+-- what `START COUNT` say, where both are numbers in their ranges
 abbrev pub made_of : Text → Text → Option (ℕ × ℕ)
 made_of start count = made_with (number_within 0 max_start start) (number_within 0 max_count count)
 

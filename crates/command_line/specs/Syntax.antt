@@ -6,10 +6,11 @@ use Rattle.clap.specs.Walk.{Rule, Text}
 use Rattle.clap.specs.declared.parser.matches.Found.{Found}
 use Rattle.command_line.specs.Forms.{Parts}
 
--- a positional word, and an option with a value
+-- a positional word of this name
 abbrev pub positional : Text → Rule
 positional name = new_rule name
 
+-- an option of this name, with a value
 abbrev pub option : Text → Rule
 option name = record (new_rule name) { long = Some name }
 

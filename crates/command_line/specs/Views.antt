@@ -8,6 +8,7 @@ use Rattle.command_line.specs.declared.command.Command.TheVariants as command
 use Rattle.command_line.specs.declared.command.RunOptions.{RunOptions}
 use Rattle.command_line.specs.declared.parts.Parts.{Parts as FoundParts}
 
+-- the text that code refers to, if there is one
 abbrev pub text_in : Option (Bor Text) → Option Text
 text_in = option_map (λ text. text.now)
 
@@ -31,10 +32,11 @@ request_of (command.Trial plan start count options) = Trial plan.now start count
 request_of (command.Move plan trades moves) = Move plan.now trades.now moves.now
 request_of (command.Trio plan trades events) = Trio plan.now trades.now events.now
 
--- the numbers of options and of a command are within their ranges
+-- the numbers of options are within their ranges
 abbrev pub AreInRange : RunOptions → Type 0
 AreInRange options = (min_threads ≤ options.threads) × (options.threads ≤ max_threads) × (options.turns ≤ max_turns)
 
+-- the numbers of a command are within their ranges
 abbrev pub IsInRange : Command → Type 0
 IsInRange (command.Eval plan trades cash) = Unit {0}
 IsInRange (command.Run plan trades options) = AreInRange options

@@ -4,6 +4,7 @@ use Rattle.std.specs.List.{after_first, before_first, list_any}
 use Rattle.std.specs.Option.{option_map_or}
 use Rattle.std.specs.Str.{bytes_eq}
 
+-- a text, as the list of its bytes
 abbrev pub Text : Type 0
 Text = List ℕ
 
@@ -14,11 +15,12 @@ abbrev pub is_plain : Text → Bool
 is_plain [] = false
 is_plain (b ∷ bytes) = not (b == 45)
 
--- what stands behind a first `-` (45), and behind a first `--`
+-- what stands behind a first `-` (45)
 abbrev pub behind_dash : Text → Option Text
 behind_dash [] = None
 behind_dash (b ∷ bytes) = if b == 45 then Some bytes else None
 
+-- what stands behind a first `--`
 abbrev pub behind_dashes : Text → Option Text
 behind_dashes word = option_and_then behind_dash (behind_dash word)
 
@@ -34,6 +36,7 @@ option_of word = option_map (λ text. (before_first (λ b. b == 61) text, value_
 abbrev pub options : List Text
 options = codes "cash" ∷ codes "script" ∷ codes "threads" ∷ codes "turns" ∷ codes "journal" ∷ []
 
+-- whether an option has this name
 abbrev pub is_option : Text → Bool
 is_option name = list_any (λ option. bytes_eq option name) options
 
@@ -47,6 +50,7 @@ places = codes "first" ∷ codes "second" ∷ codes "third" ∷ []
 abbrev pub Kept : Type 0
 Kept = List (Text × Text)
 
+-- whether a word is kept under this name
 abbrev pub holds : Text → Kept → Bool
 holds name kept = list_any (λ pair. bytes_eq pair.0 name) kept
 
@@ -64,6 +68,7 @@ pub record Reading : Type 0 where
   pub place : ℕ
   pub waiting : Option Text
 
+-- the reading before the first word
 abbrev pub start : Reading
 start = record { kept = []; place = 0; waiting = None }
 
@@ -84,14 +89,16 @@ abbrev pub with_option : Text → Option Text → Reading → Option Reading
 with_option name None r = if is_option name then Some (record r { waiting = Some name }) else None
 with_option name (Some value) r = if is_option name && is_plain value then onward r.place (keep name value r.kept) else None
 
+-- one more word: the value of the option that waits, else a positional word if it is plain, and else an option
 abbrev pub with_word : Text → Option Text → Reading → Option Reading
 with_word word (Some name) r = with_value name word r
 with_word word None r = if is_plain word then with_positional word r else option_and_then (λ option. with_option option.0 option.1 r) (option_of word)
 
--- the reading after one more word, and after more words
+-- the reading after one more word
 abbrev pub next : Option Reading → Text → Option Reading
 next r word = option_and_then (λ (so_far : Reading). with_word word so_far.waiting so_far) r
 
+-- the reading after these words
 abbrev pub read : Option Reading → List Text → Option Reading
 read r words = fold next r words
 
@@ -100,6 +107,7 @@ abbrev pub kept_at_end : Option Text → Kept → Option Kept
 kept_at_end None kept = Some kept
 kept_at_end (Some name) kept = None
 
+-- what a reading has kept at its end, if all its words could be read
 abbrev pub finish : Option Reading → Option Kept
 finish r = option_and_then (λ (end : Reading). kept_at_end end.waiting end.kept) r
 
@@ -109,6 +117,7 @@ given words = finish (read (Some start) words)
 
 -- ---- a word by itself
 
+-- whether this may stand behind `--`: it isn't empty, and has a plain value, if it has one
 abbrev pub may_stand_behind : Text → Bool
 may_stand_behind [] = false
 may_stand_behind (b ∷ text) = option_map_or is_plain (value_in (b ∷ text)) true

@@ -27,6 +27,7 @@ pub record Start : Type 0 where
   pub state : State
   pub events : List Event
 
+-- the numbers of the plan, with its inputs
 abbrev pub flow_at : Start → Flow
 flow_at b = flow_of b.plan b.inputs
 
@@ -80,6 +81,7 @@ pub record IsNone (old new : CoreView) (before after : List Event) (e : Event) :
   pub no_event : after ≡ before
   pub over : (s : State) → StandsFor old s → IsOver (flow_in old) e s
 
+-- an event was applied as a step of the drain, or nothing was done
 abbrev pub IsTried : Bool → (old new : CoreView) → (before after : List Event) → Event → Type 0
 IsTried true old new before after e = IsNext old new before after e
 IsTried false old new before after e = IsNone old new before after e
@@ -97,6 +99,7 @@ pub record IsBlock (b : Start) (done : List Event) (e : Event) (n : ℕ) : Type 
 
 -- ---- the order of the drain
 
+-- the partition of a consumer of the drain: a replica's own, or that of egress
 abbrev pub partition_in : Flow → NodeId → Partition
 partition_in f node.Ingress = partition 0 0
 partition_in f (node.Replica s p w) = partition s p
@@ -129,13 +132,15 @@ pairs_before f stage part = pairs_up_to f (stage - 1) ++ parts_below stage part
 abbrev pub done_before : Start → (stage part : ℕ) → List Event
 done_before b stage part = replicate (makes_left b) event.Make ++ drain_pairs (flow_at b) b.state (pairs_before (flow_at b) stage part)
 
+-- all events before the turn of a consumer
 abbrev pub before_turn : Start → NodeId → List Event
 before_turn b to = let p = partition_in (flow_at b) to in done_before b p.stage p.part
 
--- what a consumer pulls, from the first n sources or from all
+-- what a consumer pulls from the first n of its sources
 abbrev pub pulls_up_to : Start → NodeId → ℕ → List Event
 pulls_up_to b to n = pulls_below (flow_at b) b.state (partition_in (flow_at b) to) to (consumer_of b to) n
 
+-- what a consumer pulls from all its sources
 abbrev pub pulls_of : Start → NodeId → List Event
 pulls_of b to = pulls_into (flow_at b) b.state (partition_in (flow_at b) to) to (consumer_of b to)
 

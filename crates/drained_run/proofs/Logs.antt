@@ -8,7 +8,7 @@ use Rattle.pair_machine.specs.Lists.{Among, Each}
 use Rattle.pair_machine.specs.Numbers.{is_node}
 use Rattle.pair_machine.proofs.Logs.{logs_there}
 use Rattle.pair_machine.proofs.Names.{is_node-true, node_self}
-use Rattle.journal_writer.specs.Merged.{AreAscending, AreMergeable, Named, merged}
+use Rattle.journal_writer.specs.Merged.{Named, merged}
 use Rattle.partition_runner.specs.Ran.{history_among}
 
 abbrev pub nodes_in : List Named → List NodeId

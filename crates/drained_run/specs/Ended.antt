@@ -56,6 +56,7 @@ module _ (plan : PlanView) (inputs : List Input) (script : List Order) where
     pub front : IsFrontOf rows (output plan inputs)
     pub unsafe : IsSafe script → ⊥
 
+  -- these events and rows are how a run ends that is whole, or that lost this pair
   abbrev pub EndsSo : List Event → List Row → Drained → Type 0
   EndsSo events rows drained.Whole = IsWhole events rows
   EndsSo events rows (drained.Lost stage part) = IsLostAt events rows (partition stage part)

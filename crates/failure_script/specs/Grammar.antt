@@ -24,6 +24,7 @@ formed value = ok_or value fault.Grammar
 abbrev pub is_kill : Word → Option Bool
 is_kill word = if bytes_eq word (codes "kill") then Some true else if bytes_eq word (codes "stop") then Some false else None
 
+-- whether the next word is that of a failure; else it is that of a stop
 unfoldable pub kill_at : List Word → Read Bool Fault
 kill_at words = do
   w ← word_or fault.Grammar words
@@ -45,6 +46,7 @@ items_of word = do
   n ← formed (number_of word)
   if nat_le 1 n && nat_le n max_items then Ok n else Err fault.Range
 
+-- a number of items that the next word says
 unfoldable pub items_at : List Word → Read ℕ Fault
 items_at words = do
   w ← word_or fault.Grammar words
@@ -57,6 +59,7 @@ back_of word = if bytes_eq word (codes "never") then Ok None else (do
   n ← items_of word
   Ok (Some n))
 
+-- a number of items, or `never`, that the next word says
 unfoldable pub back_at : List Word → Read (Option ℕ) Fault
 back_at words = do
   w ← word_or fault.Grammar words

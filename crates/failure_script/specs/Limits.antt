@@ -1,6 +1,7 @@
 -- The limits of a failure script.
 use Rattle.std.specs.Prelude.{ℕ}
 
+-- the most bytes of a script
 abbrev pub max_script_bytes : ℕ
 max_script_bytes = 65536
 

@@ -13,6 +13,7 @@ fault_at line fault.NoSuchReplica = error.NoSuchReplica line
 fault_at line fault.Range = error.Range line
 fault_at line fault.Twice = error.Twice line
 
+-- the text that says why a script is refused
 abbrev pub script_fault : ScriptError → List ℕ
 script_fault (error.Grammar line) = at_line line (codes "grammar")
 script_fault (error.NoSuchReplica line) = at_line line (codes "no such replica")

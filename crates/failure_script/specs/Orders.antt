@@ -13,6 +13,7 @@ use Rattle.failure_script.specs.declared.script.DueNow.{DueNow}
 
 -- ---- orders of a plan
 
+-- a number of items that an order may say
 abbrev pub IsItems : ℕ → Type 0
 IsItems n = (1 ≤ n) × (n ≤ max_items)
 

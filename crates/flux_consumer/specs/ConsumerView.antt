@@ -3,10 +3,12 @@ use Rattle.std.specs.Prelude.{◌≡◌, ℕ, zero, suc, ◌<◌, ◌≤◌, Lis
 use Rattle.std.specs.Option.{option_or}
 use Rattle.merge_order.specs.MergeView.{MergeView, mark_of}
 
+-- a merge, and for each in-edge the mark that was told last
 pub record ConsumerView : Type 0 where
   pub merge : MergeView
   pub told : List ℕ
 
+-- the mark of an in-edge that was told last
 abbrev pub told_of : ConsumerView → ℕ → ℕ
 told_of c edge = slice_index c.told edge
 
@@ -14,6 +16,7 @@ told_of c edge = slice_index c.told edge
 abbrev pub over : MergeView → ConsumerView
 over m = record { merge = m; told = replicate (length m.marks) 0 }
 
+-- a consumer that told the same, with this merge
 abbrev pub with_merge : ConsumerView → MergeView → ConsumerView
 with_merge c m = record c { merge = m }
 

@@ -51,6 +51,7 @@ pub record Standing : Type 0 where
   pub content : Option NodeState
   pub sent : Log
 
+-- a station's node and all that it ever sent; where there is no station, nothing
 abbrev pub standing : Option StationView → Standing
 standing None = record { content = None; sent = [] }
 standing (Some at) = record { content = Some at.node; sent = at.sent }
@@ -85,10 +86,11 @@ abbrev pub gone_at : Option NodeState → List Row
 gone_at None = []
 gone_at (Some s) = gone_of s
 
--- the inputs of a core, and the numbers of its plan
+-- the inputs of a core: those that came to its ingress
 abbrev pub inputs_of : CoreView → List Input
 inputs_of core = inputs_at (station core node.Ingress).content
 
+-- the numbers of a core's plan, with its inputs
 abbrev pub flow_in : CoreView → Flow
 flow_in core = flow_of core.plan (inputs_of core)
 
@@ -103,8 +105,10 @@ pub record HoldsAll (core : CoreView) : Type 0 where
 
 -- ---- the room of edges left aside
 
+-- ingress, with the room of its edges left aside
 abbrev pub ingress_contents : IngressView → IngressView
 ingress_contents i = contents_in i
 
+-- a replica, with the room of its edges left aside
 abbrev pub replica_contents : ReplicaView → ReplicaView
 replica_contents v = replica.contents_in v

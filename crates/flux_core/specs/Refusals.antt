@@ -4,6 +4,7 @@ use Rattle.pair_machine.specs.Messages.{NoMoreRows, NotHeld, NotRunning, NotSent
 use Rattle.flux_core.specs.declared.error.ApplyError.{ApplyError}
 use Rattle.flux_core.specs.declared.error.ApplyError.TheVariants as error
 
+-- this error is the reason for which an event is refused, unless memory ran out
 abbrev pub IsRefusal : {X : Type 0} → Result X Refusal → ApplyError → Type 0
 IsRefusal r (error.NotSent link index sent) = r ≡ Err (NotSent link index sent)
 IsRefusal r error.NothingDue = r ≡ Err NothingDue

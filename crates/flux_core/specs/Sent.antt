@@ -22,14 +22,16 @@ abbrev pub places_from : ℕ → NodeId → List (NodeId × Body) → List ℕ
 places_from nth to [] = []
 places_from nth to (p ∷ ps) = if is_node p.0 to then nth ∷ places_from (nth + 1) to ps else places_from (nth + 1) to ps
 
+-- the places of the packets to one node, among all
 abbrev pub places_to : NodeId → List (NodeId × Body) → List ℕ
 places_to to packets = places_from 0 to packets
 
--- the places that a map has for one node
+-- the places in a list, if there is one
 abbrev pub places_in : Option (Vec ℕ Global) → List ℕ
 places_in None = []
 places_in (Some places) = places.items
 
+-- the places that a map has for one node
 abbrev pub listed_for : BTreeMap NodeId (Vec ℕ Global) → NodeId → List ℕ
 listed_for map to = places_in (get node_cmp map to)
 

@@ -31,6 +31,7 @@ module _ (plan : PlanView) (rows : List Input) where
   abbrev pub PacketsStand : NodeId → Log → (NodeId → List Message) → Type 0
   PacketsStand n packets messages = (to : NodeId) → Pairwise (BodyStands plan rows (link n to)) (bodies_to to packets) (messages to)
 
+  -- what stands under a name is that node, and stands with all that it sent for what a state has there
   pub record StationStands (n : NodeId) (at : Standing) (s : State) : Type 0 where
     pub content : ContentStands n at.content (s.nodes n)
     pub sent : PacketsStand n at.sent (λ to. s.sent (link n to))
@@ -55,6 +56,7 @@ pub record IsGiven (core : CoreView) : Type 0 where
   pub drainable : IsDrainable (flow_in core) state
   pub stands : StandsFor core state
 
+-- what is known of a core: events reach its state, where it was made as the plan opens; else the drain may begin there
 abbrev pub IsKnown : Bool → CoreView → Type 0
 IsKnown true core = IsReached core
 IsKnown false core = IsGiven core

@@ -29,16 +29,18 @@ pub record GivesFirst (before : RingInView) (arrival : Arrival) (after : RingInV
   pub known : IsPrefix before.known_waiting (arrival.packet ∷ after.known_waiting)
 
 module _ {P : Type 0} where
-  -- the ring that an end belongs to
+  -- the ring to which an end that sends belongs
   abbrev pub producer_identity : Producer Packet Global P → Identity
   producer_identity p = record { words = p.end.words; slots = p.end.slots; names = p.end.names; heap = p.end.heap }
 
+  -- the ring to which an end that receives belongs
   abbrev pub consumer_identity : Consumer Packet Global P → Identity
   consumer_identity c = record { words = c.end.words; slots = c.end.slots; names = c.end.names; heap = c.end.heap }
 
-  -- the ends by what they have sent, given and seen
+  -- the end that sends, by what it has sent and how many free slots it knows of
   abbrev pub ring_out_view : Producer Packet Global P → RingOutView
   ring_out_view p = record { sent = sent p; known_free = known_free p; identity = producer_identity p }
 
+  -- the end that receives, by what it has given and what it knows to be waiting
   abbrev pub ring_in_view : Consumer Packet Global P → RingInView
   ring_in_view c = record { given = received c; known_waiting = known_items c; identity = consumer_identity c }

@@ -35,10 +35,12 @@ names files = λ name. lookup (λ other. is_eq (slice_cmp nat_cmp name other)) f
 abbrev pub file_of : String Global × Vec ℕ Global → List ℕ × List ℕ
 file_of e = (string_bytes e.0, e.1.items)
 
+-- a call, with its name as bytes
 abbrev pub call_of : MemCall → Call
 call_of (call.Read name max) = Read (string_bytes name) max
 call_of (call.Save name) = Save (string_bytes name)
 
+-- how often a call has found no memory, and whether the last call did
 abbrev pub wants_of : MemWants → Wants
 wants_of wants = record { count = wants.count; last = wants.last }
 

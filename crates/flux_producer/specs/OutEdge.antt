@@ -5,6 +5,7 @@ use Rattle.tuple_edge.specs.declared.item.Item.{Item}
 use Rattle.ack_buffer.specs.Buffer.{BufferView, produced_on, starting_at, trimmed}
 use Rattle.flux_producer.specs.Limits.{max_copies}
 
+-- what of an edge is not acknowledged, and for each replica of its consumer the next number to send
 pub record OutEdgeView : Type 0 where
   pub buffer : BufferView
   pub cursors : List ℕ

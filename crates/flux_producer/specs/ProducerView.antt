@@ -41,6 +41,7 @@ edge_at p t = slice_index_or p.edges t unused
 abbrev pub id_of : ProducerView → ℕ → EdgeId
 id_of p t = record { stage = p.stage; from = p.from; to = t }
 
+-- the buffer of the edge to a target
 abbrev pub buffer_at : ProducerView → ℕ → BufferView
 buffer_at p t = (edge_at p t).buffer
 
@@ -58,6 +59,7 @@ abbrev pub opening : ℕ → ℕ → ℕ → ℕ → Bool → ProducerView
 opening stage from targets copies leads =
     record { stage = stage; from = from; copies = copies; term = if leads then 1 else 0; leads = leads; edges = replicate targets unused }
 
+-- a producer with this edge to a target
 abbrev pub with_edge : ProducerView → ℕ → OutEdgeView → ProducerView
 with_edge p t e = record p { edges = slice_set p.edges t e }
 

@@ -42,11 +42,12 @@ abbrev pub Says : Drained → Option Stop → Type 0
 Says drained.Whole why = why ≡ None
 Says (drained.Lost stage part) why = (line : _) × (why ≡ Some (stop.PairLost stage part line)) × (string_bytes line ≡ lost_line (partition stage part))
 
--- a text was put whole, or in part
+-- a text was put whole
 pub record IsPut (old new : SinkTold) (text : List ℕ) : Type 0 where
   pub takes : Takes old.taken new.taken text
   pub offers : OffersRests old.offered new.offered text
 
+-- a text was put in part, and the count of faults rose
 pub record IsPutInPart (old new : SinkTold) (text : List ℕ) : Type 0 where
   pub takes : TakesPart old.taken new.taken text
   pub offers : OffersRests old.offered new.offered text

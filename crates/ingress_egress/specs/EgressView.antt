@@ -25,6 +25,7 @@ pub record EgressView : Type 0 where
   pub gone : List Row
   pub done : Bool
 
+-- whether an item is the end
 abbrev pub is_end : Item → Bool
 is_end (item.Row stamp row) = false
 is_end (item.Mark stamp) = false
@@ -81,6 +82,7 @@ pub record WorkDone (V : Type 0) : Type 0 where
   pub sent : List (NodeId × Body)
   pub worked : Worked
 
+-- the first mark that is above what was acknowledged is acknowledged, if there is one
 abbrev pub reporting : EgressView → Option (ℕ × ℕ) → WorkDone EgressView
 reporting e None = record { after = e; sent = []; worked = worked.Idle }
 reporting e (Some report) = record {
@@ -89,6 +91,7 @@ reporting e (Some report) = record {
   worked = worked.Did;
 }
 
+-- the next item is merged, if there is one; else a mark may be acknowledged
 abbrev pub merging_or_reporting : EgressView → Option Item → WorkDone EgressView
 merging_or_reporting e None = reporting e (report_of e.consumer)
 merging_or_reporting e (Some i) = record { after = merging e i; sent = []; worked = worked.Did }

@@ -84,10 +84,11 @@ IsMade old new worked.Idle = (new ≡ old) × (IsAtHand old → ⊥)
 
 -- ---- which packets it may be given
 
--- an acknowledgement comes of the controller of a partition of the first stage, and a want of a replica of it, for an edge to that
+-- an edge leads from a source to this partition of the first stage
 abbrev pub IsFor : IngressView → (part stage from to : ℕ) → Type 0
 IsFor i part stage from to = (stage ≡ 0) × (from < length i.producers) × (to ≡ part) × (part < i.first.parts)
 
+-- an acknowledgement comes of the controller of a partition of the first stage, a want of a replica of it, for an edge to it
 abbrev pub IsAdmitted : IngressView → NodeId → Body → Type 0
 IsAdmitted i (node.Control stage part) (body.Ack edge upto) = (stage ≡ 1) × IsFor i part edge.stage edge.from edge.to × (upto < number_limit)
 IsAdmitted i (node.Replica stage part which) (body.Want edge number) = (stage ≡ 1) × IsFor i part edge.stage edge.from edge.to

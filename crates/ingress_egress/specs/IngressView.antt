@@ -45,9 +45,11 @@ new_producers parts (suc n) = new_producers parts n ++ new_producer parts n ∷ 
 abbrev pub producer_in : List ProducerView → ℕ → ProducerView
 producer_in producers q = slice_index_or producers q (new_producer 0 0)
 
+-- the producer of a source of ingress
 abbrev pub producer_at : IngressView → ℕ → ProducerView
 producer_at i q = producer_in i.producers q
 
+-- ingress with this producer of a source
 abbrev pub with_producer : IngressView → ℕ → ProducerView → IngressView
 with_producer i q y = record i { producers = slice_set i.producers q y }
 
@@ -118,10 +120,12 @@ source_due i = first_below (λ q. is_some (due_of (producer_at i q))) (length i.
 abbrev pub tuple_of : ℕ → Due → Item → (NodeId × Body)
 tuple_of q d item = (node.Replica 1 d.to (which_at d.copy), body.Tuple (record { stage = 0; from = q; to = d.to }) d.number item)
 
+-- the packet of an item that is due to a replica, if there is one
 abbrev pub tuples_of : ℕ → Due → Option Item → List (NodeId × Body)
 tuples_of q d None = []
 tuples_of q d (Some item) = tuple_of q d item ∷ []
 
+-- a source sends the item that is due, if one is
 abbrev pub sending_due : IngressView → ℕ → Option Due → WorkDone IngressView
 sending_due i q None = record { after = i; sent = []; worked = worked.Idle }
 sending_due i q (Some d) = record {
@@ -130,6 +134,7 @@ sending_due i q (Some d) = record {
   worked = worked.Did;
 }
 
+-- the first source that has something due sends it, if there is one
 abbrev pub sending_first : IngressView → Option ℕ → WorkDone IngressView
 sending_first i None = record { after = i; sent = []; worked = worked.Idle }
 sending_first i (Some q) = sending_due i q (due_of (producer_at i q))

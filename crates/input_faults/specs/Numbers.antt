@@ -13,6 +13,7 @@ is_between low high (Some n) = nat_le low n && nat_le n high
 abbrev pub is_number_from : ℕ → ℕ → Word → Bool
 is_number_from low high word = is_between low high (number_of word)
 
+-- whether there is a number, of this value
 abbrev pub is_equal : ℕ → Option ℕ → Bool
 is_equal number None = false
 is_equal number (Some n) = n == number
@@ -21,6 +22,7 @@ is_equal number (Some n) = n == number
 abbrev pub is_number : ℕ → Word → Bool
 is_number number word = is_equal number (number_of word)
 
+-- whether there is a number, within the bounds of a field
 abbrev pub is_small : Option ℤ → Bool
 is_small None = false
 is_small (Some z) = nat_le (unsigned_abs z) big

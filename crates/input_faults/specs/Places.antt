@@ -165,6 +165,7 @@ words_at place.Back = codes "back"
 words_at place.Return = codes "never, or a number from 1 to 1000000"
 words_at other = codes "nothing more"
 
+-- a number within limits, in words, where there are limits; else these words
 abbrev pub limits_text : Option (ℕ × ℕ) → List ℕ → List ℕ
 limits_text None names = names
 limits_text (Some limits) names = codes "a number from " ++ decimal limits.0 ++ codes " to " ++ decimal limits.1

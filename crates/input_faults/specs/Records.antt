@@ -30,6 +30,7 @@ unfoldable pub behind_records : ℕ → Left → Left
 behind_records zero left = left
 behind_records (suc n) left = behind_records n (behind_record left)
 
+-- a text of which nothing was read
 abbrev pub at_start : List ℕ → Left
 at_start text = record { state = state.StartRecord; text = text }
 
@@ -46,11 +47,12 @@ drop_ends (b ∷ bytes) = if is_end_byte b then drop_ends bytes else b ∷ bytes
 abbrev pub record_of : ℕ → List ℕ → List ℕ
 record_of number text = drop_ends (behind_records (number - 1) (at_start text)).text
 
--- the fields of the record with which a text begins
+-- the fields of a record that was read, if one was
 abbrev pub fields_read : Option Read → List (List ℕ)
 fields_read None = []
 fields_read (Some read) = read.0
 
+-- the fields of the record with which a text begins
 abbrev pub fields_in : List ℕ → List (List ℕ)
 fields_in text = fields_read (next_record default_config state.StartRecord [] [] text)
 

@@ -10,6 +10,7 @@ use Rattle.input_faults.specs.declared.scan.Effect.TheVariants as effect
 use Rattle.input_faults.specs.declared.scan.Stand.{Stand}
 use Rattle.input_faults.specs.declared.scan.Stand.TheVariants as stand
 
+-- the state of csv's machine for which a state of the scan stands
 abbrev pub state_of : Stand → State
 state_of stand.Between = state.StartRecord
 state_of stand.BehindReturn = state.AfterCr

@@ -38,6 +38,7 @@ start_of (suc before) line = word_end line + start_of before (drop (word_end lin
 
 -- ---- what the lines before have said
 
+-- no line before has said anything
 abbrev pub nothing_said : Before
 nothing_said = record { mark = false; hold = false; stages = 0; joins = false }
 

@@ -40,9 +40,11 @@ pushed b r = buffer (keep_last b.capacity (b.items ++ r ∷ [])) b.capacity
 abbrev pub sides_after : Sides → SidedRow → Sides
 sides_after s m = if m.left then record { left = pushed s.left m.row; right = s.right } else record { left = s.left; right = pushed s.right m.row }
 
+-- both sides of a key without rows, with room for n on each
 abbrev pub no_sides : ℕ → Sides
 no_sides n = record { left = buffer [] n; right = buffer [] n }
 
+-- both sides of a key after one more row; where the key had none before, each has room for n
 abbrev pub sides_with : ℕ → Option Sides → SidedRow → Sides
 sides_with n None m = sides_after (no_sides n) m
 sides_with n (Some s) m = sides_after s m
@@ -51,10 +53,11 @@ sides_with n (Some s) m = sides_after s m
 abbrev pub rows_of_side : Bool → List SidedRow → List SideRow
 rows_of_side left rows = map (λ m. m.row) (filter (λ m. if left then m.left else not m.left) rows)
 
--- the last n rows of each side, of all rows of a key, where there is one
+-- the last n rows of each side, of all rows of a key
 abbrev pub last_sides : ℕ → List SidedRow → Sides
 last_sides n rows = record { left = buffer (keep_last n (rows_of_side true rows)) n; right = buffer (keep_last n (rows_of_side false rows)) n }
 
+-- what is kept of all rows of a key: the last n rows of each side, and nothing where there is no row
 abbrev pub sides_of : ℕ → List SidedRow → Option Sides
 sides_of n [] = None
 sides_of n (m ∷ rows) = Some (last_sides n (m ∷ rows))
@@ -94,6 +97,7 @@ run k slot (r ∷ rows) = kept_at k slot r ∷ run k (slot + 1) rows
 abbrev pub told_sides : JoinKey → Sides → List Kept
 told_sides k s = run k 0 s.left.items ++ run k first_right_slot s.right.items
 
+-- what is kept of all keys, key by key
 abbrev pub all_told : List (JoinKey × Sides) → List Kept
 all_told kept = flat_map (λ e. told_sides e.0 e.1) kept
 
@@ -114,6 +118,7 @@ pub record AreSides (n : ℕ) (s : Sides) : Type 0 where
   pub right_fits : length s.right.items ≤ n
   pub some : 1 ≤ length s.left.items + length s.right.items
 
+-- the keys are in order, and each has some rows, at most n on either side
 abbrev pub AreRight : ℕ → List (JoinKey × Sides) → Type 0
 AreRight n es = IsSorted key_cmp es × All (AreSides n) (values_of es)
 
@@ -121,6 +126,7 @@ AreRight n es = IsSorted key_cmp es × All (AreSides n) (values_of es)
 abbrev pub IsShort : Sides → Type 0
 IsShort s = (length s.left.items ≤ max_join_rows) × (length s.right.items ≤ max_join_rows)
 
+-- the sides of an entry, if there is one, have no more rows than a join keeps at most
 abbrev pub IsShortFirst : Option (JoinKey × Sides) → Type 0
 IsShortFirst None = Unit {0}
 IsShortFirst (Some e) = IsShort e.1
@@ -129,26 +135,30 @@ IsShortFirst (Some e) = IsShort e.1
 abbrev pub IsJoin : ℕ → StoreView JoinKey Sides → Type 0
 IsJoin n s = (1 ≤ n) × (n ≤ max_join_rows) × AreRight n s.kept × IfSome s.old (AreRight n)
 
--- the first kept row of a key at a slot or above it
+-- the first of two values that is there
 abbrev pub or_else : {X : Type 0} → Option X → Option X → Option X
 or_else None o = o
 or_else (Some x) o = Some x
 
+-- the first kept row of a key at a slot or above it
 abbrev pub next_in : JoinKey → ℕ → Sides → Option Kept
 next_in k from s = or_else (option_map (kept_at k from) (slice_get s.left.items from)) (option_map (kept_at k (from - first_right_slot + first_right_slot)) (slice_get s.right.items (from - first_right_slot)))
 
+-- the keys above that of a place, and all keys where there is no place
 abbrev pub bound_after : Option (JoinKey × ℕ) → Bound JoinKey
 bound_after None = Unbounded
 bound_after (Some at) = Excluded at.0
 
--- the next kept row: of the same key, or the first one of a later key
+-- the next kept row of the same key
 abbrev pub same_key_after : Option (JoinKey × ℕ) → List (JoinKey × Sides) → Option Kept
 same_key_after None es = None
 same_key_after (Some at) es = option_and_then (next_in at.0 (at.1 + 1)) (lookup (is_at (key_cmp at.0)) es)
 
+-- the next row of the same key, of those that were kept when the watch began
 abbrev pub same_key_before : Option (JoinKey × ℕ) → Option (List (JoinKey × Sides)) → Option Kept
 same_key_before None old = None
 same_key_before (Some at) old = option_and_then (next_in at.0 (at.1 + 1)) (old_value key_cmp at.0 old)
 
+-- the next kept row: of the same key, or the first one of a later key
 abbrev pub next_after : Option (JoinKey × ℕ) → List (JoinKey × Sides) → Option Kept
 next_after after es = or_else (same_key_after after es) (option_and_then (λ e. next_in e.0 0 e.1) (first_from key_cmp (bound_after after) es))

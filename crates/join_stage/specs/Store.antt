@@ -43,6 +43,7 @@ module _ {K X : Type 0} (cmp : K → K → Ordering) where
   abbrev pub kept_before : List (K × X) → List (K × Option X) → List (K × X)
   kept_before kept images = flat_map (λ e. was e (lookup (is_at (cmp e.0)) images)) kept
 
+  -- what is kept, and under a watch what was kept when it began, by the images of what changed
   abbrev pub watched : List (K × X) → Option (List (K × Option X)) → StoreView K X
   watched kept images = record { kept = kept; old = option_map (kept_before kept) images }
 
@@ -54,6 +55,7 @@ module _ {K X : Type 0} (cmp : K → K → Ordering) where
   abbrev pub AreKnown : List (K × X) → List (K × Option X) → Type 0
   AreKnown kept images = (k : K) (x : X) → lookup (is_at (cmp k)) images ≡ Some (Some x) → IsSome (lookup (is_at (cmp k)) kept)
 
+  -- the keys that are kept are in order, and each that has an image with a value is among them
   abbrev pub IsStore : List (K × X) → Option (List (K × Option X)) → Type 0
   IsStore kept images = IsSorted kept × IfSome images (AreKnown kept)
 
@@ -65,8 +67,10 @@ module _ {K X : Type 0} (cmp : K → K → Ordering) where
   abbrev pub first_from : Bound K → List (K × X) → Option (K × X)
   first_from bound entries = first_where (λ e. is_from_start cmp bound e.0) entries
 
+  -- the first entry from a bound on, of what was kept when the watch began
   abbrev pub old_first : Bound K → Option (List (K × X)) → Option (K × X)
   old_first bound old = option_and_then (first_from bound) old
 
+  -- what was kept for a key when the watch began
   abbrev pub old_value : K → Option (List (K × X)) → Option X
   old_value k old = option_and_then (lookup (is_at (cmp k))) old

@@ -54,5 +54,6 @@ abbrev pub BeginsFrom : ℕ → List Stamped → Type 0
 BeginsFrom clock [] = Unit {0}
 BeginsFrom clock (s ∷ ss) = clock ≤ s.clock
 
+-- no log begins before this clock
 abbrev pub AllBeginFrom : ℕ → List Named → Type 0
 AllBeginFrom clock logs = Each (λ (l : Named). BeginsFrom clock l.1) logs

@@ -15,10 +15,14 @@ Word = List ℕ
 
 -- what happened in a lane, in a column
 pub record MarkView : Type 0 where
+  -- the column, from 0
   pub column : ℕ
   pub weight : Weight
+  -- how heavy its kind is beside others: 0 is the heaviest
   pub rank : ℕ
+  -- the letter that stands for it, which the key explains
   pub letter : Word
+  -- what happened, in words
   pub title : Word
 
 -- a lane: a cell for each column, and its marks
@@ -41,11 +45,16 @@ pub record LetterKeyView : Type 0 where
 -- lanes over columns of time, and a number that rises from column to column
 pub record ChartView : Type 0 where
   pub title : Word
+  -- the places of the scale
   pub ticks : List Tick
   pub lanes : List LaneView
+  -- what the number counts
   pub counted : Word
+  -- the number at each column's end
   pub steps : List ℕ
+  -- what the kinds of cells mean
   pub cells : List CellKeyView
+  -- what the letters mean, the heaviest kind first
   pub letters : List LetterKeyView
 
 -- what a mark shows

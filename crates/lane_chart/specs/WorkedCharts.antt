@@ -48,6 +48,7 @@ six_columns = record {
 abbrev pub run : Cell → (start end : ℕ) → Run
 run kind start end = record { cell = kind; start = start; end = end }
 
+-- what these charts, and parts of charts, come to as text and as SVG
 pub record WorkedCharts : Type 0 where
   -- the letter of a column is that of its heaviest mark
   pub as_text : chart_text six_columns ≡ lines (

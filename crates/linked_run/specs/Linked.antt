@@ -28,5 +28,6 @@ abbrev pub AreDistinct : List NodeName → Type 0
 AreDistinct [] = Unit {0}
 AreDistinct (n ∷ ns) = Each (λ m. is_node n.id m.id ≡ false) ns × AreDistinct ns
 
+-- the ids in these names
 abbrev pub ids_of : List NodeName → List NodeId
 ids_of names = map (λ m. m.id) names

@@ -31,6 +31,7 @@ abbrev pub history_in : {A : Type 0} → (A → NodeId) → List (A × List Stam
 history_in id [] n = []
 history_in id (p ∷ ps) n = if is_node (id p.0) n then p.1 else history_in id ps n
 
+-- the ids of these parts, in order
 abbrev pub ids_in : {A : Type 0} → (A → NodeId) → List (A × List Stamped) → List NodeId
 ids_in id parts = map (λ p. id p.0) parts
 
@@ -48,6 +49,7 @@ module _ {A : Type 0} (id : A → NodeId) (stands : PlanView → List Input → 
     pub sound : IsSound (flow_of plan inputs) reached
     pub stand : Each (λ p. stands plan inputs p.0 (reached.nodes (id p.0))) parts
 
+  -- every log of these histories reaches a state in which each node stands for its numbers
   abbrev pub IsJointCourse : List (A × List Stamped) → Type 0
   IsJointCourse parts = (log : List Logged) → IsLog (history_in id parts) log → IsReached parts log
 
@@ -106,6 +108,7 @@ module _ {A T : Type 0} (id : A → NodeId) where
   abbrev pub AreSettled : List (NodeView A T) → List (NodeView A T) → Type 0
   AreSettled all views = Each (λ v. Each (IsSettled all (id v.state)) v.ins) views
 
+  -- the own part of each node, with its history
   abbrev pub parts_of : List (NodeView A T) → List (A × List Stamped)
   parts_of [] = []
   parts_of (v ∷ vs) = (v.state, v.history) ∷ parts_of vs

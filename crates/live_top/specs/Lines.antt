@@ -6,5 +6,6 @@ use Rattle.std.specs.List.{after_first}
 abbrev pub own_line : List ℕ → List ℕ
 own_line line = codes "flux_live:" ++ after_first (λ b. b == 58) line
 
+-- what is said of words that have no form: the form that there is
 abbrev pub usage_line : List ℕ
 usage_line = codes "flux_live: usage: PLAN TRADES [SCRIPT]\n"

@@ -13,6 +13,7 @@ pub record Files : Type 0 where
   pub trades : Text
   pub script : Option Text
 
+-- the files of these names
 abbrev pub naming : (plan trades : Text) → (script : Option Text) → Files
 naming plan trades script = record { plan = plan; trades = trades; script = script }
 
@@ -48,5 +49,6 @@ course_over named = run_course named.plan named.trades (options_with named.scrip
 
 -- ---- as the code holds it
 
+-- the files that code has found words to name
 abbrev pub files_in : Named → Files
 files_in named = naming named.plan.now named.trades.now (text_in named.script)

@@ -25,16 +25,19 @@ use Rattle.look_course.specs.declared.answer.Ending.TheVariants.{Done, Faulty, W
 
 -- ---- what a file says, or its fault, with the place and what may stand there
 
+-- what the file of a plan says, or its fault
 abbrev pub plan_told : List ℕ → List ℕ → Reading PlanView
 plan_told = told_from max_plan_bytes plan_fault plan_from
 
+-- what the file of trades says, or its fault
 abbrev pub trades_told : List ℕ → List ℕ → Reading TradesView
 trades_told = told_from max_input_bytes trades_fault trades_from
 
--- of movements of which so many have room
+-- what the file of movements says, of which so many have room, or its fault
 abbrev pub cash_told : (room : ℕ) → List ℕ → List ℕ → Reading (List Row)
 cash_told room = told_from max_input_bytes (cash_fault room) (cash_from room)
 
+-- what the script for a plan says, or its fault
 abbrev pub script_told : PlanView → List ℕ → List ℕ → Reading (List Order)
 script_told plan = told_from max_script_bytes (script_fault plan) (script_from plan)
 
@@ -74,6 +77,7 @@ abbrev pub is_faulty : {A : Type 0} → Reading A → Bool
 is_faulty (Ok value) = false
 is_faulty (Err line) = true
 
+-- whether a file is named that has a fault
 abbrev pub is_named_faulty : {A : Type 0} → Named A → Bool
 is_named_faulty None = false
 is_named_faulty (Some said) = is_faulty said
@@ -87,6 +91,7 @@ abbrev pub fault_line : {A : Type 0} → Reading A → List ℕ
 fault_line (Ok value) = []
 fault_line (Err line) = line
 
+-- the line of the fault of a file that is named
 abbrev pub named_line : {A : Type 0} → Named A → List ℕ
 named_line None = []
 named_line (Some said) = fault_line said
@@ -114,11 +119,13 @@ abbrev pub judged : Reading PlanView → Given → AnswerView
 judged (Err line) given = answer Faulty (fault_lines given)
 judged (Ok plan) given = if has_fault given then answer Faulty (fault_lines given) else sound_answer plan (accepted given.trades) (accepted given.script)
 
+-- what is said of all files
 abbrev pub judgement : Given → AnswerView
 judgement given = judged given.plan given
 
 -- ---- the course
 
+-- what these files say
 abbrev pub given : Reading PlanView → Named TradesView → Named (List Row) → Named (List Order) → Given
 given plan trades cash script = record { plan = plan; trades = trades; cash = cash; script = script }
 
@@ -126,10 +133,11 @@ given plan trades cash script = record { plan = plan; trades = trades; cash = ca
 abbrev pub checks_script : Option (List ℕ) → Reading PlanView → Named TradesView → Named (List Row) → Way AnswerView
 checks_script script plan trades cash next = tries_script plan script (λ orders. next (judgement (given plan trades cash orders)))
 
--- before it the movements, and before them the trades
+-- before the script come the movements
 abbrev pub checks_cash : (cash script : Option (List ℕ)) → Reading PlanView → Named TradesView → Way AnswerView
 checks_cash cash script plan trades next = tries_cash plan (room_beside trades) cash (λ movements. checks_script script plan trades movements next)
 
+-- before the movements come the trades
 abbrev pub checks_trades : (trades cash script : Option (List ℕ)) → Reading PlanView → Way AnswerView
 checks_trades trades cash script plan next = tries_named max_input_bytes trades_told trades (λ them. checks_cash cash script plan them next)
 
@@ -139,5 +147,6 @@ check_way plan trades cash script next = tries max_plan_bytes plan_told plan (λ
 
 -- ---- as the code holds it
 
+-- what the files say that code has read
 abbrev pub given_of : Said → Given
 given_of said = given (tried_of said.plan) (named_of said.trades) (named_of said.cash) (named_of said.script)

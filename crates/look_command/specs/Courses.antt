@@ -57,6 +57,7 @@ timeline_way plan trades events cash svg next = with_feed plan trades cash (λ f
 
 -- ---- all commands
 
+-- the course of the command that a request asks for
 abbrev pub way_of : Request → Way AnswerView
 way_of (Check plan trades cash script) = check_way plan trades cash script
 way_of (Story plan trades events cash script) = story_way plan trades events cash script

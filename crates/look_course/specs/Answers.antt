@@ -9,6 +9,7 @@ pub record AnswerView : Type 0 where
   pub text : List ℕ
   pub ending : Ending
 
+-- the answer with this text, after which a command ends so
 abbrev pub answer : Ending → List ℕ → AnswerView
 answer ending text = record { text = text; ending = ending }
 
@@ -20,5 +21,6 @@ status_of Faulty = 3
 
 -- ---- as the code holds it
 
+-- the answer that code has come to
 abbrev pub answer_of : Answer → AnswerView
 answer_of a = answer a.ending a.text.items

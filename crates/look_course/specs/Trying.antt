@@ -21,10 +21,12 @@ tries_named most reading (Some name) next = tries most reading name (λ said. ne
 
 -- ---- as the code holds it
 
+-- what a file says, or the line of its fault, that code has read
 abbrev pub tried_of : {A : Type 0} → Result A (String Global) → Reading A
 tried_of (Ok value) = Ok value
 tried_of (Err line) = Err (string_bytes line)
 
+-- what a file says, or the line of its fault, that code has read if it is named
 abbrev pub named_of : {A : Type 0} → Option (Result A (String Global)) → Named A
 named_of = option_map tried_of
 

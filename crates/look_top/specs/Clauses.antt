@@ -74,12 +74,13 @@ abbrev pub Settles : Option Names → List (List ℕ) → AnswerView → Type 0
 Settles None words answer = ⊥
 Settles (Some named) words answer = AsksFor words (λ way. (calls : List Call) × ((next : AnswerView → Course) → Leads (Some named) (way next) calls (next answer)))
 
--- the files tell what they hold, and of that the words come to a refusal
+-- of what these names hold the words come to a refusal
 pub record RejectsBy (named : Names) (words : List (List ℕ)) : Type 0 where
   pub line : List ℕ
   pub calls : List Call
   pub leads : AsksFor words (λ way. (next : AnswerView → Course) → Leads (Some named) (way next) calls (Refuses line))
 
+-- the files tell what they hold, and of that the words come to a refusal
 abbrev pub Rejects : Option Names → List (List ℕ) → Type 0
 Rejects None words = ⊥
 Rejects (Some named) words = RejectsBy named words
@@ -116,12 +117,13 @@ StopsBefore before after words stop.CannotWrite = ⊥
 StopsBefore before after words (stop.PairLost stage part line) = ⊥
 StopsBefore before after words stop.OutOfMemory = StopsShort before after words
 
--- why a text was not put whole
+-- a text was put in part, and the count of faults rose
 pub record IsPutPart (old new : SinkTold) (text : List ℕ) : Type 0 where
   pub takes : TakesPart old.taken new.taken text
   pub offers : OffersRests old.offered new.offered text
   pub rose : Rose old.faults new.faults
 
+-- why a text was not put whole: only because it could not be written
 abbrev pub StopsPut : SinkTold → SinkTold → List ℕ → Stop → Type 0
 StopsPut old new text stop.Usage = ⊥
 StopsPut old new text (stop.Refused line) = ⊥

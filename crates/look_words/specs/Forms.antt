@@ -41,6 +41,7 @@ form (command ∷ words) = option_and_then (request command) (given words)
 
 -- ---- as the code holds it
 
+-- the request that a command says
 abbrev pub request_of : LookCommand → Request
 request_of (command.Check plan trades cash script) = Check plan.now (text_in trades) (text_in cash) (text_in script)
 request_of (command.Story plan trades events cash script) = Story plan.now trades.now events.now (text_in cash) (text_in script)

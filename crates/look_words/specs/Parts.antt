@@ -25,24 +25,29 @@ in_place name parts (Some a) None third = Some (record parts { second = Some nam
 in_place name parts (Some a) (Some b) None = Some (record parts { third = Some name })
 in_place name parts (Some a) (Some b) (Some c) = None
 
+-- one more name, in the first place that is free
 abbrev pub name_given : Text → Parts → Option Parts
 name_given name parts = in_place name parts parts.first parts.second parts.third
 
--- the file of `--cash` and that of `--script` are given once, and `--svg`, which has no value
+-- the file of `--cash`, which is given once
 abbrev pub cash_given : Text → Parts → Option Parts
 cash_given file parts = if is_plain file && not (is_some parts.cash) then Some (record parts { cash = Some file }) else None
 
+-- the file of `--script`, which is given once
 abbrev pub script_given : Text → Parts → Option Parts
 script_given file parts = if is_plain file && not (is_some parts.script) then Some (record parts { script = Some file }) else None
 
+-- `--svg`, which is given once and has no value
 abbrev pub svg_given : Option Text → Parts → Option Parts
 svg_given value parts = if not (is_some value) && not parts.svg then Some (record parts { svg = true }) else None
 
 -- ---- as the code holds it
 
+-- the text that code refers to, if there is one
 abbrev pub text_in : Option (Bor Text) → Option Text
 text_in = option_map (λ text. text.now)
 
+-- the parts that code has found
 abbrev pub parts_in : FoundParts → Parts
 parts_in parts = record {
   first = text_in parts.first;
@@ -53,5 +58,6 @@ parts_in parts = record {
   svg = parts.svg;
 }
 
+-- an option that code has found: its name, and its value, if it has one
 abbrev pub named_of : Named → Text × Option Text
 named_of named = (named.name.now, text_in named.value)

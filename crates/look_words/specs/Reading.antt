@@ -12,12 +12,15 @@ pub record Reading : Type 0 where
   pub parts : Parts
   pub awaited : Awaited
 
+-- a reading with these parts, behind which this is awaited
 abbrev pub reading : Awaited → Parts → Reading
 reading awaited parts = record { parts = parts; awaited = awaited }
 
+-- the reading before the first word
 abbrev pub start : Reading
 start = reading Any no_parts
 
+-- a reading with these parts, if there are any, behind which a name or an option may come
 abbrev pub settled : Option Parts → Option Reading
 settled = option_map (reading Any)
 
@@ -34,28 +37,32 @@ after_option name value parts =
     else if bytes_eq name (codes "script") then file_given script_given Script value parts
     else None
 
+-- after a word where a name or an option may come: a plain word is a name
 abbrev pub after_any : Text → Parts → Option Reading
 after_any word parts = if is_plain word then settled (name_given word parts) else option_and_then (λ option. after_option option.0 option.1 parts) (option_of word)
 
+-- after a word where this was awaited
 abbrev pub after_awaited : Awaited → Text → Parts → Option Reading
 after_awaited Any word parts = after_any word parts
 after_awaited Cash word parts = settled (cash_given word parts)
 after_awaited Script word parts = settled (script_given word parts)
 
--- after one more word, and after all of them
+-- after one more word
 abbrev pub after_word : Text → Reading → Option Reading
 after_word word r = after_awaited r.awaited word r.parts
 
+-- after these words
 abbrev pub after_words : List Text → Reading → Option Reading
 after_words [] r = Some r
 after_words (word ∷ words) r = option_and_then (after_words words) (after_word word r)
 
--- at the end no option waits for its file
+-- the parts, where no option waits for its file
 abbrev pub settled_parts : Awaited → Parts → Option Parts
 settled_parts Any parts = Some parts
 settled_parts Cash parts = None
 settled_parts Script parts = None
 
+-- the parts at the end, where no option waits for its file
 abbrev pub parts_at_end : Reading → Option Parts
 parts_at_end r = settled_parts r.awaited r.parts
 
@@ -65,5 +72,6 @@ given words = option_and_then parts_at_end (after_words words start)
 
 -- ---- as the code holds it
 
+-- the reading that code has come to
 abbrev pub reading_in : FoundReading → Reading
 reading_in r = reading r.awaited (parts_in r.parts)

@@ -23,19 +23,23 @@ BothWays P a b = P a b × P b a
 abbrev pub InPairs : (Partition → Side → Side → Type 0) → State → Type 0
 InPairs P s = (p : Partition) → 1 ≤ p.stage → BothWays (P p) (side_of s p A) (side_of s p B)
 
--- the parts that speak of pairs
+-- in each pair, incarnations are in order
 abbrev pub IncarnationsAreInOrder : Flow → State → Type 0
 IncarnationsAreInOrder f s = InPairs (λ p a b. AreIncarnationsInOrder a b) s
 
+-- in each pair, reports are true
 abbrev pub ReportsAreTrue : Flow → State → Type 0
 ReportsAreTrue f s = InPairs (λ p a b. AreReportsTrue a b) s
 
+-- in each pair, the reports that are counted are covered by marks
 abbrev pub CountedAreCovered : Flow → State → Type 0
 CountedAreCovered f s = InPairs (λ p a b. AreCountedCovered a b) s
 
+-- in each pair, there is one move for each incarnation
 abbrev pub MovesAreOne : Flow → State → Type 0
 MovesAreOne f s = InPairs (IsOneMove f) s
 
+-- in each pair, the reports of a newcomer are covered by its move
 abbrev pub CatchingAreCovered : Flow → State → Type 0
 CatchingAreCovered f s = InPairs (λ p a b. AreCatchingCovered a b) s
 
@@ -64,33 +68,38 @@ IsKept uses part = (plan : PlanView) (inputs : List Input) → IsPlan plan → (
 abbrev pub Nothing : Flow → State → Type 0
 Nothing f s = Unit {0}
 
--- messages go between nodes of the plan, and stand on links that carry them: either is kept by itself
+-- that messages go between nodes of the plan is kept by itself
 abbrev pub NodesAreKept : Type 0
 NodesAreKept = IsKept Nothing AreBetweenNodes
 
+-- that messages stand on links that carry them is kept by itself
 abbrev pub LinksAreKept : Type 0
 LinksAreKept = IsKept Nothing AreOnTheirLinks
 
--- numbers are within lengths, what is acknowledged is at most reported, and incarnations are in order: each uses the links alone
+-- that numbers are within lengths is kept, and uses the links alone
 abbrev pub LengthsAreKept : Type 0
 LengthsAreKept = IsKept AreOnTheirLinks IsWithinLengths
 
+-- that what is acknowledged is at most reported is kept, and uses the links alone
 abbrev pub AcknowledgingIsKept : Type 0
 AcknowledgingIsKept = IsKept AreOnTheirLinks IsAckedAtMostReported
 
+-- that incarnations are in order is kept, and uses the links alone
 abbrev pub IncarnationsAreKept : Type 0
 IncarnationsAreKept = IsKept AreOnTheirLinks IncarnationsAreInOrder
 
--- reports are true, and there is one move for a target: either uses the links and the incarnations
+-- that reports are true is kept, and uses the links and the incarnations
 abbrev pub ReportsAreKept : Type 0
 ReportsAreKept = IsKept (λ f s. AreOnTheirLinks f s × IncarnationsAreInOrder f s) ReportsAreTrue
 
+-- that there is one move for each incarnation is kept, and uses the links and the incarnations
 abbrev pub MovesAreKept : Type 0
 MovesAreKept = IsKept (λ f s. AreOnTheirLinks f s × IncarnationsAreInOrder f s) MovesAreOne
 
--- counted reports, and those of a newcomer, are covered: either uses the other, the links, the incarnations and the reports
+-- that counted reports are covered is kept, and uses the links, the incarnations, the reports, and what covers a newcomer's
 abbrev pub CountingIsKept : Type 0
 CountingIsKept = IsKept (λ f s. AreOnTheirLinks f s × IncarnationsAreInOrder f s × ReportsAreTrue f s × CatchingAreCovered f s) CountedAreCovered
 
+-- that a newcomer's reports are covered is kept, and uses the links, the incarnations, the reports, and what covers counted ones
 abbrev pub CatchingIsKept : Type 0
 CatchingIsKept = IsKept (λ f s. AreOnTheirLinks f s × IncarnationsAreInOrder f s × ReportsAreTrue f s × CountedAreCovered f s) CatchingAreCovered

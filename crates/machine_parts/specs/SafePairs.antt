@@ -21,13 +21,15 @@ use Rattle.pair_machine.specs.Sound.{IsRunning, IsServed}
 use Rattle.pair_machine.specs.declared.order.Order.{Order}
 use Rattle.machine_parts.specs.Parts.{IncarnationsAreInOrder}
 
--- the script has an order for the replica: to fail, or to stop
+-- the script has such an order for the replica: to fail, or to stop
 abbrev pub HasOrder : Bool → List Order → NodeId → Type 0
 HasOrder kill script n = (o : Order) × Among o script × (o.node ≡ n) × (o.kill ≡ kill)
 
+-- the script has an order for the replica to fail
 abbrev pub MayFail : List Order → NodeId → Type 0
 MayFail script n = HasOrder true script n
 
+-- the script has an order for the replica to stop
 abbrev pub MayStop : List Order → NodeId → Type 0
 MayStop script n = HasOrder false script n
 
@@ -58,6 +60,7 @@ pub record IsSafePair (script : List Order) (s : State) (p : Partition) : Type 0
   pub runs : (w : Which) → (MayFail script (replica_at p w) → ⊥) → RunsWhereUp (side_of s p w)
   pub up : OneIsUp script s p
 
+-- the four facts hold of each pair
 abbrev pub ArePairsSafe : List Order → State → Type 0
 ArePairsSafe script s = (p : Partition) → 1 ≤ p.stage → IsSafePair script s p
 

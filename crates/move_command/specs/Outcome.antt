@@ -15,6 +15,7 @@ use Rattle.move_command.specs.Text.{move_text}
 abbrev pub move_moves : List ℕ → PlanView → TradesView → Course
 move_moves moves plan trades = reads max_moves_bytes (moves_from plan) moves (λ shifts. Writes (move_text plan trades shifts))
 
+-- before the moves come the trades
 abbrev pub move_trades : (trades moves : List ℕ) → PlanView → Course
 move_trades trades moves plan = reads max_input_bytes trades_from trades (move_moves moves plan)
 
@@ -22,5 +23,6 @@ move_trades trades moves plan = reads max_input_bytes trades_from trades (move_m
 abbrev pub move_plan : (plan trades moves : List ℕ) → PlanView → Course
 move_plan plan trades moves it = if is_by_key it then move_trades trades moves it else Refuses (not_by_key_line plan)
 
+-- the course of `move`: the plan is read first
 abbrev pub move_course : (plan trades moves : List ℕ) → Course
 move_course plan trades moves = reads max_plan_bytes plan_from plan (move_plan plan trades moves)

@@ -10,17 +10,19 @@ use Rattle.flux_producer.specs.ProducerView.{ProducerView, buffer_at}
 abbrev pub used_of : MergeView → ℕ → ℕ
 used_of m q = mark_of m q - length (waiting_of m q)
 
--- the mark of an in-edge, and what waits on it
+-- the mark of an in-edge, as an entry
 abbrev pub mark_entry : MergeView → ℕ → List Entry
 mark_entry m q = entry.Mark q (mark_of m q) ∷ []
 
+-- what waits on an in-edge, as entries
 abbrev pub head_entries : MergeView → ℕ → List Entry
 head_entries m q = numbered (entry.Head q) (used_of m q) (waiting_of m q)
 
--- the numbers of an out-edge, and what is kept for it
+-- the numbers of an out-edge, as an entry
 abbrev pub low_entry : ProducerView → ℕ → List Entry
 low_entry p t = entry.Low t (buffer_at p t).low (buffer_at p t).produced ∷ []
 
+-- what is kept for an out-edge, as entries
 abbrev pub kept_entries : ProducerView → ℕ → List Entry
 kept_entries p t = numbered (entry.Kept t) (buffer_at p t).low (buffer_at p t).items
 

@@ -73,6 +73,7 @@ module _ (plan : PlanView) (rows : List Input) (p : Partition) where
     abbrev pub ReportsSo : Type 0
     ReportsSo = ConsumerStands plan rows p x y → edge_in (report_of y) ≡ untold (flow_of plan rows) p x
 
+    -- a report is that of the machine, and telling it is the machine's
     abbrev pub Tells : Type 0
     Tells = (report : ℕ × ℕ) → report_of y ≡ Some report → ConsumerStands plan rows p x y → TellsSo plan rows p x y report.0 report.1
 
@@ -89,5 +90,6 @@ pub record ConsumerFollows (plan : PlanView) (rows : List Input) (p : Partition)
   pub reports : (x : Consumer) (y : ConsumerView) → ReportsSo plan rows p x y
   pub tells : (x : Consumer) (y : ConsumerView) → Tells plan rows p x y
 
+-- each call of a consumer in code is the machine's, of every partition of every plan
 abbrev pub ConsumersFollow : Type 0
 ConsumersFollow = (plan : PlanView) (rows : List Input) (p : Partition) → ConsumerFollows plan rows p

@@ -12,10 +12,11 @@ use Rattle.pair_machine.specs.Numbers.{Partition, Producer, out_edge}
 pub use Rattle.pair_machine.specs.Numbers.{copy_of, which_at}
 use Rattle.pair_machine.specs.Producers.{Due, copies}
 
--- what code says is due, as the machine has it
+-- the sending that code says is due, as the machine has it
 abbrev pub due_in : Sending → Due
 due_in d = record { to = d.to; copy = d.copy; number = d.number }
 
+-- the sending that code says is due, if any is, as the machine has it
 abbrev pub any_due_in : Option Sending → Option Due
 any_due_in None = None
 any_due_in (Some d) = Some (due_in d)

@@ -82,6 +82,7 @@ module _ (f : Flow) (edges : EdgeId → List Item) (p : Partition) where
         → (i : Item) × (buffer.item_at (buffer_at y d.to) d.number ≡ Some i)
     pub sent : ProducerStands f edges p made (machine.sent_on x (due_in d)) (sent_on y d.to d.copy)
 
+  -- whatever is due has an item of its edge, and sending it is the machine's
   abbrev pub Sends : Type 0
   Sends = (made : ℕ → ℕ) (x : Producer) (y : ProducerView) (d : Sending) → due_of y ≡ Some d → ProducerStands f edges p made x y → SendsDue made x y d
 
@@ -98,5 +99,6 @@ pub record ProducerFollows (f : Flow) (edges : EdgeId → List Item) (p : Partit
   pub due : (made : ℕ → ℕ) (x : Producer) (y : ProducerView) → IsDue f edges p made x y
   pub sends : Sends f edges p
 
+-- each call of a producer in code is the machine's, of every partition, whatever the edges hold
 abbrev pub ProducersFollow : Type 0
 ProducersFollow = (f : Flow) (edges : EdgeId → List Item) (p : Partition) → f.replicas ≤ max_copies → ProducerFollows f edges p

@@ -72,6 +72,7 @@ IsOneCatching c = (c.a.status ≡ status.Catching) ⊎ (c.b.status ≡ status.Ca
 
 -- ---- the machine's numbers
 
+-- the partition of this stage that has this number
 abbrev pub partition_at : ℕ → ℕ → Partition
 partition_at stage part = record { stage = stage; part = part }
 
@@ -83,6 +84,7 @@ partition_of c = partition_at c.stage c.part
 abbrev pub numbers_in : List ℕ → ℕ → ℕ
 numbers_in xs q = slice_index xs q
 
+-- what a controller knows of a replica, in the machine's numbers
 abbrev pub watched_numbers : WatchedView → Watched
 watched_numbers h = record { status = h.status; inc = h.inc; reports = numbers_in h.reports; stop = h.stop; back = h.back }
 

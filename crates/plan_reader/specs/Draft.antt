@@ -48,9 +48,11 @@ drafted_plan lines = do
 
 -- ---- limits
 
+-- a number of rows to a mark that a plan may set
 abbrev pub IsMark : ℕ → Type 0
 IsMark n = (1 ≤ n) × (n ≤ max_mark)
 
+-- a number of items that an edge of ingress may be allowed to hold
 abbrev pub IsHold : ℕ → Type 0
 IsHold n = (min_hold ≤ n) × (n ≤ max_hold)
 

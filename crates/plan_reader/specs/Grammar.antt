@@ -21,6 +21,7 @@ abbrev pub valued : {A : Type 0} → Option A → List Word → Read A Fault
 valued None words = Err fault.Number
 valued (Some n) words = Ok (n, words)
 
+-- the number that the next word says
 unfoldable pub number_at : List Word → Read ℕ Fault
 number_at words = do
   w ← word_or fault.Grammar words
@@ -46,6 +47,7 @@ abbrev pub listed : {A : Type 0} → Option A → List Word → Read A Fault
 listed None words = Err fault.UnknownWord
 listed (Some x) words = Ok (x, words)
 
+-- the column that a word names
 abbrev pub column_named : Word → Option Column
 column_named w =
     if bytes_eq w (codes "time") then Some column.Time
@@ -55,11 +57,13 @@ column_named w =
     else if bytes_eq w (codes "value") then Some column.Value
     else None
 
+-- the column that the next word names
 unfoldable pub column_at : List Word → Read Column Fault
 column_at words = do
   w ← word_or fault.Grammar words
   listed (column_named w.0) w.1
 
+-- what a key is made of, by its name: the account, the symbol, or both
 abbrev pub by_named : Word → Option By
 by_named w =
     if bytes_eq w (codes "account") then Some by.Account
@@ -67,11 +71,13 @@ by_named w =
     else if bytes_eq w (codes "both") then Some by.Both
     else None
 
+-- what the next word says that a key is made of
 unfoldable pub by_at : List Word → Read By Fault
 by_at words = do
   w ← word_or fault.Grammar words
   listed (by_named w.0) w.1
 
+-- the comparison that a sign stands for
 abbrev pub compare_named : Word → Option Compare
 compare_named w =
     if bytes_eq w (codes "<") then Some compare.Less
@@ -82,6 +88,7 @@ compare_named w =
     else if bytes_eq w (codes ">") then Some compare.Greater
     else None
 
+-- the comparison whose sign is the next word
 unfoldable pub compare_at : List Word → Read Compare Fault
 compare_at words = do
   w ← word_or fault.Grammar words

@@ -16,6 +16,7 @@ fault_at line fault.Range = error.Range line
 fault_at line fault.TooMany = error.TooMany line
 fault_at line fault.JoinNotLast = error.JoinNotLast line
 
+-- the text that says why a plan is refused
 abbrev pub plan_fault : PlanError → List ℕ
 plan_fault (error.Grammar line) = at_line line (codes "grammar")
 plan_fault (error.UnknownWord line) = at_line line (codes "unknown word")

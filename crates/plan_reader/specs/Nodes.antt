@@ -43,18 +43,21 @@ are_neighbours plan before after = stage_of_node plan after == stage_of_node pla
 
 -- ---- who produces, consumes and acknowledges
 
+-- whether a node is one of the two replicas of a pair
 abbrev pub is_replica : NodeId → Bool
 is_replica node.Ingress = false
 is_replica (node.Replica stage part which) = true
 is_replica (node.Control stage part) = false
 is_replica node.Egress = false
 
+-- whether a node produces items: ingress does, and each replica
 abbrev pub is_producer : NodeId → Bool
 is_producer node.Ingress = true
 is_producer (node.Replica stage part which) = true
 is_producer (node.Control stage part) = false
 is_producer node.Egress = false
 
+-- whether a node consumes items: each replica does, and egress
 abbrev pub is_consumer : NodeId → Bool
 is_consumer node.Ingress = false
 is_consumer (node.Replica stage part which) = true
@@ -68,6 +71,7 @@ acknowledges (node.Replica stage part which) = false
 acknowledges (node.Control stage part) = true
 acknowledges node.Egress = true
 
+-- whether these are the two replicas of a pair, and not one of them twice
 abbrev pub are_partners : Which → Which → Bool
 are_partners which.A which.A = false
 are_partners which.A which.B = true

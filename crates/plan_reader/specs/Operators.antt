@@ -11,31 +11,37 @@ use Rattle.plan_reader.specs.Grammar.{by_at, comparison_at, key_and_number_at, n
 use Rattle.plan_reader.specs.declared.error.Fault.{Fault}
 use Rattle.plan_reader.specs.declared.error.Fault.TheVariants as fault
 
+-- the settings of a `keep`: the comparison that rows have to pass
 unfoldable pub keep_at : List Word → Read OpSpec Fault
 keep_at words = do
   test ← comparison_at words
   Ok (op.Keep test.0.0 test.0.1 test.0.2, test.1)
 
+-- the settings of a `total`: its key
 unfoldable pub total_at : List Word → Read OpSpec Fault
 total_at words = do
   by ← by_at words
   Ok (op.Total by.0, by.1)
 
+-- the settings of a `last`: its key, and how many rows of each key it sums
 unfoldable pub last_at : List Word → Read OpSpec Fault
 last_at words = do
   rows ← key_and_number_at 1 max_last_rows words
   Ok (op.Last rows.0.0 rows.0.1, rows.1)
 
+-- the settings of a `window`: its key, and its width in seconds
 unfoldable pub window_at : List Word → Read OpSpec Fault
 window_at words = do
   width ← key_and_number_at 1 (unsigned_abs max_window_seconds) words
   Ok (op.Window width.0.0 (pos width.0.1), width.1)
 
+-- the settings of a `crossing`: its key, and its limit in cents
 unfoldable pub crossing_at : List Word → Read OpSpec Fault
 crossing_at words = do
   limit ← key_and_number_at 0 big words
   Ok (op.Crossing limit.0.0 (pos limit.0.1), limit.1)
 
+-- the settings of a `join`: its key, its width in seconds, how many rows of each side it keeps, and which rows are left
 unfoldable pub join_at : List Word → Read OpSpec Fault
 join_at words = do
   width ← key_and_number_at 1 (unsigned_abs max_window_seconds) words

@@ -17,6 +17,7 @@ use Rattle.plan_reader.specs.declared.stage.Stage.{Stage}
 
 -- ---- words
 
+-- the word for a column
 abbrev pub column_name : Column → Word
 column_name column.Time = codes "time"
 column_name column.Account = codes "account"
@@ -24,11 +25,13 @@ column_name column.Symbol = codes "symbol"
 column_name column.Qty = codes "qty"
 column_name column.Value = codes "value"
 
+-- the word for what a key is made of
 abbrev pub by_name : By → Word
 by_name by.Account = codes "account"
 by_name by.Symbol = codes "symbol"
 by_name by.Both = codes "both"
 
+-- the sign of a comparison
 abbrev pub compare_name : Compare → Word
 compare_name compare.Less = codes "<"
 compare_name compare.AtMost = codes "<="
@@ -37,6 +40,7 @@ compare_name compare.Unequal = codes "!="
 compare_name compare.AtLeast = codes ">="
 compare_name compare.Greater = codes ">"
 
+-- the words of an operator: its name, and its settings behind it
 abbrev pub op_words : OpSpec → List Word
 op_words (op.Keep column compare limit) = codes "keep" ∷ column_name column ∷ compare_name compare ∷ signed_decimal limit ∷ []
 op_words (op.Total by) = codes "total" ∷ by_name by ∷ []

@@ -21,6 +21,7 @@ use Rattle.replay_command.specs.Replaying.{RefusedAt, refused_text, replayed}
 abbrev pub events_from : PlanView → List ℕ → List ℕ → Reading (List Lined)
 events_from plan name bytes = or_line events_fault name (events_of plan bytes)
 
+-- the numbers of a plan, with the inputs that were read for it
 abbrev pub flow_for : FeedView → Flow
 flow_for feed = flow_of feed.plan feed.inputs
 
@@ -37,9 +38,10 @@ writes_state events feed (Err refused) = Refuses (line_of events (refused_text r
 abbrev pub replays : List ℕ → FeedView → List Lined → Course
 replays events feed lines = writes_state events feed (replayed (flow_for feed) lines opening)
 
--- the events of a file
+-- the events of a file are read, and then replayed
 abbrev pub replays_file : List ℕ → FeedView → Course
 replays_file events feed = reads max_events_bytes (events_from feed.plan) events (replays events feed)
 
+-- the course of `replay`
 abbrev pub replay_course : (plan trades events : List ℕ) → Option (List ℕ) → Course
 replay_course plan trades events cash = with_feed plan trades cash (replays_file events)

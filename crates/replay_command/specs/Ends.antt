@@ -5,6 +5,7 @@ use Rattle.command_course.specs.Course.{Course, Refuses}
 use Rattle.command_course.specs.declared.stop.Stop.{Stop}
 use Rattle.command_course.specs.declared.stop.Stop.TheVariants as stop
 
+-- a course that reads nothing more stops so: at its refusal, or for want of memory
 abbrev pub StopsIn : Course → Stop → Type 0
 StopsIn course stop.Usage = ⊥
 StopsIn course (stop.Refused line) = course ≡ Refuses (string_bytes line)

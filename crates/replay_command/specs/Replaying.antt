@@ -19,6 +19,7 @@ abbrev pub stepped : ℕ → Result State Refusal → Result State RefusedAt
 stepped line (Ok s) = Ok s
 stepped line (Err why) = Err (record { line = line; why = why })
 
+-- what comes after a state that was reached; a refusal stays
 abbrev pub then_on : (State → Result State RefusedAt) → Result State RefusedAt → Result State RefusedAt
 then_on next (Ok s) = next s
 then_on next (Err refused) = Err refused
@@ -30,6 +31,7 @@ replayed f (e ∷ events) s = then_on (replayed f events) (stepped e.line (step 
 
 -- ---- what is said of an event that is refused
 
+-- the text that says why an event is no step
 abbrev pub refusal_text : Refusal → List ℕ
 refusal_text (NotSent link index sent) = codes "not sent, index " ++ decimal index ++ codes ", sent " ++ decimal sent
 refusal_text NothingDue = codes "nothing due"

@@ -56,6 +56,7 @@ pub record IsGathering (role : Role) (g : NewcomerView) : Type 0 where
   pub held : AllHeldTimely g.held
   pub taken : All IsTimelyEntry g.taken
 
+-- what a replica has in its mode is right for its partition
 abbrev pub IsPhase : Role → Phase → Type 0
 IsPhase role (phase.Running r) = IsRunning role r
 IsPhase role (phase.Gathering g) = IsGathering role g
@@ -70,5 +71,6 @@ pub record IsRole (role : Role) : Type 0 where
   pub op : IsSpec role.op
   pub parts : HasParts role.next
 
+-- a replica of some partition, with what is right for it there
 abbrev pub IsReplica : ReplicaView → Type 0
 IsReplica v = IsRole v.role × IsPhase v.role v.phase

@@ -41,23 +41,25 @@ mode_in (phase.Running r) = mode.Running
 mode_in (phase.Gathering g) = mode.Gathering
 mode_in (phase.Gone inc) = mode.Gone
 
--- what it has where it runs, and where it gathers
+-- what a replica has that runs
 abbrev pub running_in : Phase → Option Running
 running_in (phase.Running r) = Some r
 running_in (phase.Gathering g) = None
 running_in (phase.Gone inc) = None
 
+-- the newcomer of a replica that gathers
 abbrev pub newcomer_in : Phase → Option NewcomerView
 newcomer_in (phase.Running r) = None
 newcomer_in (phase.Gathering g) = Some g
 newcomer_in (phase.Gone inc) = None
 
--- how many items it has merged, and whom it has served; where it doesn't run, none
+-- how many items a replica has merged; where it doesn't run, none
 abbrev pub count_in : Phase → ℕ
 count_in (phase.Running r) = r.consumer.merge.count
 count_in (phase.Gathering g) = 0
 count_in (phase.Gone inc) = 0
 
+-- the greatest incarnation of its partner that a replica has served; where it doesn't run, 0
 abbrev pub served_in : Phase → ℕ
 served_in (phase.Running r) = r.served
 served_in (phase.Gathering g) = 0
@@ -145,6 +147,7 @@ abbrev pub wants_by : Partition → Took → Entry → List (NodeId × Body)
 wants_by p took.Taken (entry.Mark q upto) = wants_of p q (upto + 1)
 wants_by p took e = []
 
+-- what a replica that gathers wants for a chunk: where it is the next of its move, and has a mark, the items above that mark
 abbrev pub wants_in : Partition → ℕ → ℕ → Entry → Phase → List (NodeId × Body)
 wants_in p inc number e (phase.Running r) = []
 wants_in p inc number e (phase.Gathering g) = wants_by p (took_of g inc number) e

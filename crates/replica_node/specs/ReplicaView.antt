@@ -13,22 +13,27 @@ pub record ReplicaView : Type 0 where
   pub role : Role
   pub phase : Phase
 
+-- the same replica in another phase
 abbrev pub with_phase : ReplicaView → Phase → ReplicaView
 with_phase v phase = record v { phase = phase }
 
 -- ---- names
 
+-- the partition of which it is a replica
 abbrev pub partition_of : Role → Partition
 partition_of role = record { stage = role.stage; part = role.part }
 
+-- the name of a replica's node
 abbrev pub node_of : Role → NodeId
 node_of role = node.Replica role.stage role.part role.which
 
+-- the name of its partner's node
 abbrev pub partner_of : Role → NodeId
 partner_of role = node.Replica role.stage role.part (other role.which)
 
 -- ---- the next stage; after the last one comes egress, with one copy
 
+-- how many copies each partition of the next stage has: two replicas, and egress one
 abbrev pub copies_of : Option Stage → ℕ
 copies_of None = 1
 copies_of (Some next) = 2

@@ -56,6 +56,7 @@ pub record EndsGathering (role : Role) (inc count : ℕ) (g : NewcomerView) (aft
       → (r : Running) × (after ≡ phase.Running r) × HasCaughtUp role g r × (sent ≡ (control_at (partition_of role), body.Caught g.inc) ∷ [])
   pub refused : ((inc ≡ g.inc) × (count ≡ length g.taken) → ⊥) → (after ≡ phase.Gathering g) × (sent ≡ [])
 
+-- what the end of a move makes of a replica, and what it sends: it counts only for one that gathers
 abbrev pub IsEnded : Role → ℕ → ℕ → Phase → Phase → List (NodeId × Body) → Type 0
 IsEnded role inc count (phase.Running r) after sent = (after ≡ phase.Running r) × (sent ≡ [])
 IsEnded role inc count (phase.Gathering g) after sent = EndsGathering role inc count g after sent
@@ -144,6 +145,7 @@ abbrev pub receiver_of : Role → Option Stage → Due → NodeId
 receiver_of role None d = node.Egress
 receiver_of role (Some next) d = node.Replica (role.stage + 1) d.to (which_at d.copy)
 
+-- the packet of an item that is due, to the node that it is due to
 abbrev pub tuples_of : Role → Due → Option Item → List (NodeId × Body)
 tuples_of role d None = []
 tuples_of role d (Some i) = (receiver_of role role.next d, body.Tuple (out_edge (partition_of role) d.to) d.number i) ∷ []
@@ -156,25 +158,31 @@ sent_due d r = record r { producer = sent_on r.producer d.to d.copy }
 abbrev pub told_one : ℕ × ℕ → Running → Running
 told_one report r = record r { consumer = telling r.consumer report.0 }
 
+-- the report of a mark, to the replica's controller
 abbrev pub report_packet : Role → (inc q upto : ℕ) → (NodeId × Body)
 report_packet role inc q upto = (control_at (partition_of role), body.Report inc (in_edge (partition_of role) q) upto)
 
+-- the one packet of a report: of an edge with its mark, in the replica's own incarnation
 abbrev pub report_sent : Role → Running → ℕ × ℕ → List (NodeId × Body)
 report_sent role r report = report_packet role r.inc report.0 report.1 ∷ []
 
+-- it reports a mark that is above what was told; where none is, nothing is left to do
 abbrev pub Reports : Role → Running → Option (ℕ × ℕ) → Phase → List (NodeId × Body) → Worked → Type 0
 Reports role r None after sent did = (after ≡ phase.Running r) × (sent ≡ []) × (did ≡ worked.Idle)
 Reports role r (Some report) after sent did = (after ≡ phase.Running (told_one report r)) × (sent ≡ report_sent role r report) × (did ≡ worked.Did)
 
+-- it sends what is due; where nothing is, it may report
 abbrev pub SendsOrReports : Role → Running → Option Due → Phase → List (NodeId × Body) → Worked → Type 0
 SendsOrReports role r None after sent did = Reports role r (report_of r.consumer) after sent did
 SendsOrReports role r (Some d) after sent did =
     (after ≡ phase.Running (sent_due d r)) × (sent ≡ tuples_of role d (item_at (buffer_at r.producer d.to) d.number)) × (did ≡ worked.Did)
 
+-- it gives the next part of its move; where it makes none, it may send
 abbrev pub MovesOrSends : Role → Running → Option MoverView → Phase → List (NodeId × Body) → Worked → Type 0
 MovesOrSends role r None after sent did = SendsOrReports role r (due_of r.producer) after sent did
 MovesOrSends role r (Some m) after sent did = (s : Running) × (after ≡ phase.Running s) × Moves role m r s sent × (did ≡ worked.Did)
 
+-- it merges the next item; where there is none, it may go on with its move
 abbrev pub MergesOrMoves : Role → Running → Option Item → Phase → List (NodeId × Body) → Worked → Type 0
 MergesOrMoves role r None after sent did = MovesOrSends role r r.mover after sent did
 MergesOrMoves role r (Some i) after sent did = (s : Running) × (after ≡ phase.Running s) × Merges role i r s × (sent ≡ []) × (did ≡ worked.Did)
@@ -195,6 +203,7 @@ abbrev pub packets_of_work : Phase → ℕ
 packets_of_work (phase.Running r) = sent_unless_merged (item_of (least r.consumer.merge.waiting))
 packets_of_work p = 1
 
+-- one piece of work of a whole replica, which stays in its role
 pub record IsWorkOf (old new : ReplicaView) (sent : List (NodeId × Body)) (did : Worked) : Type 0 where
   pub role : new.role ≡ old.role
   pub works : Works old.role old.phase new.phase sent did
@@ -224,29 +233,34 @@ IsSure rise worked.Idle = rise ≤ 1
 
 -- ---- the room of its edges left aside
 
+-- what runs, with the room of its edges left aside
 abbrev pub contents_in_running : Running → Running
 contents_in_running r = record r { producer = contents_of r.producer }
 
+-- a phase, with the room of its edges left aside
 abbrev pub contents_in_phase : Phase → Phase
 contents_in_phase (phase.Running r) = phase.Running (contents_in_running r)
 contents_in_phase (phase.Gathering g) = phase.Gathering g
 contents_in_phase (phase.Gone inc) = phase.Gone inc
 
+-- a replica, with the room of its edges left aside
 abbrev pub contents_in : ReplicaView → ReplicaView
 contents_in v = with_phase v (contents_in_phase v.phase)
 
 -- ---- failures and requests
 
--- it fails, and tells its controller
+-- what a replica sends that fails: it tells its controller
 abbrev pub down_sent : ReplicaView → List (NodeId × Body)
 down_sent v = (control_at (partition_of v.role), body.Down (inc_in v.phase)) ∷ []
 
+-- a replica that has failed: it is gone, in the incarnation that it was in
 abbrev pub dying : ReplicaView → ReplicaView
 dying v = with_phase v (phase.Gone (inc_in v.phase))
 
--- it asks to be stopped, or for its partner
+-- what a replica sends that asks to be stopped
 abbrev pub stop_asked : ReplicaView → List (NodeId × Body)
 stop_asked v = (control_at (partition_of v.role), body.AskStop (inc_in v.phase)) ∷ []
 
+-- what a replica sends that asks for its partner to be brought back
 abbrev pub back_asked : ReplicaView → List (NodeId × Body)
 back_asked v = (control_at (partition_of v.role), body.AskBack) ∷ []

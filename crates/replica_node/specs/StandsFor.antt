@@ -42,6 +42,7 @@ module _ (plan : PlanView) (rows : List Input) (p : Partition) where
     pub kept : old ≡ Some (entries_after plan rows p x.numbers.count)
     pub list : m.fixed ++ entries_after plan rows p x.numbers.count ≡ move_list plan rows p x.numbers
 
+  -- a replica's move stands for that of its numbers, and where it makes none these have none
   abbrev pub MoveStands : Option MoverView → Option (List Entry) → Option Move → Type 0
   MoveStands None old None = Unit {0}
   MoveStands (Some m) old (Some x) = MoverStands m old x
@@ -69,6 +70,7 @@ module _ (plan : PlanView) (rows : List Input) (p : Partition) where
     pub held : HoldsNumbers plan rows p g.held x.held
     pub rising : AllRising g.held (length g.held)
 
+  -- a replica in its mode stands for numbers of the same mode
   abbrev pub PhaseStands : Phase → Replica → Type 0
   PhaseStands (phase.Running r) (numbers.Running x) = RunningStands r x
   PhaseStands (phase.Gathering g) (numbers.Gathering x) = GatheringStands g x

@@ -61,6 +61,7 @@ TextIs run (drained.Lost stage part) rows text = text ≡ front_text run rows
 abbrev pub saved_of : Option Journal → Option (List ℕ × List ℕ)
 saved_of journal = option_map (λ j. (j.name.now, j.bytes.items)) journal
 
+-- what code has come to: the text that is written, and the journal that is saved
 abbrev pub ending_of : Outcome → Ending
 ending_of outcome = record { text = outcome.text.items; saved = saved_of outcome.journal }
 

@@ -17,17 +17,20 @@ use Rattle.run_journal.specs.declared.listing.Repeated.{Repeated}
 
 -- ---- a line
 
+-- what the words behind `make` say: how often an input, or the end, is made into items
 unfoldable pub make_at : List Word → Read (Repeated Event) Fault
 make_at words = do
   times ← times_at words
   Ok (record { event = event.Make; times = times.0 }, times.1)
 
+-- what the words behind `work` say: which node works, and how often
 unfoldable pub work_at : PlanView → List Word → Read (Repeated Event) Fault
 work_at plan words = do
   at ← node_at plan words
   times ← times_at at.1
   Ok (record { event = event.Work at.0; times = times.0 }, times.1)
 
+-- what the words behind `take` say: which packet of which link is taken
 unfoldable pub take_at : PlanView → List Word → Read (Repeated Event) Fault
 take_at plan words = do
   link ← link_at plan words
@@ -35,6 +38,7 @@ take_at plan words = do
   end ← end_or fault.Grammar index.1
   Ok (once (event.Take link.0 index.0), end.1)
 
+-- what the words behind `pull` say: from which node to which an item is pulled, and how often
 unfoldable pub pull_at : PlanView → List Word → Read (Repeated Event) Fault
 pull_at plan words = do
   from ← node_at plan words
@@ -49,16 +53,19 @@ last_replica_at plan words = do
   end ← end_or fault.Grammar at.1
   Ok (at.0, end.1)
 
+-- what the word behind `kill` says: which replica fails
 unfoldable pub kill_at : PlanView → List Word → Read (Repeated Event) Fault
 kill_at plan words = do
   at ← last_replica_at plan words
   Ok (once (event.Kill at.0), at.1)
 
+-- what the word behind `askstop` says: which replica asks to be stopped
 unfoldable pub ask_stop_at : PlanView → List Word → Read (Repeated Event) Fault
 ask_stop_at plan words = do
   at ← last_replica_at plan words
   Ok (once (event.AskStop at.0), at.1)
 
+-- what the word behind `askback` says: which replica is to be brought back, as its partner asks
 unfoldable pub ask_back_at : PlanView → List Word → Read (Repeated Event) Fault
 ask_back_at plan words = do
   at ← last_replica_at plan words

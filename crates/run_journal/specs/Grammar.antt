@@ -20,12 +20,14 @@ abbrev pub there : {A : Type 0} → (A → Bool) → Option A → Result A Fault
 there has None = Err fault.Grammar
 there has (Some x) = if has x then Ok x else Err fault.NoSuchNode
 
+-- the node of the plan that the next word names
 unfoldable pub node_at : PlanView → List Word → Read NodeId Fault
 node_at plan words = do
   w ← word_or fault.Grammar words
   n ← there (has_node plan) (node_named w.0)
   Ok (n, w.1)
 
+-- the replica of the plan that the next word names
 unfoldable pub replica_at : PlanView → List Word → Read NodeId Fault
 replica_at plan words = do
   w ← word_or fault.Grammar words
@@ -39,6 +41,7 @@ target_at plan from words = do
   n ← there (has_edge plan from) (node_named w.0)
   Ok (n, w.1)
 
+-- the link of the plan that the next word names
 unfoldable pub link_at : PlanView → List Word → Read LinkId Fault
 link_at plan words = do
   w ← word_or fault.Grammar words

@@ -1,9 +1,11 @@
 -- The limits of a text of events. What is counted in them is at least 1.
 use Rattle.std.specs.Prelude.{ℕ}
 
+-- the most bytes of a text of events
 abbrev pub max_events_bytes : ℕ
 max_events_bytes = 536870912
 
+-- the most events of a text, each counted as often as it is repeated
 abbrev pub max_events : ℕ
 max_events = 20000000
 

@@ -6,6 +6,7 @@ use Rattle.pair_machine.specs.Joint.{AreDistinct, AreRising, Logged, log_by_cloc
 pub use Rattle.pair_machine.specs.Joint.{history_of}
 use Rattle.pair_machine.specs.Lists.{Each}
 
+-- the nodes whose histories these are, in order
 abbrev pub nodes_of : List History → List NodeId
 nodes_of histories = map (λ h. h.node) histories
 

@@ -12,6 +12,7 @@ fault_at line fault.Grammar = error.Grammar line
 fault_at line fault.NoSuchNode = error.NoSuchNode line
 fault_at line fault.Range = error.Range line
 
+-- the text that says why a text of events is refused
 abbrev pub events_fault : EventsError → List ℕ
 events_fault error.Header = codes "header"
 events_fault (error.Grammar line) = at_line line (codes "grammar")

@@ -18,6 +18,7 @@ use Rattle.run_journal.specs.declared.lined.Lined.{Lined}
 
 -- ---- names
 
+-- the letter of a replica
 abbrev pub letter_of : Which → Word
 letter_of which.A = codes "a"
 letter_of which.B = codes "b"
@@ -26,17 +27,20 @@ letter_of which.B = codes "b"
 abbrev pub member_name : ℕ → ℕ → Word → Word
 member_name stage part letter = decimal stage ++ (codes "." ++ (decimal part ++ (codes "." ++ letter)))
 
+-- the name of a node
 abbrev pub node_name : NodeId → Word
 node_name node.Ingress = codes "in"
 node_name (node.Replica stage part which) = member_name stage part (letter_of which)
 node_name (node.Control stage part) = member_name stage part (codes "c")
 node_name node.Egress = codes "out"
 
+-- the name of a link: the names of the nodes at its ends, with `>` between them
 abbrev pub link_name : LinkId → Word
 link_name link = node_name link.from ++ (codes ">" ++ node_name link.to)
 
 -- ---- lines
 
+-- the words of an event: what it is, and which nodes or which packet it is of
 abbrev pub event_words : Event → List Word
 event_words (event.Take link index) = codes "take" ∷ link_name link ∷ decimal index ∷ []
 event_words (event.Work n) = codes "work" ∷ node_name n ∷ []

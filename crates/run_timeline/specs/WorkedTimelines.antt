@@ -60,6 +60,7 @@ letter_of_two first second = letter_at (marks_of two_frames (told_at_five first 
 abbrev pub letters_after : Happening → List ℕ
 letters_after first = flat_map (letter_of_two first) each_kind
 
+-- what the parts of this timeline come to
 pub record WorkedTimelines : Type 0 where
   -- a column has the event at its end, and the next one begins after it
   pub at_the_end : column_of two_frames 3 ≡ 0

@@ -32,6 +32,7 @@ pub record HasHaltedAt (old new : CoreView) (at : Lined) (stop : Stopped) : Type
   pub unchanged : new ≡ old
   pub refused : (s : State) → StandsFor old s → IsRefusal (step (flow_in old) s at.event) stop.error
 
+-- a watch ended for this reason: an event was no step, or memory was wanting
 abbrev pub HasHalted : CoreView → CoreView → Lined → WatchError → Type 0
 HasHalted old new at (error.Stopped stop) = HasHaltedAt old new at stop
 HasHalted old new at error.OutOfMemory = Unit {0}

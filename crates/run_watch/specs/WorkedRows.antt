@@ -9,6 +9,7 @@ use Rattle.run_watch.specs.Happenings.{happened, loss, named, recalled, taken, w
 use Rattle.run_watch.specs.declared.glimpse.Glimpse.TheVariants as glimpse
 use Rattle.run_watch.specs.declared.happening.Happening.TheVariants as happening
 
+-- what happens at these events, by what is seen of their nodes; and what these lists are cut into
 pub record WorkedRows : Type 0 where
   -- the leader of pair 1.0 fails
   pub failed : happened (event.Kill (node.Replica 1 0 A)) (glimpse.Running 1 true 1 None) (glimpse.Gone 1) ≡ Some (happening.Failed (node.Replica 1 0 A) 1)

@@ -40,51 +40,57 @@ pub record Moving : Type 0 where
 abbrev pub opening : Moving
 opening = record { items = []; old = None; mover = None }
 
--- what a mover gives next of the old entries, and what it is after that
+-- what a mover gives next of the old entries
 abbrev pub next_of : Option MoverView → Option (List Entry) → Option Moved
 next_of None old = None
 next_of (Some m) None = None
 next_of (Some m) (Some old) = moved_at (m.fixed ++ old) m.sent
 
+-- what a mover is after it gave the next part of the old entries
 abbrev pub mover_after : Option MoverView → Option (List Entry) → Option MoverView
 mover_after None old = None
 mover_after (Some m) None = Some m
 mover_after (Some m) (Some old) = Some (after_next m old)
 
--- what calls make of them: the state has the entries of its items at each moment, and a watch keeps those of its beginning
+-- an operator's state and its move after a call: the state has the entries of its items at each moment, and a watch keeps those
+-- of its beginning
 abbrev pub after_call : OpSpec → Moving → Call → Moving
 after_call spec x (Begins target merge producer) =
     record { items = x.items; old = Some (entries spec x.items); mover = Some (begun target (fixed_part merge producer) (length (entries spec x.items))) }
 after_call spec x Nexts = record { items = x.items; old = x.old; mover = mover_after x.mover x.old }
 after_call spec x (Steps i) = record { items = x.items ++ i ∷ []; old = x.old; mover = x.mover }
 
+-- an operator's state and its move after all these calls, one after another
 abbrev pub after_calls : OpSpec → Moving → List Call → Moving
 after_calls spec x [] = x
 after_calls spec x (call ∷ calls) = after_calls spec (after_call spec x call) calls
 
--- the parts that calls give, in order
+-- the part that a call gives, if it gives one
 abbrev pub given_by : Moving → Call → List Moved
 given_by x (Begins target merge producer) = []
 given_by x Nexts = option_to_list (next_of x.mover x.old)
 given_by x (Steps i) = []
 
+-- the parts that calls give, in order
 abbrev pub given : OpSpec → Moving → List Call → List Moved
 given spec x [] = []
 given spec x (call ∷ calls) = given_by x call ++ given spec (after_call spec x call) calls
 
--- the items of the steps among calls; how many calls of `next` are among them; no move begins among them
+-- the items of the steps among calls
 abbrev pub stepped : List Call → List Item
 stepped [] = []
 stepped (Begins target merge producer ∷ calls) = stepped calls
 stepped (Nexts ∷ calls) = stepped calls
 stepped (Steps i ∷ calls) = i ∷ stepped calls
 
+-- how many calls of `next` are among these
 abbrev pub nexts : List Call → ℕ
 nexts [] = 0
 nexts (Begins target merge producer ∷ calls) = nexts calls
 nexts (Nexts ∷ calls) = nexts calls + 1
 nexts (Steps i ∷ calls) = nexts calls
 
+-- no move begins among these calls
 abbrev pub NoneBegins : List Call → Type 0
 NoneBegins [] = Unit {0}
 NoneBegins (Begins target merge producer ∷ calls) = ⊥
@@ -93,10 +99,12 @@ NoneBegins (Steps i ∷ calls) = NoneBegins calls
 
 -- ---- the law
 
--- a move that begins after calls; and its list: what the consumer and the producer hold, and the entries after the items of the steps before
+-- a move that begins after calls
 abbrev pub beginning : OpSpec → List Call → (target : ℕ) → MergeView → ProducerView → Moving
 beginning spec before target merge producer = after_call spec (after_calls spec opening before) (Begins target merge producer)
 
+-- the list of a move that begins after calls: what the consumer and the producer hold, and the entries after the items of the
+-- steps before
 abbrev pub list_of : OpSpec → List Call → MergeView → ProducerView → List Entry
 list_of spec before merge producer = move_list merge producer (entries spec (stepped before))
 

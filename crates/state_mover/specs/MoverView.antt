@@ -37,6 +37,7 @@ pub record IsMover (fixed : List Entry) (entries sent : ℕ) (last : Option (Key
   pub fits : length fixed + entries + 1 < 2 ^ 64
   pub unplaced : min (sent - length fixed) entries ≡ 0 → last ≡ None
 
+-- what is true of each mover, as contracts see it
 abbrev pub IsSound : MoverView → Type 0
 IsSound m = IsMover m.fixed m.entries m.sent m.last
 

@@ -18,6 +18,7 @@ count_in counts to = unwrap_or (get node_cmp counts to) 0
 abbrev pub packets_to : NodeId → List (NodeId × Body) → ℕ
 packets_to to packets = length (bodies_to to packets)
 
+-- a map has for each receiver how many of these packets went there
 abbrev pub AreCounted : BTreeMap NodeId ℕ → List (NodeId × Body) → Type 0
 AreCounted counts packets = (to : NodeId) → count_in counts to ≡ packets_to to packets
 

@@ -29,6 +29,7 @@ abbrev pub lines_below : ℕ → (ℕ → List ℕ) → List ℕ
 lines_below zero line = []
 lines_below (suc n) line = lines_below n line ++ line n
 
+-- a truth value as a word: 1 for true, and 0 for false
 abbrev pub flag_word : Bool → Word
 flag_word true = codes "1"
 flag_word false = codes "0"
@@ -63,6 +64,7 @@ out_edges_text f name p made x = lines_below (f.targets p.stage) (out_edge_line 
 abbrev pub source_name : (sources q : ℕ) → Word
 source_name sources q = if sources == 1 then codes "in" else codes "in " ++ decimal q
 
+-- the line of ingress: how many inputs, or the end, were made into items
 abbrev pub makes_line : ℕ → List ℕ
 makes_line makes = codes "in makes=" ++ decimal makes ++ codes "\n"
 
@@ -70,6 +72,7 @@ makes_line makes = codes "in makes=" ++ decimal makes ++ codes "\n"
 abbrev pub ingress_text : Flow → Ingress → List ℕ
 ingress_text f x = makes_line x.makes ++ lines_below (f.sources 1) (λ q. out_edges_text f (source_name (f.sources 1) q) (ingress_source q) (source_made f x q) (x.producers q))
 
+-- the line of egress: how many items it merged, and whether these are all
 abbrev pub out_line : (count : ℕ) → (done : Bool) → List ℕ
 out_line count done = codes "out count=" ++ decimal count ++ codes " done=" ++ flag_word done ++ codes "\n"
 
@@ -79,15 +82,18 @@ egress_text f x = out_line x.count (x.count == f.total (egress_partition f)) ++ 
 
 -- ---- a controller
 
+-- the letter of the replica that leads, or `none` where none does
 abbrev pub leader_word : Option Which → Word
 leader_word None = codes "none"
 leader_word (Some w) = letter_of w
 
+-- the word for what a controller holds a replica to be
 abbrev pub status_word : Status → Word
 status_word status.Up = codes "up"
 status_word status.Catching = codes "catching"
 status_word status.Down = codes "down"
 
+-- a controller's term, and the replica that leads in it
 abbrev pub term_line : Word → (term : ℕ) → Option Which → List ℕ
 term_line name term leader = name ++ codes " term=" ++ decimal term ++ codes " lead=" ++ leader_word leader ++ codes "\n"
 
@@ -103,15 +109,18 @@ reports_line name c q =
     name ++ codes " < " ++ decimal q ++ codes " acked=" ++ decimal (c.acked q) ++ codes " a=" ++ decimal ((c.watched A).reports q)
     ++ codes " b=" ++ decimal ((c.watched B).reports q) ++ codes "\n"
 
+-- a controller: its term and its leader, what it knows of each replica, and the in-edges of its pair
 abbrev pub controller_text : Word → (edges : ℕ) → Controller → List ℕ
 controller_text name edges c =
     term_line name c.term c.leader ++ watched_line name A (c.watched A) ++ watched_line name B (c.watched B) ++ lines_below edges (reports_line name c)
 
 -- ---- a replica
 
+-- a replica that is gone, and the incarnation in which it went
 abbrev pub gone_line : Word → (inc : ℕ) → List ℕ
 gone_line name inc = name ++ codes " gone inc=" ++ decimal inc ++ codes "\n"
 
+-- a newcomer: its incarnation, and how many entries of its move it took
 abbrev pub gathering_line : Word → (inc taken : ℕ) → List ℕ
 gathering_line name inc taken = name ++ codes " gathering inc=" ++ decimal inc ++ codes " taken=" ++ decimal taken ++ codes "\n"
 
@@ -120,9 +129,11 @@ abbrev pub held_text : List ℕ → List ℕ
 held_text [] = codes "-"
 held_text (n ∷ ns) = join_by decimal (codes ",") (n ∷ ns)
 
+-- an in-edge of a newcomer, and the numbers of the items that it holds of it
 abbrev pub held_line : Word → (ℕ → List ℕ) → ℕ → List ℕ
 held_line name held q = name ++ codes " < " ++ decimal q ++ codes " held=" ++ held_text (held q) ++ codes "\n"
 
+-- a replica that runs: its incarnation, its term and whether it leads, whom it served, and how many items it merged
 abbrev pub running_line : Word → (inc term : ℕ) → (leads : Bool) → (served count : ℕ) → List ℕ
 running_line name inc term leads served count =
     name ++ codes " running inc=" ++ decimal inc ++ codes " term=" ++ decimal term ++ codes " leads=" ++ flag_word leads ++ codes " served=" ++ decimal served
@@ -132,10 +143,12 @@ running_line name inc term leads served count =
 abbrev pub move_line : Word → (target sent chunks : ℕ) → List ℕ
 move_line name target sent chunks = name ++ codes " move target=" ++ decimal target ++ codes " sent=" ++ decimal sent ++ codes " of=" ++ decimal chunks ++ codes "\n"
 
+-- the line of a move, if there is one: its chunks are its entries and its end
 abbrev pub move_text : Word → (size : MoveNumbers → ℕ) → Option Move → List ℕ
 move_text name size None = []
 move_text name size (Some move) = move_line name move.target move.sent (size move.numbers + 1)
 
+-- a replica: the line of its mode, and with it its edges and its move where it runs, or what it holds where it gathers
 abbrev pub replica_text : Flow → Word → Partition → Replica → List ℕ
 replica_text f name p (Gone inc) = gone_line name inc
 replica_text f name p (Gathering g) = gathering_line name g.inc g.taken ++ lines_below (f.sources p.stage) (held_line name g.held)
@@ -176,6 +189,7 @@ state_lines f s =
     ++ egress_text f (egress_in (s.nodes node.Egress))
     ++ flat_map (sent_by_text f s) (nodes_in f)
 
+-- the line of a row that egress has emitted
 abbrev pub emitted_line : List (List ℕ) → Row → List ℕ
 emitted_line symbols row = codes "row " ++ row_line symbols row
 

@@ -37,6 +37,7 @@ half_moved =
     ++ take node.Ingress (replica_b 1) 5
     ++ take node.Ingress (replica_b 1) 4
 
+-- each of these lists of events ends in a state with this text
 pub record WorkedTexts : Type 0 where
   -- four trades, their two marks and the end are made
   pub all_made : After (marked 4) (make 5) (λ s. state_text (marked 4) s [] [] ≡ lines (

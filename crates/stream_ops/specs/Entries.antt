@@ -54,13 +54,15 @@ key_entries (op.Join by width n column compare limit) items k =
 abbrev pub entries : OpSpec → List Item → List Entry
 entries spec items = flat_map (key_entries spec items) (keys_after spec items)
 
--- what tells of a key's sums, of its last rows and of its open window
+-- what tells of a key's sums
 abbrev pub told_total : Key → Sums → List Entry
 told_total k s = sums_entry k 0 s (pos 0) ∷ []
 
+-- what tells of a key's last rows
 abbrev pub told_last : Key → Buffer Sums → List Entry
 told_last k b = slots k 0 b.items
 
+-- what tells of a key's open window
 abbrev pub told_window : Key → OpenWindow → List Entry
 told_window k o = sums_entry k 0 o.sums o.number ∷ []
 
@@ -83,18 +85,20 @@ abbrev pub bound_after : Option (Key × ℕ) → Bound Key
 bound_after None = Unbounded
 bound_after (Some at) = Excluded at.0
 
--- the entry of the first of a key's last rows, and that of the one after a slot
+-- the entry of the first of a key's last rows
 abbrev pub first_slot : Key → Buffer Sums → Option Entry
 first_slot k b = option_map (λ s. sums_entry k 0 s (pos 0)) (slice_get b.items 0)
 
+-- the entry of the one of a key's last rows that stands after a slot
 abbrev pub next_slot : Key → ℕ → Buffer Sums → Option Entry
 next_slot k slot b = option_map (λ s. sums_entry k (slot + 1) s (pos 0)) (slice_get b.items (slot + 1))
 
--- the next entry of last rows: of the same key, or the first one of a later key
+-- the next entry of last rows, of the same key
 abbrev pub same_key_after : Option (Key × ℕ) → Option (List (Key × Buffer Sums)) → Option Entry
 same_key_after None old = None
 same_key_after (Some at) old = option_and_then (next_slot at.0 at.1) (old_value key_cmp at.0 old)
 
+-- the next entry of last rows: of the same key, or the first one of a later key
 abbrev pub last_after : Option (Key × ℕ) → Option (List (Key × Buffer Sums)) → Option Entry
 last_after after old = or_else (same_key_after after old) (option_and_then (λ e. first_slot e.0 e.1) (old_first key_cmp (bound_after after) old))
 

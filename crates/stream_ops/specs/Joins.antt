@@ -28,10 +28,11 @@ use Rattle.stream_ops.specs.declared.sums.Sums.{Sums}
 abbrev pub is_left : Column → Compare → ℤ → Row → Bool
 is_left column compare limit r = holds compare (column_of column r) limit
 
--- the left rows, and the right ones
+-- those of these rows that are left
 abbrev pub left_rows : (Row → Bool) → List Row → List Row
 left_rows left rows = filter left rows
 
+-- those of these rows that are right
 abbrev pub right_rows : (Row → Bool) → List Row → List Row
 right_rows left rows = filter (λ r. not (left r)) rows
 
@@ -49,17 +50,19 @@ join_answer width n left k rows r = map (pair_row k r) (filter (λ other. int_eq
 
 -- ---- in the words of the crate below
 
--- a key in the two crates' words
+-- a key, in the words of a join
 abbrev pub join_key : Key → JoinKey
 join_key k = record { account = k.account; symbol = k.symbol }
 
+-- a key of a join, in the words of operators
 abbrev pub key_of_join : JoinKey → Key
 key_of_join k = record { account = k.account; symbol = k.symbol }
 
--- what a join keeps of a row, with its side
+-- what a join keeps of a row
 abbrev pub side_row : ℤ → Row → SideRow
 side_row width r = record { qty = r.qty; value = r.value; window = window_of width r }
 
+-- what a join keeps of a row, with its side
 abbrev pub sided_row : ℤ → (Row → Bool) → Row → SidedRow
 sided_row width left r = record { left = left r; row = side_row width r }
 
@@ -79,10 +82,11 @@ kept_row k slot sums window = record { key = join_key k; slot = slot; qty = sums
 abbrev pub sides_of_rows : ℤ → ℕ → (Row → Bool) → List Row → Option Sides
 sides_of_rows width n left rows = sides_of n (map (sided_row width left) rows)
 
--- what tells of a row of one side, and of more from a slot on
+-- what tells of a row of one side, at a slot
 abbrev pub side_entry : Key → ℕ → SideRow → Entry
 side_entry k slot r = entry.Keyed k slot r.qty r.value r.window
 
+-- what tells of the rows of one side, from a slot on
 abbrev pub told_side : Key → ℕ → List SideRow → List Entry
 told_side k slot [] = []
 told_side k slot (r ∷ rows) = side_entry k slot r ∷ told_side k (slot + 1) rows
@@ -95,5 +99,6 @@ told_sides k s = told_side k 0 s.left.items ++ told_side k first_right_slot s.ri
 abbrev pub by_key : {X : Type 0} → List (JoinKey × X) → List (Key × X)
 by_key kept = map (λ e. (key_of_join e.0, e.1)) kept
 
+-- what a join keeps, and what it kept when the watch began, by the keys of rows
 abbrev pub keyed : {X : Type 0} → StoreView JoinKey X → StoreView Key X
 keyed s = record { kept = by_key s.kept; old = option_map by_key s.old }

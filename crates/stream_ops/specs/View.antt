@@ -49,22 +49,27 @@ old_of (operator.Window by width windows) = option_map (all_told told_window) wi
 old_of (operator.Crossing by limit totals) = option_map (all_told told_total) totals.old
 old_of (operator.Join by width column compare limit join) = option_map (all_told told_sides) (keyed join.sides).old
 
+-- what contracts see of an operator: its settings, its entries, and those when the watch began
 abbrev pub seen : Operator → StateView
 seen o = record { spec = spec_of o; entries = entries_of o; old = old_of o }
 
--- what is kept for a key is right in itself: sums always, an open window with its start, and 1 to n last rows
+-- sums are right in themselves, whatever they are
 abbrev pub IsAnySums : Sums → Type 0
 IsAnySums s = Unit {0}
 
+-- an open window starts where its number and its width say
 abbrev pub IsWindow : ℤ → OpenWindow → Type 0
 IsWindow width o = o.start ≡ o.number *ℤ width
 
+-- there are 1 to n last rows, with room for n
 abbrev pub AreLast : ℕ → Buffer Sums → Type 0
 AreLast n b = (b.capacity ≡ n) × (1 ≤ length b.items) × (length b.items ≤ n)
 
+-- the keys are in order, and what is kept for each is right
 abbrev pub AreRight : {X : Type 0} → (X → Type 0) → List (Key × X) → Type 0
 AreRight right es = IsSorted key_cmp es × All right (values_of es)
 
+-- what is kept is right, and so is what was kept when the watch began
 abbrev pub IsRight : {X : Type 0} → (X → Type 0) → StoreView Key X → Type 0
 IsRight right s = AreRight right s.kept × IfSome s.old (AreRight right)
 

@@ -9,6 +9,7 @@ use Rattle.trade_maker.specs.declared.generator.MadeTrade.{MadeTrade}
 abbrev pub two_digits : ℕ → List ℕ
 two_digits n = (48 + n / 10) ∷ (48 + n % 10) ∷ []
 
+-- the letter of a side: `B` for a buy, `S` for a sale
 abbrev pub side_text : Bool → List ℕ
 side_text true = codes "B"
 side_text false = codes "S"

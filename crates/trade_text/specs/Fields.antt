@@ -19,6 +19,7 @@ unfoldable pub drop_blanks : List ℕ → List ℕ
 drop_blanks [] = []
 drop_blanks (b ∷ bytes) = if is_blank b then drop_blanks bytes else b ∷ bytes
 
+-- whether nothing is left of a text
 abbrev pub is_none_left : List ℕ → Bool
 is_none_left [] = true
 is_none_left (b ∷ bytes) = false
@@ -85,6 +86,7 @@ clock_of front back = do
   seconds ← formed (two_digits parts.1)
   seconds_of_day hours minutes seconds
 
+-- a time in seconds: a number of them, or, where a text has these parts before and after a colon, a time of day
 abbrev pub time_at : List ℕ → Option (List ℕ × List ℕ) → Result ℕ Fault
 time_at text None = number_between 0 max_seconds text
 time_at text (Some parts) = clock_of parts.0 parts.1
@@ -95,9 +97,11 @@ time_of text = time_at text (split_once 58 text)
 
 -- ---- the account and the quantity
 
+-- an account, which is a number from 1
 abbrev pub account_of : List ℕ → Result ℕ Fault
 account_of text = number_between 1 max_account text
 
+-- a quantity, which is at least 1
 abbrev pub qty_of : List ℕ → Result ℕ Fault
 qty_of text = number_between 1 max_qty text
 
@@ -134,6 +138,7 @@ fraction_of text = if length text == 1 then tens (number_of text) else two_digit
     tens None = None
     tens (Some n) = Some (n * 10)
 
+-- money in cents, up to a limit: of a text without a point, or of the parts before and after it
 abbrev pub cents_at : ℕ → List ℕ → Option (List ℕ × List ℕ) → Result ℕ Fault
 cents_at most text None = do
   units ← formed (digits_of text)
@@ -147,14 +152,16 @@ cents_at most text (Some parts) = do
 abbrev pub cents_of : ℕ → List ℕ → Result ℕ Fault
 cents_of most text = cents_at most text (split_once 46 text)
 
+-- a price in cents
 abbrev pub price_of : List ℕ → Result ℕ Fault
 price_of text = cents_of max_cents text
 
--- money that comes in, and money that goes out
+-- money that comes in, as an amount
 abbrev pub coming : Result ℕ Fault → Result ℤ Fault
 coming (Ok cents) = Ok (pos cents)
 coming (Err why) = Err why
 
+-- money that goes out, as an amount with a minus
 abbrev pub going : Result ℕ Fault → Result ℤ Fault
 going (Ok cents) = Ok (neg_ℤ (pos cents))
 going (Err why) = Err why

@@ -25,6 +25,7 @@ pub record File : Type 0 where
   pub header : List (List ℕ)
   pub records : List (List (List ℕ))
 
+-- the first of these records as a header, and the others behind it; without a record there is no header
 abbrev pub file_of_records : {F : Type 0} → List (List (List ℕ)) → Read F File
 file_of_records [] = Err error.Header
 file_of_records (header ∷ records) = Ok (record { header = header; records = records })
@@ -47,6 +48,7 @@ pub record IsOpen {F : Type 0} (file : Read F File) (header : List (List ℕ)) (
 
 -- ---- a record
 
+-- the error of a fault: which field it is of, and of the record of which number
 abbrev pub error_of : {F : Type 0} → Fault → ℕ → F → ReadError F
 error_of fault.Form number what = error.Field number what
 error_of fault.Range number what = error.Range number what
@@ -67,6 +69,7 @@ pub record RowsRead (K : Type 0) : Type 0 where
   pub rows : List Row
   pub kept : K
 
+-- no rows so far
 abbrev pub no_rows : {K : Type 0} → K → RowsRead K
 no_rows kept = record { rows = []; kept = kept }
 

@@ -27,6 +27,7 @@ rows_from source rows = map (λ row. record { source = source; row = row }) rows
 abbrev pub from_second : List Row → List Input
 from_second rows = rows_from 1 rows
 
+-- whether one input's row has an earlier time than the other's
 abbrev pub is_earlier : Input → Input → Bool
 is_earlier x y = is_lt (int_cmp x.row.time y.row.time)
 

@@ -13,6 +13,7 @@ pub record Kind (F : Type 0) : Type 0 where
 
 -- ---- trades
 
+-- what a field of a trade is called
 abbrev pub trade_name : Field → List ℕ
 trade_name field.Time = codes "time"
 trade_name field.Account = codes "account"
@@ -26,15 +27,18 @@ abbrev pub trade_synonym : Field → List ℕ
 trade_synonym field.Qty = codes "quantity"
 trade_synonym what = trade_name what
 
+-- the kind of files that say trades
 abbrev pub trades_kind : Kind Field
 trades_kind = record { name = trade_name; synonym = trade_synonym; rows = codes "trades" }
 
 -- ---- cash movements
 
+-- what a field of a cash movement is called
 abbrev pub cash_name : CashField → List ℕ
 cash_name cash_field.Time = codes "time"
 cash_name cash_field.Account = codes "account"
 cash_name cash_field.Amount = codes "amount"
 
+-- the kind of files that say cash movements
 abbrev pub cash_kind : Kind CashField
 cash_kind = record { name = cash_name; synonym = cash_name; rows = codes "movements" }

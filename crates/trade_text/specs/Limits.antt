@@ -9,9 +9,11 @@ max_input_bytes = 16777216
 abbrev pub max_inputs : ℕ
 max_inputs = 100000
 
+-- the most symbols of trades
 abbrev pub max_symbols : ℕ
 max_symbols = 4096
 
+-- the most bytes of a symbol
 abbrev pub max_symbol_bytes : ℕ
 max_symbol_bytes = 32
 
@@ -27,9 +29,11 @@ max_seconds = 9999999999
 abbrev pub max_second_of_day : ℕ
 max_second_of_day = 86399
 
+-- the greatest number of an account
 abbrev pub max_account : ℕ
 max_account = 1000000
 
+-- the greatest quantity of a trade
 abbrev pub max_qty : ℕ
 max_qty = 100000
 

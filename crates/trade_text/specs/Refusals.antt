@@ -14,12 +14,7 @@ IsRefusalOf error.TooMany read = read ≡ Err error.TooMany
 IsRefusalOf (error.TooLong bytes) read = read ≡ Err (error.TooLong bytes)
 IsRefusalOf error.OutOfMemory read = Unit {0}
 
--- What a call gave, seen by view, is what reading gives, unless memory ran out.
-abbrev pub Gives : {F X A : Type 0} → (X → A) → Read F X → Read F A → Type 0
-Gives view (Ok x) read = read ≡ Ok (view x)
-Gives view (Err e) read = IsRefusalOf e read
-
--- the same of a call that gives a value and may change what is kept from record to record
+-- What a call gave, with what is kept then from record to record, is what reading gives, unless memory ran out.
 abbrev pub Reads : {F A K : Type 0} → Read F A → K → Read F (A × K) → Type 0
 Reads (Ok x) kept read = read ≡ Ok (x, kept)
 Reads (Err e) kept read = IsRefusalOf e read

@@ -27,9 +27,11 @@ pub record Told : Type 0 where
   pub fault : Option (ReadError Field)
   pub symbols : List (List ℕ)
 
+-- no further row: the next record has this fault, or there is none, and these symbols are known
 abbrev pub no_more : Option (ReadError Field) → List (List ℕ) → Told
 no_more fault symbols = record { rows = []; fault = fault; symbols = symbols }
 
+-- a row, and what is told behind it
 abbrev pub behind_row : Row → Told → Told
 behind_row row later = record later { rows = row ∷ later.rows }
 
@@ -43,10 +45,12 @@ abbrev pub told_from : ℕ → TradeForm → List (List (List ℕ)) → Told
 told_from number form [] = no_more None form.symbols
 told_from number form (fields ∷ later) = told_next (λ form. told_from (number + 1) form later) form.symbols (trade_in number form fields)
 
+-- what the records under a header say, by its columns or its fault
 abbrev pub told_under : List (List (List ℕ)) → Read Field TradeColumns → Told
 told_under later (Ok columns) = told_from 2 (record { columns = columns; symbols = [] }) later
 told_under later (Err fault) = no_more (Some fault) []
 
+-- what records say of which the first is the header
 abbrev pub told_of_records : List (List (List ℕ)) → Told
 told_of_records [] = no_more (Some error.Header) []
 told_of_records (header ∷ later) = told_under later (trade_columns header)

@@ -17,6 +17,7 @@ AreSymbols vs = All (λ v. is_symbol v.items ≡ true) vs
 abbrev pub number_in : List (List ℕ) → List ℕ → Option ℕ
 number_in known name = option_map (λ place. place + 1) (position (bytes_eq name) known)
 
+-- the number of a symbol and the symbols that are known then, by the place where it is known already, if it is
 abbrev pub numbered_at : Option ℕ → List (List ℕ) → List ℕ → Option (ℕ × List (List ℕ))
 numbered_at (Some place) known name = Some (place + 1, known)
 numbered_at None known name = if nat_lt (length known) max_symbols then Some (length known + 1, known ++ name ∷ []) else None

@@ -3,7 +3,6 @@ ghost use Rattle.csv.specs.Machine.{next_record};
 ghost use Rattle.csv.specs.Reading.{default_config, strip_bom};
 ghost use Rattle.csv.specs.Records.{fields_of};
 ghost use Rattle.csv.specs.declared.parser.State.{State};
-ghost use Rattle.csv.specs.declared.parser.State.TheVariants as state;
 ghost use Rattle.std.specs.Prelude.{◌≡◌, [], ℕ, IfErr, IfOk, List, Some};
 ghost use Rattle.trade_text.specs.StreamRecords.{MeetsBound, OpensRecords, StandsAt, TakesOne, next_bytes};
 ghost use Rattle.trade_text.specs.Streams.{IsFaultOf, Told};

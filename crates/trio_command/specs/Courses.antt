@@ -35,6 +35,7 @@ goes_along events feed lines = writes_text events feed (replayed (trio_flow feed
 abbrev pub trio_events : List ℕ → PlanView → TradesView → Course
 trio_events events plan trades = reads max_events_bytes (events_from plan) events (goes_along events (fed plan trades []))
 
+-- before the events come the trades
 abbrev pub trio_trades : (trades events : List ℕ) → PlanView → Course
 trio_trades trades events plan = reads max_input_bytes trades_from trades (trio_events events plan)
 
@@ -46,5 +47,6 @@ not_for_trio_line name = line_of name (codes "not for trio")
 abbrev pub trio_plan : (plan trades events : List ℕ) → PlanView → Course
 trio_plan plan trades events it = if it.version == 1 then trio_trades trades events it else Refuses (not_for_trio_line plan)
 
+-- the course of `trio`: the plan is read first
 abbrev pub trio_course : (plan trades events : List ℕ) → Course
 trio_course plan trades events = reads max_plan_bytes plan_from plan (trio_plan plan trades events)

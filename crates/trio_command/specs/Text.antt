@@ -13,6 +13,7 @@ use Rattle.trio_machine.specs.Machine.{State}
 use Rattle.trio_drain.specs.Ending.{ending, rows_at_end}
 use Rattle.trio_state.specs.GroupsText.{groups_text}
 
+-- the fixed line with which the text begins
 abbrev pub first_line : List ℕ
 first_line = codes "trio 1\n"
 

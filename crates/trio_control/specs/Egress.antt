@@ -45,6 +45,7 @@ reporting e (Some report) = record {
   worked = worked.Did;
 }
 
+-- the next item is merged, if there is one; else the first mark that is above what was acknowledged is, if there is one
 abbrev pub merging_or_reporting : EgressView → Option Item → WorkDone EgressView
 merging_or_reporting e None = reporting e (report_of e.consumer)
 merging_or_reporting e (Some i) = record { after = merging e i; sent = []; worked = worked.Did }

@@ -59,6 +59,7 @@ abbrev pub tuples_of : Due → Option Item → List (TrioNode × TrioBody)
 tuples_of d None = []
 tuples_of d (Some item) = (node.Replica 1 d.to d.copy, body.Tuple (record { stage = 0; from = 0; to = d.to }) d.number item) ∷ []
 
+-- the item that is due is sent, if one is
 abbrev pub sending : IngressView → Option Due → WorkDone IngressView
 sending i None = record { after = i; sent = []; worked = worked.Idle }
 sending i (Some d) = record {

@@ -37,9 +37,11 @@ pub record ReplicaView : Type 0 where
 
 -- ---- names
 
+-- the partition of which it is a replica
 abbrev pub partition_of : TrioRole → Partition
 partition_of role = partition role.stage role.part
 
+-- the name of a replica's node
 abbrev pub node_of : TrioRole → TrioNode
 node_of role = node.Replica role.stage role.part role.copy
 
@@ -62,6 +64,7 @@ pub record IsRunning (role : TrioRole) (r : TrioRunning) : Type 0 where
   pub op : r.state.spec ≡ role.task.op
   pub timely : All (All IsTimely) r.consumer.merge.waiting
 
+-- what a replica has, if it runs, is that of its partition
 abbrev pub IsRunningIf : TrioRole → Option TrioRunning → Type 0
 IsRunningIf role None = Unit {0}
 IsRunningIf role (Some r) = IsRunning role r
@@ -76,10 +79,11 @@ opening role = record {
 
 -- ---- packets
 
--- an edge leads into the replica's partition, or from it
+-- an edge leads into the replica's partition
 abbrev pub IsIntoHere : TrioRole → EdgeId → Type 0
 IsIntoHere role e = (e.stage + 1 ≡ role.stage) × (e.to ≡ role.part) × (e.from < role.sources)
 
+-- an edge leads from the replica's partition
 abbrev pub IsFromHere : TrioRole → EdgeId → Type 0
 IsFromHere role e = (e.stage ≡ role.stage) × (e.from ≡ role.part) × (e.to < targets_of role.task.next)
 
@@ -109,13 +113,16 @@ abbrev pub receiver_of : TrioRole → Option Stage → Due → TrioNode
 receiver_of role None d = node.Egress
 receiver_of role (Some next) d = node.Replica (role.stage + 1) d.to d.copy
 
+-- the packet of an item that is due, to the node that it is due to
 abbrev pub tuples_of : TrioRole → Due → Option Item → List (TrioNode × TrioBody)
 tuples_of role d None = []
 tuples_of role d (Some i) = (receiver_of role role.task.next d, body.Tuple (out_edge (partition_of role) d.to) d.number i) ∷ []
 
+-- the report of a mark, to the replica's controller
 abbrev pub report_packet : TrioRole → (q upto : ℕ) → (TrioNode × TrioBody)
 report_packet role q upto = (control_at (partition_of role), body.Report (in_edge (partition_of role) q) upto)
 
+-- it reports a mark that is above what was told, if there is one
 abbrev pub reporting : TrioRole → TrioRunning → Option (ℕ × ℕ) → WorkDone TrioRunning
 reporting role r None = record { after = r; sent = []; worked = worked.Idle }
 reporting role r (Some report) = record {
@@ -124,6 +131,7 @@ reporting role r (Some report) = record {
   worked = worked.Did;
 }
 
+-- it sends what is due; where nothing is, it may report
 abbrev pub sending : TrioRole → TrioRunning → Option Due → WorkDone TrioRunning
 sending role r None = reporting role r (report_of r.consumer)
 sending role r (Some d) = record {
@@ -142,6 +150,7 @@ MergesOrSends role r None after sent did =
     (after ≡ (sending_or_reporting role r).after) × (sent ≡ (sending_or_reporting role r).sent) × (did ≡ (sending_or_reporting role r).worked)
 MergesOrSends role r (Some i) after sent did = Merges role.task.next i (parts_of_run r) (parts_of_run after) × (sent ≡ []) × (did ≡ worked.Did)
 
+-- one that runs merges the next item; where there is none, it may send or report
 abbrev pub RunWorks : TrioRole → TrioRunning → TrioRunning → List (TrioNode × TrioBody) → Worked → Type 0
 RunWorks role r after sent did = MergesOrSends role r (item_of (least r.consumer.merge.waiting)) after sent did
 
@@ -158,22 +167,25 @@ MayWork (Some r) = IsTrue (all_wait r.consumer.merge.waiting) → r.consumer.mer
 
 -- ---- other events
 
--- it runs, and the next item of an edge may be pulled: its number is within the limit
+-- a replica runs, and the next item of an edge may be pulled: its number is within the limit
 abbrev pub MayPull : ℕ → Option TrioRunning → Type 0
 MayPull q None = ⊥
 MayPull q (Some r) = mark_of r.consumer.merge q + 1 < number_limit
 
+-- one that runs pulls the next item of an edge
 abbrev pub pulled_by : ℕ → Item → TrioRunning → TrioRunning
 pulled_by q i r = record r { consumer = with_merge r.consumer (after_offer r.consumer.merge q (mark_of r.consumer.merge q + 1) i) }
 
+-- only one that runs pulls an item
 abbrev pub pulling : ℕ → Item → Option TrioRunning → Option TrioRunning
 pulling q i None = None
 pulling q i (Some r) = Some (pulled_by q i r)
 
--- a replica, the room of its edges left aside
+-- what a replica has that runs, with the room of its edges left aside
 abbrev pub contents_of_run : TrioRunning → TrioRunning
 contents_of_run r = record r { producer = contents_of r.producer }
 
+-- what a replica has, if it runs, with the room of its edges left aside
 abbrev pub contents_if : Option TrioRunning → Option TrioRunning
 contents_if None = None
 contents_if (Some r) = Some (contents_of_run r)

@@ -27,10 +27,12 @@ pub record StationView : Type 0 where
   pub member : Member
   pub sent : Log
 
+-- the nodes of a plan in some order, each under its name with all that it ever sent
 pub record CoreView : Type 0 where
   pub plan : PlanView
   pub stations : List StationView
 
+-- the core of a plan with these stations
 abbrev pub core_of : PlanView → List StationView → CoreView
 core_of plan stations = record { plan = plan; stations = stations }
 
@@ -65,22 +67,26 @@ inputs_in (member.Replica r) = []
 inputs_in (member.Control c) = []
 inputs_in (member.Egress e) = []
 
+-- the inputs that the node of a station makes into items, if there is a station
 abbrev pub inputs_at : Option StationView → List Input
 inputs_at None = []
 inputs_at (Some at) = inputs_in at.member
 
--- the inputs of a core, and the numbers of its plan
+-- the inputs of a core: those of its ingress
 abbrev pub inputs_of : CoreView → List Input
 inputs_of core = inputs_at (found node.Ingress core.stations)
 
+-- the numbers of a core's plan, with its inputs
 abbrev pub flow_in : CoreView → Flow
 flow_in core = trio_flow core.plan (inputs_of core)
 
 -- ---- the room of edges left aside
 
+-- a replica, with the room of its edges left aside
 abbrev pub contents_of_replica : ReplicaView → ReplicaView
 contents_of_replica r = record r { running = replica.contents_if r.running }
 
+-- a node, with the room of its edges left aside
 abbrev pub contents_of : Member → Member
 contents_of (member.Ingress i) = member.Ingress (ingress.contents_in i)
 contents_of (member.Replica r) = member.Replica (contents_of_replica r)

@@ -22,6 +22,7 @@ pub record IsOpen (plan : PlanView) (inputs : List Input) (at : StationView) : T
   pub member : MemberStands plan inputs at.member (new_node at.name)
   pub sent : at.sent ≡ []
 
+-- each of these stations is as it opens, over these inputs
 abbrev pub AreOpen : PlanView → List Input → List StationView → Type 0
 AreOpen plan inputs stations = Each (IsOpen plan inputs) stations
 

@@ -15,11 +15,12 @@ use Rattle.trio_core.specs.Stands.{StandsFor}
 abbrev pub egress_of : CoreView → Option EgressView
 egress_of core = option_and_then (λ (at : StationView). egress_in at.member) (found node.Egress core.stations)
 
--- the rows that it has emitted
+-- the rows that egress has emitted, if it is there
 abbrev pub rows_of : Option EgressView → List Row
 rows_of None = []
 rows_of (Some e) = e.emitted
 
+-- the rows that egress of a core has emitted
 abbrev pub emitted_by : CoreView → List Row
 emitted_by core = rows_of (egress_of core)
 

@@ -4,6 +4,7 @@ use Rattle.trio_machine.specs.Messages.{NoMoreRows, NotHeld, NotRunning, NotSent
 use Rattle.trio_core.specs.declared.error.TrioError.{TrioError}
 use Rattle.trio_core.specs.declared.error.TrioError.TheVariants as error
 
+-- this error is the reason for which an event is refused, unless memory ran out
 abbrev pub IsRefusal : {X : Type 0} → Result X Refusal → TrioError → Type 0
 IsRefusal r (error.NotSent index sent) = r ≡ Err (NotSent index sent)
 IsRefusal r error.NothingDue = r ≡ Err NothingDue

@@ -11,11 +11,12 @@ abbrev pub bodies_to : TrioNode → List (TrioNode × TrioBody) → List TrioBod
 bodies_to to [] = []
 bodies_to to (p ∷ ps) = if is_node p.0 to then p.1 ∷ bodies_to to ps else bodies_to to ps
 
--- the body of the packet at a place among all, where it went to this node
+-- the body of a packet, if it is there and went to this node
 abbrev pub of_packet : TrioNode → Option (TrioNode × TrioBody) → Option TrioBody
 of_packet to None = None
 of_packet to (Some p) = if is_node p.0 to then Some p.1 else None
 
+-- the body of the packet at a place among all, where it went to this node
 abbrev pub body_at : TrioNode → List (TrioNode × TrioBody) → ℕ → Option TrioBody
 body_at to packets nth = of_packet to (slice_get packets nth)
 
@@ -40,6 +41,7 @@ is_link to (Some l) = is_node l.to to
 abbrev pub link_of : TrioNode → List LinkView → Option ℕ
 link_of to links = first_below (λ k. is_link to (slice_get links k)) (length links)
 
+-- the places in a list for one receiver, if there is one
 abbrev pub places_in : Option LinkView → List ℕ
 places_in None = []
 places_in (Some l) = l.places

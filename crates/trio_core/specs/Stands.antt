@@ -41,6 +41,7 @@ module _ (plan : PlanView) (inputs : List Input) where
     pub member : MemberStands at.member (s.nodes n)
     pub sent : PacketsStand at.sent (s.sent n)
 
+  -- there is a station under this name, and it stands for what a state has there
   abbrev pub IsThere : TrioNode → Option StationView → State → Type 0
   IsThere n None s = ⊥
   IsThere n (Some at) s = StationStands n at s

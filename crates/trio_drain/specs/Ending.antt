@@ -44,5 +44,6 @@ pub record EndsSo (f : Flow) (s : State) : Type 0 where
   pub lost : (stage part : ℕ) → (ending f s ≡ drained.Lost stage part) ↔ IsLostIn f s (partition stage part)
   pub whole : (ending f s ≡ drained.Whole) ↔ (IsEgressDone f s ⊎ IsEachServed f s)
 
+-- of every state, a drain ends just as the state says
 abbrev pub EndingsAreExact : Type 0
 EndingsAreExact = (f : Flow) (s : State) → EndsSo f s

@@ -26,6 +26,7 @@ pub record Start : Type 0 where
   pub inputs : List Input
   pub state : State
 
+-- the numbers of the plan, with its inputs
 abbrev pub flow_at : Start → Flow
 flow_at b = trio_flow b.plan b.inputs
 
@@ -42,6 +43,7 @@ pub record MayBegin (b : Start) : Type 0 where
 
 -- ---- whose turn it is
 
+-- the partition of a consumer of the drain: a replica's own, or that of egress
 abbrev pub partition_in : Flow → TrioNode → Partition
 partition_in f node.Ingress = partition 0 0
 partition_in f (node.Replica s p c) = partition s p
@@ -76,6 +78,7 @@ groups_before f stage part = pairs_up_to f (stage - 1) ++ parts_below stage part
 abbrev pub done_before : Start → (stage part : ℕ) → List TrioEvent
 done_before b stage part = replicate (makes_left b) event.Make ++ drain_groups (flow_at b) b.state (groups_before (flow_at b) stage part)
 
+-- all events before the turn of a consumer
 abbrev pub before_turn : Start → TrioNode → List TrioEvent
 before_turn b to = let p = partition_in (flow_at b) to in done_before b p.stage p.part
 
@@ -83,7 +86,7 @@ before_turn b to = let p = partition_in (flow_at b) to in done_before b p.stage 
 abbrev pub pulls_up_to : Start → TrioNode → ℕ → List TrioEvent
 pulls_up_to b to n = pulls_below (flow_at b) b.state (partition_in (flow_at b) to) to (consumer_of b to) n
 
--- from all of them
+-- what a consumer pulls from all its sources
 abbrev pub pulls_of : Start → TrioNode → List TrioEvent
 pulls_of b to = pulls_up_to b to ((flow_at b).sources (partition_in (flow_at b) to).stage)
 

@@ -43,6 +43,7 @@ pub record IsNone (old new : CoreView) (e : TrioEvent) : Type 0 where
   pub unchanged : new ≡ old
   pub over : (s : State) → StandsFor old s → IsSound (flow_in old) s → IsOver (flow_in old) e s
 
+-- an event was applied as a step of the drain, or nothing was done
 abbrev pub IsTried : Bool → (old new : CoreView) → TrioEvent → Type 0
 IsTried true old new e = IsNext old new e
 IsTried false old new e = IsNone old new e

@@ -9,6 +9,7 @@ use Rattle.trio_machine.specs.declared.node.TrioNode.TheVariants as node
 use Rattle.trio_drain.specs.Drained.{IsLostIn}
 use Rattle.trio_drain.specs.Ending.{ending, rows_at_end}
 
+-- how the drain ends after each of these lists of events
 pub record WorkedRows : Type 0 where
   -- After two failures the third replica drains, and all rows are emitted.
   pub third_drains : After (one_stage 3) two_fail (λ s. (ending (one_stage 3) s ≡ drained.Whole) × (rows_at_end totals (trades 3) s ≡ output totals (trades 3)))

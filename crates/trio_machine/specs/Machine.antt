@@ -17,6 +17,7 @@ use Rattle.trio_machine.specs.declared.event.TrioEvent.TheVariants as event
 use Rattle.trio_machine.specs.declared.node.TrioNode.{TrioNode}
 use Rattle.trio_machine.specs.declared.node.TrioNode.TheVariants as node
 
+-- the numbers of all nodes, and all messages that they ever sent
 pub record State : Type 0 where
   pub nodes : TrioNode → Node
   -- every message ever sent from one node to another, in order

@@ -16,6 +16,7 @@ pub record RunningNumbers : Type 0 where
   pub consumer : Consumer
   pub producer : Producer
 
+-- a replica of a group: it is gone, or it runs with these numbers
 pub data Replica : Type 0 where
   Gone : Replica
   Running : (numbers : RunningNumbers) → Replica

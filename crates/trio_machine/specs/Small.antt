@@ -14,6 +14,7 @@ use Rattle.trio_machine.specs.declared.node.TrioNode.TheVariants as node
 
 -- ---- P holds of each number
 
+-- P holds of each number of a replica that runs
 pub record EachOfRunning (P : ℕ → Type 0) (x : RunningNumbers) : Type 0 where
   pub consumer : EachOfConsumer P x.consumer
   pub producer : EachOfProducer P x.producer
@@ -23,11 +24,13 @@ abbrev pub EachOfReplica : (ℕ → Type 0) → Replica → Type 0
 EachOfReplica P Gone = Unit {0}
 EachOfReplica P (Running x) = EachOfRunning P x
 
+-- P holds of each number of a controller
 pub record EachOfController (P : ℕ → Type 0) (x : Controller) : Type 0 where
   pub reports : (c q : ℕ) → P (x.reports c q)
   pub acked : (q : ℕ) → P (x.acked q)
   pub term : P x.term
 
+-- P holds of each number of ingress
 pub record EachOfIngress (P : ℕ → Type 0) (x : Ingress) : Type 0 where
   pub makes : P x.makes
   pub producer : EachOfProducer P x.producer

@@ -77,6 +77,7 @@ pub record RunningShown : Type 0 where
   pub low : ℕ
   pub cursors : List ℕ
 
+-- what a state shows of a replica: that it is gone, or what it has where it runs
 pub data ReplicaShown : Type 0 where
   IsGone : ReplicaShown
   Runs : (replica : RunningShown) → ReplicaShown
@@ -102,6 +103,7 @@ shown (Running x) = Runs (record {
 abbrev pub replicas : State → ℕ → List ReplicaShown
 replicas s stage = of_three (λ c. shown (replicas_of s (partition stage 0) c))
 
+-- what a state shows of a controller: which replicas it holds up, their reports, what it acknowledged, its term and its leader
 pub record ControllerShown : Type 0 where
   pub up : List Bool
   pub reports : List ℕ
@@ -165,6 +167,7 @@ leader_fails =
 
 -- ---- what they show
 
+-- each of these lists of events has what is said of it as its end, or as the reason why one more event is none
 pub record WorkedRows : Type 0 where
   -- the plans are within their limits, and of one source
   pub plans : IsTrioPlan totals × IsTrioPlan totals_of_totals

@@ -28,6 +28,7 @@ gone_line name = name ++ codes " gone\n"
 abbrev pub running_line : Word → ℕ → List ℕ
 running_line name count = name ++ codes " running count=" ++ decimal count ++ codes "\n"
 
+-- a replica: how many items it has merged, or that it is gone
 abbrev pub replica_line : Word → Replica → List ℕ
 replica_line name Gone = gone_line name
 replica_line name (Running x) = running_line name x.consumer.count

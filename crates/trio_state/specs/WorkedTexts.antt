@@ -8,6 +8,7 @@ use Rattle.trio_state.specs.GroupsText.{groups_text}
 abbrev pub lines : List (List ℕ) → List ℕ
 lines texts = flat_map (λ line. line ++ codes "\n") texts
 
+-- each of these lists of events ends in a state whose groups have this text
 pub record WorkedTexts : Type 0 where
   -- each group of a plan of two stages opens with its first replica as its leader
   pub opens : After (two_stages 1) [] (λ s. groups_text (two_stages 1) s ≡ lines (

@@ -15,6 +15,7 @@ pub record IsKnown (plan : PlanView) (inputs : List Input) (n : TrioNode) : Type
   pub there : has_trio_node plan n ≡ true → HasNode (trio_flow plan inputs) n
   pub named : HasNode (trio_flow plan inputs) n → has_trio_node plan n ≡ true
 
+-- the nodes of the machine are the plan's
 abbrev pub NodesAreThePlans : Type 0
 NodesAreThePlans = (plan : PlanView) (inputs : List Input) (n : TrioNode) → IsKnown plan inputs n
 

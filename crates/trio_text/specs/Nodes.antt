@@ -30,6 +30,7 @@ is_one_of_group node.Egress = true
 abbrev pub has_trio_node : PlanView → TrioNode → Bool
 has_trio_node plan n = is_one_of_group n && has_node plan (place_of n)
 
+-- whether a node is one of the replicas of a group
 abbrev pub is_trio_replica : TrioNode → Bool
 is_trio_replica node.Ingress = false
 is_trio_replica (node.Replica stage part copy) = true

@@ -26,18 +26,21 @@ group_of (node.Replica stage part which) = 1
 group_of (node.Control stage part) = 1
 group_of node.Egress = 2
 
+-- the stage of a node of a pair; of another node 0
 abbrev pub stage_of : NodeId → ℕ
 stage_of node.Ingress = 0
 stage_of (node.Replica stage part which) = stage
 stage_of (node.Control stage part) = stage
 stage_of node.Egress = 0
 
+-- the partition of a node of a pair; of another node 0
 abbrev pub part_of : NodeId → ℕ
 part_of node.Ingress = 0
 part_of (node.Replica stage part which) = part
 part_of (node.Control stage part) = part
 part_of node.Egress = 0
 
+-- replica A, and then replica B
 abbrev pub rank_of_which : Which → ℕ
 rank_of_which which.A = 0
 rank_of_which which.B = 1

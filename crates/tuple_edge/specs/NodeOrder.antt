@@ -10,9 +10,11 @@ use Rattle.tuple_edge.specs.declared.node.NodeId.TheVariants as node
 use Rattle.tuple_edge.specs.Node.{node_cmp, group_of, stage_of, part_of, rank_of}
 use Rattle.tuple_edge.specs.contracts.node.NodeIdPartialEq.TheImpl as equal
 
+-- the order of nodes is total
 pub node_total : IsTotalOrder node_cmp
 node_total = then_total (on_total group_of nat_cmp_total) (then_total (on_total stage_of nat_cmp_total) (then_total (on_total part_of nat_cmp_total) (on_total rank_of nat_cmp_total)))
 
+-- nodes are equal just where neither comes before the other
 pub node_ties : (x y : NodeId) → equal.ghosts.eq x y ≡ eq_by_cmp node_cmp x y
 node_ties node.Ingress node.Ingress = refl
 node_ties node.Ingress (node.Replica t q v) = refl

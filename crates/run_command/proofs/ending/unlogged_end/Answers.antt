@@ -1,8 +1,7 @@
-use Rattle.std.proofs.Common.{◌≡◌, ap, refl, subst, sym}
+use Rattle.std.proofs.Common.{ap, refl, sym}
 use Rattle.std.proofs.lemmas.Result.{IfOk-weaker}
 use Rattle.command_course.specs.Feeds.{feed_of}
 use Rattle.command_line.specs.Views.{options_in, text_in}
-use Rattle.drained_run.specs.Ended.{EndsSo}
 use Rattle.run_command.specs.Courses.{run_of}
 use Rattle.run_command.specs.Endings.{journal_of}
 use Rattle.run_command.proofs.RunEnds.{ended_so}
