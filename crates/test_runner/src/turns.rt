@@ -60,24 +60,25 @@ fn portions_of(alloc: Global, ran: &Ran, node: NodeId) -> Result<Vec<(Kind, u64)
     Ok(Vec::new(alloc))
 }
 
-// A plan and a script, so many turns of one worker, and what a node then has done first.
+// A plan and a script, so many turns of one worker, and what a node then has done.
 struct Case {
     plan: &'static [u8],
     script: &'static [u8],
     turns: u64,
     node: NodeId,
-    begins: &'static [(Kind, u64)],
+    portions: &'static [(Kind, u64)],
 }
 
 // The worker turns ingress, both replicas, their controller and egress, and begins again.
 const CASES: &[Case] = &[
-    // Rows are made before they are sent, 512 in a turn at most.
+    // Rows are made before they are sent, 512 in a turn at most. Each item is sent to both replicas, whose rings hold 128 of
+    // them, until some wait.
     Case {
         plan: ONE,
         script: b"",
         turns: 1,
         node: NodeId::Ingress,
-        begins: &[(Kind::Make, 512)],
+        portions: &[(Kind::Make, 512), (Kind::Work, 280)],
     },
     // Rows are made while an edge holds fewer items than the plan says.
     Case {
@@ -85,7 +86,7 @@ const CASES: &[Case] = &[
         script: b"",
         turns: 1,
         node: NodeId::Ingress,
-        begins: &[(Kind::Make, 16), (Kind::Work, 32)],
+        portions: &[(Kind::Make, 16), (Kind::Work, 32)],
     },
     // The 128 items that a ring holds are taken before they are merged and sent on, and reported.
     Case {
@@ -93,7 +94,7 @@ const CASES: &[Case] = &[
         script: b"",
         turns: 2,
         node: A,
-        begins: &[(Kind::Take, 128), (Kind::Work, 257)],
+        portions: &[(Kind::Take, 128), (Kind::Work, 257)],
     },
     // Under a script there are at most 64 of each in a turn, of all nodes: so A is given 32 items in its first one.
     Case {
@@ -101,7 +102,7 @@ const CASES: &[Case] = &[
         script: b"kill 1.0.a at 1 back never\n",
         turns: 1,
         node: NodeId::Ingress,
-        begins: &[(Kind::Make, 64), (Kind::Work, 64)],
+        portions: &[(Kind::Make, 64), (Kind::Work, 64)],
     },
     // An order comes first in the turn after the one in which its count was reached. Behind it come 32 items that have no
     // effect any more, and what egress acknowledges.
@@ -110,7 +111,7 @@ const CASES: &[Case] = &[
         script: b"kill 1.0.a at 1 back never\n",
         turns: 7,
         node: A,
-        begins: &[
+        portions: &[
             (Kind::Take, 32),
             (Kind::Work, 64),
             (Kind::Order, 1),
@@ -119,9 +120,9 @@ const CASES: &[Case] = &[
     },
 ];
 
-// Whether a node has done this first.
+// Whether a node has done this.
 fn has_done(alloc: Global, ran: &Ran, case: &Case) -> Result<bool, OutOfMemory> {
-    Ok(portions_of(alloc, ran, case.node)?.starts_with(case.begins))
+    Ok(portions_of(alloc, ran, case.node)?.as_slice() == case.portions)
 }
 
 fn turns_so<R: Threads + Sync>(
