@@ -30,13 +30,16 @@ DISK=4
 MEMORY=4
 # What the first build of flux took where it was measured. README and TUTORIAL say it in these words, as
 # .ci/docs-name-what-is-there checks.
-FIRST_BUILD="54 minutes on four processors, the last half of it beside other work"
+FIRST_BUILD="52 minutes on four processors, the second half of it beside other work"
 HOW_LONG="from nothing that took $FIRST_BUILD"
-[ "$name" = flux ] || HOW_LONG="where flux is built that takes a few minutes, and from nothing some more than flux, which took $FIRST_BUILD"
+[ "$name" = flux ] || HOW_LONG="where flux is built, and the toolchain keeps what it passed, that took half a minute; from nothing it takes some more than flux, which took $FIRST_BUILD"
 # As the program says it; .ci/run compares them.
 usage='flux: usage: eval PLAN TRADES [--cash C] | run PLAN TRADES [options] | replay PLAN TRADES EVENTS [--cash C] | make START COUNT | trial PLAN START COUNT [options] | trio PLAN TRADES EVENTS | move PLAN TRADES MOVES'
 [ "$name" != flux_live ] || usage='flux_live: usage: PLAN TRADES [SCRIPT]'
-[ "$name" != flux_look ] || usage='flux_look: usage: check PLAN [TRADES] [--cash C] [--script S] | story PLAN TRADES EVENTS [--cash C] [--script S] | timeline PLAN TRADES EVENTS [--cash C] [--svg]'
+[ "$name" != flux_look ] || usage='flux_look: usage: check PLAN [TRADES] [--cash C] [--script S] [--json] | story PLAN TRADES EVENTS [--cash C] [--script S] [--json] | timeline PLAN TRADES EVENTS [--cash C] [--svg | --json] [--only] | sift TRADES --rejects R | sql PLAN'
+
+# What `[options]` of the usage line stands for.
+run_options='[--cash C] [--script S] [--threads N] [--turns T] [--journal J]'
 
 help() {
   cat <<'TEXT'
@@ -52,7 +55,8 @@ flux: a parallel stream dataflow over trades that survives failures, and whose e
   flux move PLAN TRADES MOVES         writes the rows of a stage whose buckets move between partitions
   flux COMMAND --help                 says more of a command; so do flux help COMMAND and flux COMMAND -h
   flux --help                         writes this; so do flux help and flux -h
-  flux --version                      writes the commit; so does flux -V
+  flux --version                      writes the version and the commit; so does flux -V
+  flux completion bash                writes what bash has to be told so that it completes words
 
 Two more programs go with it: flux_live writes the rows while a run goes on, and flux_look says what a plan
 will do and what a run did: ./flux_live --help, ./flux_look --help.
@@ -85,7 +89,7 @@ as CSV: the same text as eval, whatever fails under a safe script.
                 left then is done on the caller's thread
   --journal J   the file to which the journal is saved: all events, in one order in which they are legal.
                 flux replay, flux_look story and flux_look timeline read it. A file that is one of the
-                inputs is refused, before anything is read
+                inputs, or to which the rows go, is refused before anything is read
 
 An option stands anywhere behind run, once, as --threads 2 or as --threads=2. A name isn't empty and doesn't
 begin with "-".
@@ -249,10 +253,16 @@ help_look() {
   cat <<'TEXT'
 flux_look: what a plan will do, and what a run did, in words and pictures for people
 
-  flux_look check PLAN [TRADES] [--cash C] [--script S]      says what a plan does and warns; of each input
+  flux_look check PLAN [TRADES] [--cash C] [--script S] [--json]
+                                                             says what a plan does and warns; of each input
                                                              that has a fault it says where and what
-  flux_look story PLAN TRADES EVENTS [--cash C] [--script S] tells what happened in a run, a line each
-  flux_look timeline PLAN TRADES EVENTS [--cash C] [--svg]   draws it, as text or as SVG
+  flux_look story PLAN TRADES EVENTS [--cash C] [--script S] [--json]
+                                                             tells what happened in a run, a line each
+  flux_look timeline PLAN TRADES EVENTS [--cash C] [--svg | --json] [--only]
+                                                             draws it, as text, as SVG or as JSON
+  flux_look sift TRADES --rejects R                          writes the records of trades that are accepted,
+                                                             and saves the others to R, with why
+  flux_look sql PLAN                                         writes the plan as one SQL query
   flux_look COMMAND --help                                   says more of a command; so do flux_look help COMMAND
                                                              and flux_look COMMAND -h
   flux_look --help                                           writes this; so do flux_look help and flux_look -h
@@ -264,13 +274,14 @@ Try it, in this repository:
 
 The exit status is 0 where the whole text was written, 1 where check warns, 2 for words that have no form, 3
 for an input that has a fault or an event that is refused, 4 for a file that can't be read, 5 for an output
-that took not all, 8 for want of memory, and 70 where the program could not be built.
+that took not all or rejects that were not saved, 8 for want of memory, and 70 where the program could not be
+built.
 TEXT
 }
 
 help_check() {
   cat <<'TEXT'
-flux_look check PLAN [TRADES] [--cash C] [--script S]
+flux_look check PLAN [TRADES] [--cash C] [--script S] [--json]
 
 Says in plain sentences what a plan does, stage by stage, and warns of what is hardly meant. Where a file has
 a fault, it says the first fault of each file, and nothing else.
@@ -279,6 +290,7 @@ a fault, it says the first fault of each file, and nothing else.
   TRADES      the file with the trades, CSV of at most 16,777,216 bytes and 100,000 trades
   --cash C    the file with the cash movements, for a plan of version 2
   --script S  the file with the failure script, of at most 65,536 bytes; it is read where the plan has no fault
+  --json      writes it as JSON, one object a line
 
 An option stands anywhere behind check, once, as --cash C or as --cash=C. The exit status is 0 where nothing
 is warned of, 1 where something is, and 3 where a file has a fault.
@@ -291,7 +303,7 @@ TEXT
 
 help_story() {
   cat <<'TEXT'
-flux_look story PLAN TRADES EVENTS [--cash C] [--script S]
+flux_look story PLAN TRADES EVENTS [--cash C] [--script S] [--json]
 
 Tells what happened in a run, in order: failures, stops, requests, who was named leader, catch-ups, lost pairs.
 
@@ -301,6 +313,7 @@ Tells what happened in a run, in order: failures, stops, requests, who was named
               run, or a list written by hand
   --cash C    the file with the cash movements, for a plan of version 2; without the option there are none
   --script S  the file with the failure script of the run: at the end it says which of its orders never fired
+  --json      tells it as JSON, one object a line
 
 An event that is no step of the nodes is refused as by flux replay, with its line and the reason.
 
@@ -312,7 +325,7 @@ TEXT
 
 help_timeline() {
   cat <<'TEXT'
-flux_look timeline PLAN TRADES EVENTS [--cash C] [--svg]
+flux_look timeline PLAN TRADES EVENTS [--cash C] [--svg | --json] [--only]
 
 Draws what happened in a run: a lane for ingress, for each replica and for egress, over the places of the list
 of events, which are cut into at most 100 columns. Below it stands what each letter means.
@@ -323,6 +336,8 @@ of events, which are cut into at most 100 columns. Below it stands what each let
               run, or a list written by hand
   --cash C    the file with the cash movements, for a plan of version 2; without the option there are none
   --svg       draws it as SVG, in at most 960 columns
+  --json      writes the chart as JSON, one object a line
+  --only      draws only the lanes where something happened
 
 An event that is no step of the nodes is refused as by flux replay, with its line and the reason.
 
@@ -332,20 +347,214 @@ Try it, in this repository:
 TEXT
 }
 
+help_sift() {
+  cat <<'TEXT'
+flux_look sift TRADES --rejects R
+
+Parts the records of a file of trades: those that flux accepts are written, under the header; those that it
+refuses are saved to R before, each behind its line and the reason, in which stands what may stand there.
+
+  TRADES       the file with the trades, CSV of at most 16,777,216 bytes
+  --rejects R  the file to which the refused records are saved; one that is there is replaced. It can't be
+               TRADES, nor the file that the text goes to
+
+What is written can be given to every command that reads trades. The option stands anywhere behind sift, once, as
+--rejects R or as --rejects=R. The exit status is 0 also where records are refused, and 3 where the header is.
+
+Try it, in this repository:
+
+  ./flux_look sift examples/look/mixed.csv --rejects rejects.csv
+TEXT
+}
+
+help_sql() {
+  cat <<'TEXT'
+flux_look sql PLAN
+
+Writes a plan as one SQL query over a table of trades, in the part of SQL that PostgreSQL and SQLite both have.
+Its head says how the table is made and how a file of trades is loaded; each stage is one table expression, with
+its line of the plan beside it. Its rows and their order are those of flux eval.
+
+  PLAN        the file with the plan, of at most 65,536 bytes
+
+The query is short enough to be read. That databases answer as flux eval does is tested, and not proved.
+
+Try it, in this repository:
+
+  ./flux_look sql examples/first/total.txt
+TEXT
+}
+
+# The version, which is that of the first heading of CHANGELOG.md, and the commit.
 version() {
-  local commit
-  commit=$([ -e "$top/.git" ] && git -C "$top" describe --tags --always --dirty 2>/dev/null) || commit="of a commit that isn't known"
-  cat <<<"$name $commit"
+  local version commit
+  version=$(sed -n 's/^## \([0-9.]*\).*/\1/p' "$top/CHANGELOG.md" 2>/dev/null | head -n 1)
+  commit=$([ -e "$top/.git" ] && git -C "$top" describe --always --dirty 2>/dev/null) && commit="commit $commit" || commit="of a commit that isn't known"
+  cat <<<"$name ${version:+$version, }$commit"
 }
 
 answer() { "$1" 2>/dev/null || { echo "$name: cannot write" >&2; exit 5; }; exit 0; }
 stop() { echo "$name: $1" >&2; exit 70; }
-is_command() {
-  case $name,${1-} in
-    flux,run | flux,eval | flux,replay | flux,make | flux,trial | flux,move | flux,trio) ;;
-    flux_look,check | flux_look,story | flux_look,timeline) ;;
-    *) return 1 ;;
+
+# Fills `forms` from the usage line: of each command, by its name, what may stand behind it; `commands` are the names in order. flux_live has
+# no command, and its one form goes by `-`.
+declare -A forms
+commands=()
+list_forms() {
+  local words word command='' is_open=''
+  [ "$name" != flux_live ] || command=-
+  read -ra words <<<"${usage#*: usage: }"
+  for word in "${words[@]}"; do
+    if [ "$word" = '|' ] && [ -z "$is_open" ]; then
+      command=''
+    elif [ -z "$command" ]; then
+      command=$word forms[$word]=''
+      commands+=("$word")
+    else
+      [ "$word" != '[options]' ] || word=$run_options
+      forms[$command]+=" $word"
+      case $word in *']') is_open='' ;; '['*) is_open=yes ;; esac
+    fi
+  done
+}
+is_command() { [ "$name" != flux_live ] && [ -n "${1-}" ] && [ -n "${forms[$1]+is there}" ]; }
+
+# Reads the form of a command: `wanted` are the names of its words, of which `least` have to be there; `options` are its options, of which `needed`
+# have to be there; `takes` says what the value of each is, nothing where it has none, and `instead` beside which one it may not stand.
+declare -A takes instead
+read_form() {
+  local words word option='' before='' is_open=''
+  takes=() instead=() options=() wanted=() needed=() least=0
+  read -ra words <<<"${forms[$1]-}"
+  for word in "${words[@]}"; do
+    [[ $word != '['* ]] || is_open=yes
+    case $word in
+      '|') before=${options[-1]} option='' ;;
+      --* | '[--'*)
+        option=${word#'['}
+        option=${option%']'}
+        [ -z "$before" ] || instead[$option]=$before instead[$before]=$option
+        before=''
+        takes[$option]='' options+=("$option")
+        [ -n "$is_open" ] || needed+=("$option")
+        [[ $word != *']' ]] || option='' ;;
+      *)
+        if [ -n "$option" ]; then
+          takes[$option]=${word%']'} option=''
+        elif [ -n "$is_open" ]; then
+          wanted+=("${word:1:-1}")
+        else
+          wanted+=("$word") least=${#wanted[@]}
+        fi ;;
+    esac
+    [[ $word != *']' ]] || is_open=''
+  done
+}
+
+# Whether a word may stand in the place of this name; `allowed` says what may.
+is_fit() {
+  case $1 in
+    --threads) allowed="1 to 16" ;;
+    --turns) allowed="0 to 10000000" ;;
+    START) allowed="0 to 2147483647" ;;
+    COUNT) allowed="0 to 100000" ;;
+    N | LINE) allowed="a number" ;;
+    *) allowed="the name of a file" ;;
   esac
+  case $allowed in
+    *' to '*) [[ $2 =~ ^[0-9]{1,10}$ ]] && ((10#$2 >= ${allowed% to *} && 10#$2 <= ${allowed#* to })) ;;
+    'a number') [[ $2 =~ ^[0-9]{1,10}$ ]] ;;
+    *) [[ -n $2 && $2 != -* ]] ;;
+  esac
+}
+
+# Notes what is wrong with the words, if nothing was before: where, what stands there, and what may stand there.
+wrong() { [ -n "$fault" ] || fault="$1: $2; here may stand $3"; }
+# The same of a word in the place of this name, where it may not stand there.
+look_at() { is_fit "$1" "$2" || wrong "$1" "\"$2\" stands here" "$allowed"; }
+# The same of a place in which there is no word.
+miss() { is_fit "$1" '' || wrong "$1" "nothing stands here" "$allowed"; }
+# Words as in `a, b or c`.
+any_of() {
+  local text
+  printf -v text '%s, ' "${@:1:$# - 1}"
+  text=${text%, }
+  echo "${text:+$text or }${*: -1}"
+}
+
+# Takes all words apart: `command`, the words `plain` behind it, the `values` of options by their names, whether one `asks` for help, and the
+# first `fault`, if there is one. Each word is looked at here, and nowhere else.
+declare -A values
+take_apart() {
+  local word option at
+  command=- plain=() values=() asks='' fault=''
+  list_forms
+  if [ "$name" != flux_live ]; then
+    command=$1
+    shift
+    is_command "$command" || wrong "\"$command\"" "it is no command" "$(any_of "${commands[@]}")"
+  fi
+  read_form "$command"
+  while [ $# -gt 0 ]; do
+    word=$1 option=${1%%=*}
+    shift
+    [[ $word != --help && $word != -h ]] || asks=yes
+    if [[ $word != -* ]]; then
+      plain+=("$word")
+    elif [ -z "${takes[$option]+is there}" ]; then
+      wrong "\"$word\"" "it is no option here" "$(any_of "${options[@]-no option}")"
+    elif [ -n "${values[$option]+is there}" ]; then
+      wrong "$option" "it stands here a second time" "one"
+    elif [ -n "${instead[$option]-}" ] && [ -n "${values[${instead[$option]}]+is there}" ]; then
+      wrong "$option" "it stands beside ${instead[$option]}" "one of the two"
+    elif [ -z "${takes[$option]}" ]; then
+      values[$option]=''
+      [ "$word" = "$option" ] || wrong "$option" "\"${word#*=}\" stands here" "nothing"
+    elif [ "$word" != "$option" ]; then
+      values[$option]=${word#*=}
+      look_at "$option" "${values[$option]}"
+    elif [ $# -gt 0 ]; then
+      [[ $1 != --help && $1 != -h ]] || asks=yes
+      values[$option]=$1
+      look_at "$option" "$1"
+      shift
+    else
+      miss "$option"
+    fi
+  done
+  [ -z "$fault" ] || return 0
+  for at in "${!plain[@]}"; do
+    if [ "$at" -lt ${#wanted[@]} ]; then
+      look_at "${wanted[at]}" "${plain[at]}"
+    else
+      wrong "\"${plain[at]}\"" "it is a word too many" "${wanted[*]}"
+    fi
+  done
+  [ ${#plain[@]} -ge "$least" ] || miss "${wanted[${#plain[@]}]}"
+  for option in "${needed[@]}"; do [ -n "${values[$option]+is there}" ] || miss "$option"; done
+}
+
+# What bash has to be told so that it completes words: source <(./flux completion bash)
+completion() {
+  cat <<'TEXT'
+# The words of flux, flux_live and flux_look in bash. Where none of theirs fits, names of files are offered.
+_flux() { mapfile -t COMPREPLY < <("${COMP_WORDS[0]}" --complete "${COMP_WORDS[@]:1:COMP_CWORD}" 2>/dev/null); }
+complete -o default -F _flux flux flux_live flux_look
+TEXT
+}
+# Writes the words that may stand in place of the last one of these, which is begun: commands, or options that aren't there yet.
+offer_words() {
+  local last=${*: -1} more="--help"
+  take_apart "$@"
+  if [ $# -eq 1 ] && [ "$name" != flux_live ]; then
+    more="${commands[*]} help --help --version completion"
+  elif [[ $last == -* ]]; then
+    unset "values[$last]"
+    for it in "${options[@]}"; do [ -n "${values[$it]+is there}" ] || more+=" $it"; done
+  else
+    return 0
+  fi
+  compgen -W "$more" -- "$last"
 }
 # Writes the help of the program as a whole.
 answer_help() {
@@ -356,37 +565,38 @@ answer_help() {
   esac
 }
 
-# Ends with 2, and says which help to ask for: that of the command where the first word is one.
+# Ends with 2, and says what is wrong with the words, and which help to ask for: that of the command where there is one.
 end_with_2() {
-  local command=''
-  ! is_command "${1-}" || command="$1 "
-  echo "$name: see ./$name $command--help" >&2
+  local behind=''
+  ! is_command "${command-}" || behind="$command "
+  [ -z "${fault-}" ] || echo "$name: $fault" >&2
+  echo "$name: see ./$name $behind--help" >&2
   exit 2
 }
 
-# Ends with 2 where the words of `run` or `trial` name a journal that is one of the input files, which it would replace.
-check_journal() {
-  local journal='' option value plain=() inputs=() most=2 it
-  [ "$1" = run ] || most=1
-  shift
-  while [ $# -gt 0 ]; do
-    case $1 in
-      --*=*) option=${1%%=*} value=${1#*=} ;;
-      --*) option=$1 value=${2-}; [ $# -eq 1 ] || shift ;;
-      *) option='' value=$1 ;;
-    esac
-    case $option in
-      '') plain+=("$value") ;;
-      --journal) journal=$value ;;
-      --cash | --script) inputs+=("$value") ;;
-    esac
-    shift
+# Ends with 2 where a journal, or the rejects of `sift`, would be saved to one of the input files, or to the file that standard output goes to.
+check_saved() {
+  local option=--journal what="the journal is" text="the rows go" saved inputs=("${values[--cash]-}" "${values[--script]-}") at
+  [ "$name" != flux_look ] || option=--rejects what="the rejects are" text="the records that are kept go"
+  saved=${values[$option]-}
+  [ -n "$saved" ] || return 0
+  for at in "${!plain[@]}"; do
+    # START and COUNT are no files.
+    case ${wanted[at]-} in PLAN | TRADES) inputs+=("${plain[at]}") ;; esac
   done
-  [ -n "$journal" ] || return 0
-  # The words behind the plan are no files of `trial`.
-  for it in "${plain[@]:0:most}" "${inputs[@]}"; do
-    [ ! "$journal" -ef "$it" ] || { echo "flux: $journal: the journal is one of the inputs" >&2; return 2; }
+  for at in "${inputs[@]}"; do
+    [ ! "$saved" -ef "$at" ] || { echo "$name: $saved: $what one of the inputs" >&2; end_with_2; }
   done
+  [ ! -f /dev/stdout ] || [ ! "$saved" -ef /dev/stdout ] || { echo "$name: $saved: $text to this file" >&2; end_with_2; }
+}
+
+# Says, behind a refusal of an input, how to see where in it the fault is.
+tell_check() {
+  local script=${values[--script]-${plain[2]-}} words
+  case $name,$command in flux,eval | flux,run | flux_live,-) ;; *) return 0 ;; esac
+  words=(./flux_look check "${plain[@]:0:2}" ${values[--cash]+--cash "${values[--cash]}"} ${script:+--script "$script"})
+  printf -v words '%q ' "${words[@]}"
+  echo "$name: ${words% } says where, and what may stand there" >&2
 }
 
 # Fills `crates` with the program, after those crates of the repository that it stands on.
@@ -551,22 +761,25 @@ build() {
 # .ci/run sources this file, to keep the sum of what the gate has built.
 [ "${BASH_SOURCE[0]}" = "$0" ] || return 0
 
-case $#,${1-} in
-  0,) echo "$usage" >&2; end_with_2 ;;
+[ $# -gt 0 ] || { echo "$usage" >&2; end_with_2; }
+[ "$1" != --complete ] || { shift; offer_words "$@"; exit 0; }
+take_apart "$@"
+case $#,$1 in
   1,--help | 1,-h | 1,help) answer_help ;;
   1,--version | 1,-V) answer version ;;
   2,--help | 2,-h | 2,help) ! is_command "$2" || answer "help_$2" ;;
+  2,completion) [ "$2" != bash ] || answer completion ;;
 esac
 # No file can have such a name.
-for it in "${@:2}"; do
-  [[ $it == --help || $it == -h ]] || continue
+if [ -n "$asks" ]; then
   [ "$name" != flux_live ] || answer help_live
-  ! is_command "$1" || answer "help_$1"
-done
-if [ "$name" = flux ]; then
-  case $1 in run | trial) check_journal "$@" || end_with_2 "$1" ;; esac
+  ! is_command "$command" || answer "help_$command"
 fi
-if ! is_fresh; then
+check_saved
+[ -d "$main/src" ] || stop "not run: this is a copy of the launcher, and its repository isn't here: ln -s REPOSITORY/$name DIR/ installs it"
+if ! is_fresh && [ "${FLUX_BUILT-}" = use ] && [ -x "$program" ]; then
+  echo "$name: its sources are not those of the program that is built, which FLUX_BUILT=use runs" >&2
+elif ! is_fresh; then
   # Of several first calls one builds, and the others wait for it.
   exec 9<"$top"
   flock -n 9 || { echo "$name: another call is building a program; waiting for it" >&2; flock 9; }
@@ -586,5 +799,8 @@ child=$!
 for signal in INT QUIT TERM HUP; do trap "end_by $signal 2>/dev/null" "$signal"; done
 wait "$child" 2>/dev/null
 status=$?
-[ "$status" -ne 2 ] || end_with_2 "$1"
+case $status in
+  2) end_with_2 ;;
+  3) tell_check ;;
+esac
 exit "$status"

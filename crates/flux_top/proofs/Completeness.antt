@@ -5,7 +5,7 @@ use Rattle.command_course.specs.Course.{Course, Leads, Reads, Refuses, Runs, Wri
 use Rattle.flux_outside.specs.Outside.{Call, Names}
 use Rattle.flux_outside.specs.Told.{FilesTold}
 use Rattle.run_command.specs.Endings.{Ending}
-use Rattle.flux_top.specs.Clauses.{Accepts, ComesToRefusal, Finishes, LeadsTo, Rejects, SavesNot}
+use Rattle.flux_top.specs.Clauses.{Accepts, ComesTo, ComesToRefusal, Finishes, LeadsTo, Rejects}
 use Rattle.flux_top.specs.Ends.{Ends, EndsOrLoses, IsAtEnd, Loses, LosesNone}
 use Rattle.flux_top.specs.Outcome.{asked}
 
@@ -124,10 +124,11 @@ pub accepted_unlost : (before after : FilesTold) (words : List (List ℕ)) (pair
     → Finishes before after words (Loses pair) ending → ⊥
 accepted_unlost before after words pair ending accepted finishes =
     let it = accepted_of before.contents words LosesNone accepted in
-    let same : it.there ≡ finishes.there = one_end_to it.named words it.there finishes.there (end_over it.there (sure_at_end it.there it.is_kind))
-    (end_over finishes.there (loses_at_end pair finishes.there ending finishes.ends_so)) it.leads
-    (end_is_led before.contents words it.named finishes.comes.course finishes.there finishes.reads it.is finishes.comes.is_asked finishes.comes.fact) in
-    no_loss pair finishes.there ending (subst LosesNone same it.is_kind) finishes.ends_so
+    let lost = finishes.comes in
+    let same : it.there ≡ lost.there = one_end_to it.named words it.there lost.there (end_over it.there (sure_at_end it.there it.is_kind))
+    (end_over lost.there (loses_at_end pair lost.there ending lost.ends_so)) it.leads
+    (end_is_led before.contents words it.named lost.comes.course lost.there lost.comes.fact.reads it.is lost.comes.is_asked lost.comes.fact.leads) in
+    no_loss pair lost.there ending (subst LosesNone same it.is_kind) lost.ends_so
 
 -- what is rejected comes to no end
 rejected_not_led : (told : Option Names) (words : List (List ℕ)) (there course : Course) (calls : List Call) → Rejects told words → IsAtEnd there → asked words ≡ Some course
@@ -136,15 +137,10 @@ rejected_not_led told words there course calls rejected at asks leads =
     let it = rejected_of told words rejected in
     not_refused it.line there at (one_end_to it.named words there (Refuses it.line) (end_over there at) tt (end_is_led told words it.named course there calls it.is asks leads) it.leads)
 
-pub rejected_unfinished : (before after : FilesTold) (words : List (List ℕ)) (ends : Course → Ending → Type 0) (ending : Ending) → ((there : Course) → ends there ending → IsAtEnd there)
-    → Rejects before.contents words → Finishes before after words ends ending → ⊥
-rejected_unfinished before after words ends ending at rejected finishes =
-    rejected_not_led before.contents words finishes.there finishes.comes.course finishes.reads rejected (at finishes.there finishes.ends_so) finishes.comes.is_asked finishes.comes.fact
-
--- nor to one that wasn't saved
-pub rejected_unsaved : (before after : FilesTold) (words : List (List ℕ)) → Rejects before.contents words → SavesNot before after words → ⊥
-rejected_unsaved before after words rejected unsaved =
-    rejected_not_led before.contents words unsaved.there unsaved.comes.course unsaved.reads rejected (either_at_end unsaved.there unsaved.ending unsaved.ends_so) unsaved.comes.is_asked unsaved.comes.fact
+pub rejected_unended : (before after : FilesTold) (words : List (List ℕ)) (ends : Course → Ending → Type 0) (ending : Ending) (more : List Call) → ((there : Course) → ends there ending → IsAtEnd there)
+    → Rejects before.contents words → ComesTo before after words ends ending more → ⊥
+rejected_unended before after words ends ending more at rejected comes =
+    rejected_not_led before.contents words comes.there comes.comes.course comes.comes.fact.reads rejected (at comes.there comes.ends_so) comes.comes.is_asked comes.comes.fact.leads
 
 none_not_some : {A : Type 0} {x : A} → None ≡ Some x → ⊥
 none_not_some e = cc

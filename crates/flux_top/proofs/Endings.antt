@@ -1,24 +1,25 @@
 -- What words come to, of the end of the course that they ask for.
-use Rattle.std.proofs.Common.{ℕ, ◌≡◌, ◌∙◌, List, [], refl, ap, sym, subst, append-nil, Some, None, Ok, Err, ⊎_elim, inl, inr}
-use Rattle.std.specs.Prelude.{IfErr, IfOk, IfSome, OnOk, Result, Vec, option_map}
+use Rattle.std.proofs.Common.{ℕ, ◌≡◌, List, refl, ap, sym, subst, Some, None, Ok, Err, inl, inr}
+use Rattle.std.specs.Prelude.{IfErr, IfOk, IfSome, OnOk, Result, Vec, codes, option_map}
 use Rattle.std.specs.declared.alloc.Global.{Global}
 use Rattle.tuple_edge.specs.declared.event.Drained.{Drained}
 use Rattle.tuple_edge.specs.declared.event.Drained.TheVariants as drained
 use Rattle.pair_machine.specs.Drain.{partition}
-use Rattle.command_course.specs.Course.{Between, Came, Course, Run, Runs, StoppedShort, Writes}
+use Rattle.command_course.specs.Course.{Came, Course, Run, Runs, StoppedShort, Writes}
 use Rattle.command_course.specs.Steps.{HasReadCause, StopsOf}
 use Rattle.command_course.specs.declared.stop.Stop.{Stop}
 use Rattle.command_course.specs.declared.stop.Stop.TheVariants as stop
-use Rattle.command_course.proofs.Courses.{adds_on}
 use Rattle.command_line.specs.Forms.{Request, form}
-use Rattle.flux_outside.specs.Outside.{Adds, Rose}
+use Rattle.flux_outside.specs.Outside.{Adds, Call}
 use Rattle.flux_outside.specs.Told.{FilesTold, SinkTold}
 use Rattle.run_command.specs.Endings.{CameToRun, Ending, HasEnded, ending_of}
 use Rattle.run_command.specs.declared.outcome.Outcome.{Outcome}
-use Rattle.flux_top.specs.Clauses.{Finishes, HasCause, IsQuiet, KeepsTo, SavesNot, SavesShort, StopsTo, WritesWhole}
-use Rattle.flux_top.specs.Ends.{Ends, EndsBy, EndsOrLoses, Keeps, Loses, MayBeLost, saves_of}
-use Rattle.flux_top.specs.Finish.{IsFinished, IsNotSaved, IsSaved, StopsFinish}
+use Rattle.flux_top.specs.Clauses.{ComesTo, HasCause, IsQuiet, KeepsTo, StopsTo, WritesWhole}
+use Rattle.flux_top.specs.Ends.{Ends, EndsBy, EndsOrLoses, Loses}
+use Rattle.flux_top.specs.Finish.{IsFinished, StopsFinish}
 use Rattle.flux_top.specs.Outcome.{CameToEnd, asked, course_of}
+use Rattle.flux_top.proofs.LastSteps.{came_then, kept_of, short_then, unwritten_of, whole_of}
+pub use Rattle.flux_top.proofs.LastSteps.{finished_cause}
 
 -- ---- how a course ended
 
@@ -27,132 +28,76 @@ ends_or_loses drained.Whole there ending ends = inl ends
 ends_or_loses (drained.Lost stage part) there ending ends = inr (partition stage part, ends)
 
 module _ (before between after : FilesTold) (words : List (List ℕ)) (outcome : Outcome) (same : between.contents ≡ before.contents) where
-  -- the calls that read, and the one that saves
-  finishes_of : (course : Course) → asked words ≡ Some course → CameToEnd before between course outcome → (ends : Course → Ending → Type 0)
+  -- the calls that read, and these after them
+  comes_of : (course : Course) → asked words ≡ Some course → CameToEnd before between course outcome → (ends : Course → Ending → Type 0)
       → ((there : Course) → EndsBy outcome.drained there (ending_of outcome) → ends there (ending_of outcome))
-      → IsSaved between after (ending_of outcome).saved → Finishes before after words ends (ending_of outcome)
-  finishes_of course is ended ends so saved = record {
+      → (more : List Call) → Adds between.calls after.calls more → ComesTo before after words ends (ending_of outcome) more
+  comes_of course is ended ends so more added = record {
     there = ended.there;
-    reads = ended.came.calls;
-    comes = record { course = course; is_asked = is; fact = ended.came.leads };
+    comes = record { course = course; is_asked = is; fact = came_then before between after course ended.there ended.came more added };
     ends_so = so ended.there ended.ends;
-    added = adds_on before.calls between.calls after.calls ended.came.calls (saves_of (ending_of outcome).saved) ended.came.added saved.added;
-    keeps = subst (λ names. Keeps names after.contents (ending_of outcome).saved) same saved.keeps;
   }
 
-  not_saved : (course : Course) → asked words ≡ Some course → CameToEnd before between course outcome → between.save_faults ≡ before.save_faults
-      → IsNotSaved between after (ending_of outcome).saved → SavesNot before after words
-  not_saved course is ended calm fails = record {
-    ending = ending_of outcome;
-    there = ended.there;
-    reads = ended.came.calls;
-    comes = record { course = course; is_asked = is; fact = ended.came.leads };
-    ends_so = ends_or_loses outcome.drained ended.there (ending_of outcome) ended.ends;
-    added = adds_on before.calls between.calls after.calls ended.came.calls (saves_of (ending_of outcome).saved) ended.came.added fails.added;
-    others = subst (λ names. MayBeLost names after.contents (ending_of outcome).saved) same fails.others;
-    rose = subst (λ faults. Rose faults after.save_faults) calm fails.rose;
-  }
-
-  -- where no memory was to be had, no call was added but those that read
-  reads_alone : (course : Course) → (ended : CameToEnd before between course outcome) → Adds between.calls after.calls [] → Adds before.calls after.calls ended.came.calls
-  reads_alone course ended none = subst (Adds before.calls after.calls) (append-nil ended.came.calls) (adds_on before.calls between.calls after.calls ended.came.calls [] ended.came.added none)
-
-  short_at_save : (course : Course) → CameToEnd before between course outcome → Adds between.calls after.calls [] → StoppedShort before after course
-  short_at_save course ended none = Between ended.there (record { calls = ended.came.calls; leads = ended.came.leads; added = reads_alone course ended none })
-
-  saves_short : (course : Course) → asked words ≡ Some course → CameToEnd before between course outcome → Adds between.calls after.calls [] → MayBeLost between.contents after.contents (ending_of outcome).saved
-      → SavesShort before after words
-  saves_short course is ended none others = record {
-    ending = ending_of outcome;
-    there = ended.there;
-    reads = ended.came.calls;
-    comes = record { course = course; is_asked = is; fact = ended.came.leads };
-    ends_so = ends_or_loses outcome.drained ended.there (ending_of outcome) ended.ends;
-    added = reads_alone course ended none;
-    others = subst (λ names. MayBeLost names after.contents (ending_of outcome).saved) same others;
-  }
+  -- it ended, or a pair was lost
+  comes_so : (course : Course) → asked words ≡ Some course → CameToEnd before between course outcome
+      → (more : List Call) → Adds between.calls after.calls more → ComesTo before after words EndsOrLoses (ending_of outcome) more
+  comes_so course is ended = comes_of course is ended EndsOrLoses (λ there ends. ends_or_loses outcome.drained there (ending_of outcome) ends)
 
   -- ---- what was written
 
-  whole_of : (course : Course) → asked words ≡ Some course → CameToEnd before between course outcome → (old puts : SinkTold) → outcome.drained ≡ drained.Whole
-      → IsFinished between after old puts (ending_of outcome) → WritesWhole before after words Ends old puts
-  whole_of course is ended old puts whole finished = record {
-    ending = ending_of outcome;
-    finishes = finishes_of course is ended Ends (λ there ends. subst (λ how. EndsBy how there (ending_of outcome)) whole ends) finished.saved;
-    takes = finished.put.takes;
-    offers = finished.put.offers;
-  }
+  comes_whole : (course : Course) → asked words ≡ Some course → CameToEnd before between course outcome → outcome.drained ≡ drained.Whole
+      → (more : List Call) → Adds between.calls after.calls more → ComesTo before after words Ends (ending_of outcome) more
+  comes_whole course is ended whole = comes_of course is ended Ends (λ there ends. subst (λ how. EndsBy how there (ending_of outcome)) whole ends)
+
+  comes_lost : (course : Course) → asked words ≡ Some course → CameToEnd before between course outcome → (stage part : ℕ) → outcome.drained ≡ drained.Lost stage part
+      → (more : List Call) → Adds between.calls after.calls more → ComesTo before after words (Loses (partition stage part)) (ending_of outcome) more
+  comes_lost course is ended stage part lost = comes_of course is ended (Loses (partition stage part)) (λ there ends. subst (λ how. EndsBy how there (ending_of outcome)) lost ends)
 
   stops_to : (course : Course) → asked words ≡ Some course → CameToEnd before between course outcome → between.save_faults ≡ before.save_faults → (old puts : SinkTold) (why : Stop)
-      → StopsFinish between after old puts outcome.drained (ending_of outcome) why → StopsTo before after words old puts why
+      → StopsFinish (codes "flux") between after old puts outcome.drained (ending_of outcome) why → StopsTo before after words old puts why
   stops_to course is ended calm old puts stop.Usage stops = absurd stops
   stops_to course is ended calm old puts (stop.Refused line) stops = absurd stops
   stops_to course is ended calm old puts (stop.CannotRead line) stops = absurd stops
-  stops_to course is ended calm old puts stop.CannotWrite stops = ⊎_elim
-      (λ part. inl (record {
-        ending = ending_of outcome;
-        finishes = finishes_of course is ended EndsOrLoses (λ there ends. ends_or_loses outcome.drained there (ending_of outcome) ends) part.saved;
-        takes = part.put.takes;
-        offers = part.put.offers;
-        rose = part.put.rose;
-      }))
-      (λ fails. inr (not_saved course is ended calm fails.0, fails.1)) stops
+  stops_to course is ended calm old puts stop.CannotWrite stops =
+      unwritten_of before between after (ComesTo before after words EndsOrLoses) (ending_of outcome) same (comes_so course is ended) old puts calm stops
   stops_to course is ended calm old puts (stop.PairLost stage part line) stops = record {
-    writes = record {
-      ending = ending_of outcome;
-      finishes = finishes_of course is ended (Loses (partition stage part)) (λ there ends. subst (λ how. EndsBy how there (ending_of outcome)) stops.0 ends) stops.2.saved;
-      takes = stops.2.put.takes;
-      offers = stops.2.put.offers;
-    };
+    writes = whole_of before between after (ComesTo before after words (Loses (partition stage part))) (ending_of outcome) same (comes_lost course is ended stage part stops.0) old puts stops.2;
     line_is = stops.1;
   }
-  stops_to course is ended calm old puts stop.OutOfMemory stops = subst (λ c. IfSome c (StoppedShort before after)) (sym is) (short_at_save course ended stops.added)
+  stops_to course is ended calm old puts stop.OutOfMemory stops = subst (λ c. IfSome c (StoppedShort before after)) (sym is) (short_then before between after course ended.there ended.came stops.added)
 
   -- ---- what stays of the files
 
   keeps_to : (course : Course) → asked words ≡ Some course → CameToEnd before between course outcome → (old puts : SinkTold) (why : Stop)
-      → StopsFinish between after old puts outcome.drained (ending_of outcome) why → KeepsTo before after words why
+      → StopsFinish (codes "flux") between after old puts outcome.drained (ending_of outcome) why → KeepsTo before after words why
   keeps_to course is ended old puts stop.Usage stops = absurd stops
   keeps_to course is ended old puts (stop.Refused line) stops = absurd stops
   keeps_to course is ended old puts (stop.CannotRead line) stops = absurd stops
   keeps_to course is ended old puts stop.CannotWrite stops = tt
   keeps_to course is ended old puts (stop.PairLost stage part line) stops = tt
-  keeps_to course is ended old puts stop.OutOfMemory stops = ⊎_elim (λ kept. inl (kept ∙ same)) (λ others. inr (saves_short course is ended stops.added others)) stops.keeps
+  keeps_to course is ended old puts stop.OutOfMemory stops = kept_of before between after (ComesTo before after words EndsOrLoses) (ending_of outcome) same (comes_so course is ended) stops
 
   -- ---- what the last steps of a command answered
 
   pub finished_whole : (course : Course) (old puts : SinkTold) (result : Result (Unit {0}) Stop) → asked words ≡ Some course → CameToEnd before between course outcome
       → OnOk result (outcome.drained ≡ drained.Whole) → OnOk result (IsFinished between after old puts (ending_of outcome))
       → OnOk result (WritesWhole before after words Ends old puts)
-  finished_whole course old puts (Ok x) is ended whole finished = whole_of course is ended old puts whole finished
+  finished_whole course old puts (Ok x) is ended whole finished =
+      whole_of before between after (ComesTo before after words Ends) (ending_of outcome) same (comes_whole course is ended whole) old puts finished
   finished_whole course old puts (Err why) is ended whole finished = tt
 
   pub finished_stops : (course : Course) (old puts : SinkTold) (result : Result (Unit {0}) Stop) → asked words ≡ Some course → CameToEnd before between course outcome
       → between.save_faults ≡ before.save_faults
-      → IfErr result (λ why. StopsFinish between after old puts outcome.drained (ending_of outcome) why)
+      → IfErr result (λ why. StopsFinish (codes "flux") between after old puts outcome.drained (ending_of outcome) why)
       → IfErr result (λ why. StopsTo before after words old puts why)
   finished_stops course old puts (Ok x) is ended calm stops = tt
   finished_stops course old puts (Err why) is ended calm stops = stops_to course is ended calm old puts why stops
 
   pub finished_keeps : (course : Course) (old puts : SinkTold) (result : Result (Unit {0}) Stop) → asked words ≡ Some course → CameToEnd before between course outcome
-      → IfErr result (λ why. StopsFinish between after old puts outcome.drained (ending_of outcome) why)
+      → IfErr result (λ why. StopsFinish (codes "flux") between after old puts outcome.drained (ending_of outcome) why)
       → IfErr result (λ why. KeepsTo before after words why)
   finished_keeps course old puts (Ok x) is ended stops = tt
   finished_keeps course old puts (Err why) is ended stops = keeps_to course is ended old puts why stops
-
-  finish_cause : (old puts : SinkTold) (reads_before reads_now : ℕ) (why : Stop) → reads_now ≡ reads_before
-      → StopsFinish between after old puts outcome.drained (ending_of outcome) why → HasCause reads_before reads_now why
-  finish_cause old puts reads_before reads_now stop.Usage still stops = absurd stops
-  finish_cause old puts reads_before reads_now (stop.Refused line) still stops = absurd stops
-  finish_cause old puts reads_before reads_now (stop.CannotRead line) still stops = absurd stops
-  finish_cause old puts reads_before reads_now stop.CannotWrite still stops = still
-  finish_cause old puts reads_before reads_now (stop.PairLost stage part line) still stops = still
-  finish_cause old puts reads_before reads_now stop.OutOfMemory still stops = tt
-
-  pub finished_cause : (old puts : SinkTold) (reads_before reads_now : ℕ) (result : Result (Unit {0}) Stop) → reads_now ≡ reads_before
-      → IfErr result (λ why. StopsFinish between after old puts outcome.drained (ending_of outcome) why) → IfErr result (λ why. HasCause reads_before reads_now why)
-  finished_cause old puts reads_before reads_now (Ok x) still stops = tt
-  finished_cause old puts reads_before reads_now (Err why) still stops = finish_cause old puts reads_before reads_now why still stops
 
 -- ---- a command that stopped before its end
 

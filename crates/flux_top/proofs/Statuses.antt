@@ -8,19 +8,11 @@ use Rattle.command_course.specs.declared.stop.Stop.TheVariants as stop
 use Rattle.flux_outside.specs.Outside.{StopsAtWant}
 use Rattle.flux_outside.specs.Told.{FilesTold, SinkTold}
 use Rattle.flux_top.specs.Clauses.{HasCause, IsComplete, KeepsTo, SaysAt, StaysAt, StopsTo, Tells, WritesWhole}
-use Rattle.flux_top.specs.Ends.{Ends, EndsOrLoses, IsAtEnd, Loses, LosesNone}
+use Rattle.flux_top.specs.Ends.{Ends, EndsOrLoses, IsAtEnd, Loses, LosesNone, saves_of}
 use Rattle.flux_top.specs.Lines.{cannot_write_line, memory_line, usage_line}
-use Rattle.flux_top.proofs.Completeness.{accepted_asked, accepted_unlost, accepted_unrefused, either_at_end, ends_at_end, loses_at_end, rejected_asked, rejected_unfinished, rejected_unsaved, sure_at_end}
+use Rattle.flux_top.specs.Stops.{status_at}
+use Rattle.flux_top.proofs.Completeness.{accepted_asked, accepted_unlost, accepted_unrefused, either_at_end, ends_at_end, loses_at_end, rejected_asked, rejected_unended, sure_at_end}
 use Rattle.flux_top.proofs.Courses.{wants_for}
-
--- the status of a command that stopped
-abbrev pub status_at : Stop → ℕ
-status_at stop.Usage = 2
-status_at (stop.Refused line) = 3
-status_at (stop.CannotRead line) = 4
-status_at stop.CannotWrite = 5
-status_at (stop.PairLost stage part line) = 6
-status_at stop.OutOfMemory = 8
 
 -- ---- what is said
 
@@ -74,8 +66,8 @@ pub stays_done : (before after : FilesTold) (x : Unit {0}) → after.read_faults
 stays_done before after x still saves wants = record {
   wants = wants_for before.wants after.wants ⊥ (0 ≡ 8) (λ none. absurd none) wants;
   reads = λ not_unread not_short. still;
-  kept = λ not_done not_unwritten not_lost not_short. absurd (not_done refl);
-  saves = λ not_unwritten. saves (ok_no_stop x);
+  kept = λ none_saved. absurd (none_saved (inl refl));
+  saves = λ none_saved. saves (ok_no_stop x);
 }
 
 pub stays_stopped : (before after : FilesTold) (words : List (List ℕ)) (why : Stop) → HasCause before.read_faults after.read_faults why → KeepsTo before after words why
@@ -84,37 +76,37 @@ pub stays_stopped : (before after : FilesTold) (words : List (List ℕ)) (why : 
 stays_stopped before after words stop.Usage cause keeps saves wants = record {
   wants = wants_for before.wants after.wants ⊥ (2 ≡ 8) (λ none. absurd none) wants;
   reads = λ not_unread not_short. cause;
-  kept = λ not_done not_unwritten not_lost not_short. keeps;
+  kept = λ none_saved. keeps;
   saves = λ not_unwritten. saves (other_stop stop.Usage tt);
 }
 stays_stopped before after words (stop.Refused line) cause keeps saves wants = record {
   wants = wants_for before.wants after.wants ⊥ (3 ≡ 8) (λ none. absurd none) wants;
   reads = λ not_unread not_short. cause;
-  kept = λ not_done not_unwritten not_lost not_short. keeps;
+  kept = λ none_saved. keeps;
   saves = λ not_unwritten. saves (other_stop (stop.Refused line) tt);
 }
 stays_stopped before after words (stop.CannotRead line) cause keeps saves wants = record {
   wants = wants_for before.wants after.wants ⊥ (4 ≡ 8) (λ none. absurd none) wants;
   reads = λ not_unread not_short. absurd (not_unread refl);
-  kept = λ not_done not_unwritten not_lost not_short. keeps;
+  kept = λ none_saved. keeps;
   saves = λ not_unwritten. saves (other_stop (stop.CannotRead line) tt);
 }
 stays_stopped before after words stop.CannotWrite cause keeps saves wants = record {
   wants = wants_for before.wants after.wants ⊥ (5 ≡ 8) (λ none. absurd none) wants;
   reads = λ not_unread not_short. cause;
-  kept = λ not_done not_unwritten not_lost not_short. absurd (not_unwritten refl);
-  saves = λ not_unwritten. absurd (not_unwritten refl);
+  kept = λ none_saved. absurd (none_saved (inr (inl refl)));
+  saves = λ not_unwritten. absurd (not_unwritten (inr (inl refl)) refl);
 }
 stays_stopped before after words (stop.PairLost stage part line) cause keeps saves wants = record {
   wants = wants_for before.wants after.wants ⊥ (6 ≡ 8) (λ none. absurd none) wants;
   reads = λ not_unread not_short. cause;
-  kept = λ not_done not_unwritten not_lost not_short. absurd (not_lost refl);
+  kept = λ none_saved. absurd (none_saved (inr (inr (inl refl))));
   saves = λ not_unwritten. saves (other_stop (stop.PairLost stage part line) tt);
 }
 stays_stopped before after words stop.OutOfMemory cause keeps saves wants = record {
   wants = wants_for before.wants after.wants (Unit {0}) (8 ≡ 8) (λ want. refl) wants;
   reads = λ not_unread not_short. absurd (not_short refl);
-  kept = λ not_done not_unwritten not_lost not_short. absurd (not_short refl);
+  kept = λ none_saved. absurd (none_saved (inr (inr (inr refl))));
   saves = λ not_unwritten. saves (other_stop stop.OutOfMemory tt);
 }
 
@@ -124,7 +116,7 @@ pub complete_done : (before after : FilesTold) (words : List (List ℕ)) (old ne
 complete_done before after words old new done = record {
   complete = λ accepted reads saves puts. inl refl;
   may_lose = λ accepted reads saves puts. inl refl;
-  rejects = λ rejected reads. absurd (rejected_unfinished before after words Ends done.ending (λ there ends. ends_at_end there done.ending ends) rejected done.finishes);
+  rejects = λ rejected reads. absurd (rejected_unended before after words Ends done.ending (saves_of done.ending.saved) (λ there ends. ends_at_end there done.ending ends) rejected done.finishes.comes);
 }
 
 pub complete_stopped : (before after : FilesTold) (words : List (List ℕ)) (old new : SinkTold) (why : Stop) → StopsTo before after words old new why
@@ -148,14 +140,14 @@ complete_stopped before after words old new stop.CannotWrite stops cause = recor
   complete = λ accepted reads saves puts. absurd (⊎_elim (λ part. puts part.rose) (λ fails. saves fails.0.rose) stops);
   may_lose = λ accepted reads saves puts. absurd (⊎_elim (λ part. puts part.rose) (λ fails. saves fails.0.rose) stops);
   rejects = λ rejected reads. absurd (⊎_elim
-      (λ part. rejected_unfinished before after words EndsOrLoses part.ending (λ there ends. either_at_end there part.ending ends) rejected part.finishes)
-      (λ fails. rejected_unsaved before after words rejected fails.0) stops);
+      (λ part. rejected_unended before after words EndsOrLoses part.ending (saves_of part.ending.saved) (λ there ends. either_at_end there part.ending ends) rejected part.finishes.comes)
+      (λ fails. rejected_unended before after words EndsOrLoses fails.0.ending (saves_of fails.0.ending.saved) (λ there ends. either_at_end there fails.0.ending ends) rejected fails.0.comes) stops);
 }
 complete_stopped before after words old new (stop.PairLost stage part line) stops cause = record {
   complete = λ accepted reads saves puts. absurd (accepted_unlost before after words (partition stage part) stops.writes.ending accepted stops.writes.finishes);
   may_lose = λ accepted reads saves puts. inr (inl refl);
-  rejects = λ rejected reads. absurd (rejected_unfinished before after words (Loses (partition stage part)) stops.writes.ending
-      (λ there loses. loses_at_end (partition stage part) there stops.writes.ending loses) rejected stops.writes.finishes);
+  rejects = λ rejected reads. absurd (rejected_unended before after words (Loses (partition stage part)) stops.writes.ending (saves_of stops.writes.ending.saved)
+      (λ there loses. loses_at_end (partition stage part) there stops.writes.ending loses) rejected stops.writes.finishes.comes);
 }
 complete_stopped before after words old new stop.OutOfMemory stops cause = record {
   complete = λ accepted reads saves puts. inr refl;

@@ -1,5 +1,5 @@
 -- What the clauses of `flux` and of its steps say.
-use Rattle.std.specs.Prelude.{ℕ, ◌≡◌, ◌≢◌, ◌⊎◌, ◌++◌, List, Option, None, Some, IfSome}
+use Rattle.std.specs.Prelude.{ℕ, ◌≡◌, ◌⊎◌, List, Option, None, Some, IfSome}
 use Rattle.std.specs.String.{string_bytes}
 use Rattle.pair_machine.specs.Drain.{partition}
 use Rattle.pair_machine.specs.Numbers.{Partition}
@@ -7,12 +7,13 @@ use Rattle.command_course.specs.Course.{Came, CameToRead, Course, Leads, Refuses
 use Rattle.command_course.specs.Lines.{cannot_read_line}
 use Rattle.command_course.specs.declared.stop.Stop.{Stop}
 use Rattle.command_course.specs.declared.stop.Stop.TheVariants as stop
-use Rattle.flux_outside.specs.Outside.{Adds, Call, Names, OffersRests, Rose, StopsAtWant, Takes, TakesPart}
+use Rattle.flux_outside.specs.Outside.{Call, Names, Rose}
 use Rattle.flux_outside.specs.Told.{FilesTold, SinkTold}
 use Rattle.run_command.specs.Endings.{Ending}
-use Rattle.flux_top.specs.Ends.{EndsOrLoses, IsAtEnd, Keeps, Loses, LosesNone, MayBeLost, saves_of}
-use Rattle.flux_top.specs.Lines.{cannot_write_line, lost_line, memory_line, usage_line}
+use Rattle.flux_top.specs.Ends.{EndsOrLoses, IsAtEnd, Loses, LosesNone}
+use Rattle.flux_top.specs.Lines.{lines, lost_line}
 use Rattle.flux_top.specs.Outcome.{AsksFor, asked}
+use Rattle.flux_top.specs.Programs as program
 
 -- ---- of `flux`
 
@@ -20,59 +21,48 @@ use Rattle.flux_top.specs.Outcome.{AsksFor, asked}
 abbrev pub IsStatus : ℕ → Type 0
 IsStatus status = (status ≡ 0) ⊎ (status ≡ 2) ⊎ (status ≡ 3) ⊎ (status ≡ 4) ⊎ (status ≡ 5) ⊎ (status ≡ 6) ⊎ (status ≡ 8)
 
--- a line was taken whole, or a proper prefix of it where the count of faults rose; each put was given all that was left of it
-pub record Tells (old new : SinkTold) (line : List ℕ) : Type 0 where
-  pub takes : Takes old.taken new.taken line ⊎ (TakesPart old.taken new.taken line × Rose old.faults new.faults)
-  pub offers : OffersRests old.offered new.offered line
+-- those at which a journal may have been saved
+abbrev pub MaySave : ℕ → Type 0
+MaySave status = (status ≡ 0) ⊎ (status ≡ 5) ⊎ (status ≡ 6) ⊎ (status ≡ 8)
 
--- The words' command came to its end: it read its inputs, and what they say leads there. Where it has a journal, the last call saved it.
-pub record Finishes (before after : FilesTold) (words : List (List ℕ)) (ends : Course → Ending → Type 0) (ending : Ending) : Type 0 where
+-- a line was taken whole, or a proper prefix of it where the count of faults rose; each put was given all that was left of it
+abbrev pub Tells : SinkTold → SinkTold → List ℕ → Type 0
+Tells = program.Tells
+
+-- It is one of the statuses that there are, and at those that have a line of their own that line is said.
+abbrev pub SaysAt : ℕ → SinkTold → SinkTold → Type 0
+SaysAt = program.SaysAt lines IsStatus
+
+-- What stays of the files at a status. The first want of memory ends it, with 8. The count of faults of reads stays but at 4 and 8, and that of saves but at 5.
+-- What names hold stays but where a journal is saved: at 0, 5 and 6, or at 8 where no memory was to be had for that.
+abbrev pub StaysAt : ℕ → FilesTold → FilesTold → Type 0
+StaysAt = program.StaysAt MaySave
+
+-- The words' command came to an end of this kind, by calls that read its inputs; these more calls were added after them.
+pub record ComesTo (before after : FilesTold) (words : List (List ℕ)) (ends : Course → Ending → Type 0) (ending : Ending) (more : List Call) : Type 0 where
   pub there : Course
-  pub reads : List Call
-  pub comes : AsksFor words (λ course. Leads before.contents course reads there)
+  pub comes : AsksFor words (λ course. program.CameThen before after more course there)
   pub ends_so : ends there ending
-  pub added : Adds before.calls after.calls (reads ++ saves_of ending.saved)
-  pub keeps : Keeps before.contents after.contents ending.saved
+
+-- The words' command came to its end. Where it has a journal, the last call saved it.
+abbrev pub Finishes : FilesTold → FilesTold → List (List ℕ) → (Course → Ending → Type 0) → Ending → Type 0
+Finishes before after words ends = program.Finishes (ComesTo before after words ends) before after
 
 -- and its text was written whole, each put being given all that was left of it
-pub record WritesWhole (before after : FilesTold) (words : List (List ℕ)) (ends : Course → Ending → Type 0) (old new : SinkTold) : Type 0 where
-  pub ending : Ending
-  pub finishes : Finishes before after words ends ending
-  pub takes : Takes old.taken new.taken ending.text
-  pub offers : OffersRests old.offered new.offered ending.text
+abbrev pub WritesWhole : FilesTold → FilesTold → List (List ℕ) → (Course → Ending → Type 0) → SinkTold → SinkTold → Type 0
+WritesWhole before after words ends = program.WritesWhole (ComesTo before after words ends) before after
 
--- or a proper prefix of it, in the same way, as the count of the sink's faults rose
-pub record WritesPart (before after : FilesTold) (words : List (List ℕ)) (old new : SinkTold) : Type 0 where
-  pub ending : Ending
-  pub finishes : Finishes before after words EndsOrLoses ending
-  pub takes : TakesPart old.taken new.taken ending.text
-  pub offers : OffersRests old.offered new.offered ending.text
-  pub rose : Rose old.faults new.faults
+-- or a proper prefix of it, in the same way, as the count of the sink's faults rose; or its journal was not saved, as the count of faults of saves rose, and nothing was written
+abbrev pub WritesNot : FilesTold → FilesTold → List (List ℕ) → SinkTold → SinkTold → Type 0
+WritesNot before after words = program.WritesNot (ComesTo before after words EndsOrLoses) before after
 
--- The words' command came to its end, but its journal was not saved, as the count of faults of saves rose; and nothing was written.
-pub record SavesNot (before after : FilesTold) (words : List (List ℕ)) : Type 0 where
-  pub ending : Ending
-  pub there : Course
-  pub reads : List Call
-  pub comes : AsksFor words (λ course. Leads before.contents course reads there)
-  pub ends_so : EndsOrLoses there ending
-  pub added : Adds before.calls after.calls (reads ++ saves_of ending.saved)
-  pub others : MayBeLost before.contents after.contents ending.saved
-  pub rose : Rose before.save_faults after.save_faults
-
--- The words' command came to its end, but no memory was to be had for the save of its journal, which is no call that was added.
-pub record SavesShort (before after : FilesTold) (words : List (List ℕ)) : Type 0 where
-  pub ending : Ending
-  pub there : Course
-  pub reads : List Call
-  pub comes : AsksFor words (λ course. Leads before.contents course reads there)
-  pub ends_so : EndsOrLoses there ending
-  pub added : Adds before.calls after.calls reads
-  pub others : MayBeLost before.contents after.contents ending.saved
+-- The words' command came to its end, but its journal was not saved, as the count of faults of saves rose.
+abbrev pub SavesNot : FilesTold → FilesTold → List (List ℕ) → Type 0
+SavesNot before after words = program.SavesNot (ComesTo before after words EndsOrLoses) before after
 
 -- the files hold what they held, but for a journal for whose save no memory was to be had
 abbrev pub KeepsFiles : FilesTold → FilesTold → List (List ℕ) → Type 0
-KeepsFiles before after words = (after.contents ≡ before.contents) ⊎ SavesShort before after words
+KeepsFiles before after words = program.KeepsFiles (ComesTo before after words EndsOrLoses) before after
 
 -- the words' command came to a refusal by the calls that were added
 abbrev pub ComesToRefusal : FilesTold → FilesTold → List (List ℕ) → List ℕ → Type 0
@@ -87,47 +77,20 @@ abbrev pub StopsShort : FilesTold → FilesTold → List (List ℕ) → Type 0
 StopsShort before after words = IfSome (asked words) (StoppedShort before after)
 
 -- the same, and what names hold then
-pub record FallsShort (before after : FilesTold) (words : List (List ℕ)) : Type 0 where
-  pub stops : StopsShort before after words
-  pub kept : KeepsFiles before after words
+abbrev pub FallsShort : FilesTold → FilesTold → List (List ℕ) → Type 0
+FallsShort before after words = program.FallsShort (StopsShort before after words) (ComesTo before after words EndsOrLoses) before after
 
 -- an input was refused, and its line said
-pub record SaysRefusal (before after : FilesTold) (words : List (List ℕ)) (old new : SinkTold) : Type 0 where
-  pub line : List ℕ
-  pub comes : ComesToRefusal before after words line
-  pub tells : Tells old new line
+abbrev pub SaysRefusal : FilesTold → FilesTold → List (List ℕ) → SinkTold → SinkTold → Type 0
+SaysRefusal before after words = program.SaysRefusal (ComesToRefusal before after words) (λ line. line)
 
 -- the file that was to be read last could not be read, as the count of faults of reads rose, and its name said
-pub record SaysUnread (before after : FilesTold) (words : List (List ℕ)) (old new : SinkTold) : Type 0 where
-  pub name : List ℕ
-  pub comes : ComesToRead before after words name
-  pub tells : Tells old new (cannot_read_line name)
-  pub rose : Rose before.read_faults after.read_faults
+abbrev pub SaysUnread : FilesTold → FilesTold → List (List ℕ) → SinkTold → SinkTold → Type 0
+SaysUnread before after words = program.SaysUnread (ComesToRead before after words) (λ line. line) before after
 
 -- a pair was lost, what was emitted before was written whole, and the pair's name said
-pub record SaysLost (before after : FilesTold) (words : List (List ℕ)) (old new said says : SinkTold) : Type 0 where
-  pub pair : Partition
-  pub writes : WritesWhole before after words (Loses pair) old new
-  pub tells : Tells said says (lost_line pair)
-
--- a text wasn't written whole; or its journal was not saved, and nothing was written
-abbrev pub WritesNot : FilesTold → FilesTold → List (List ℕ) → SinkTold → SinkTold → Type 0
-WritesNot before after words old new = WritesPart before after words old new ⊎ (SavesNot before after words × (new ≡ old))
-
--- It is one of the statuses that there are, and at those that have a line of their own that line is said.
-pub record SaysAt (status : ℕ) (old new : SinkTold) : Type 0 where
-  pub is_status : IsStatus status
-  pub usage : status ≡ 2 → Tells old new usage_line
-  pub unwritten : status ≡ 5 → Tells old new cannot_write_line
-  pub short : status ≡ 8 → Tells old new memory_line
-
--- What stays of the files at a status. The first want of memory ends it, with 8. The count of faults of reads stays but at 4 and 8, and that of saves but at 5.
--- What names hold stays but where a journal is saved: at 0, 5 and 6, or at 8 where no memory was to be had for that.
-pub record StaysAt (status : ℕ) (before after : FilesTold) : Type 0 where
-  pub wants : StopsAtWant before.wants after.wants (status ≡ 8)
-  pub reads : status ≢ 4 → status ≢ 8 → after.read_faults ≡ before.read_faults
-  pub kept : status ≢ 0 → status ≢ 5 → status ≢ 6 → status ≢ 8 → after.contents ≡ before.contents
-  pub saves : status ≢ 5 → after.save_faults ≡ before.save_faults
+abbrev pub SaysLost : FilesTold → FilesTold → List (List ℕ) → SinkTold → SinkTold → SinkTold → SinkTold → Type 0
+SaysLost before after words = program.SaysLost (λ pair. ComesTo before after words (Loses pair)) lost_line before after
 
 -- calls lead the words' command to there, over files that tell what they hold
 abbrev pub LeadsTo : Names → List (List ℕ) → Course → Type 0

@@ -10,7 +10,7 @@ use Rattle.flux_outside.specs.Outside.{Adds, OffersRests, Rose, Takes, TakesPart
 use Rattle.flux_outside.specs.Told.{FilesTold, SinkTold}
 use Rattle.run_command.specs.Endings.{Ending}
 use Rattle.flux_top.specs.Ends.{Keeps, MayBeLost, saves_of}
-use Rattle.flux_top.specs.Lines.{lost_line}
+use Rattle.flux_top.specs.Lines.{lost_line_by}
 
 -- what is saved was saved, by one call if there is something
 pub record IsSaved (before after : FilesTold) (saved : Option (List ℕ × List ℕ)) : Type 0 where
@@ -37,10 +37,10 @@ StopsSave before after saved stop.CannotWrite = IsNotSaved before after saved
 StopsSave before after saved (stop.PairLost stage part line) = ⊥
 StopsSave before after saved stop.OutOfMemory = IsShort before after saved
 
--- what is said where a pair was lost, and nothing where none was
-abbrev pub Says : Drained → Option Stop → Type 0
-Says drained.Whole why = why ≡ None
-Says (drained.Lost stage part) why = (line : _) × (why ≡ Some (stop.PairLost stage part line)) × (string_bytes line ≡ lost_line (partition stage part))
+-- what a program of this name says where a pair was lost, and nothing where none was
+abbrev pub Says : List ℕ → Drained → Option Stop → Type 0
+Says name drained.Whole why = why ≡ None
+Says name (drained.Lost stage part) why = (line : _) × (why ≡ Some (stop.PairLost stage part line)) × (string_bytes line ≡ lost_line_by name (partition stage part))
 
 -- a text was put whole
 pub record IsPut (old new : SinkTold) (text : List ℕ) : Type 0 where
@@ -53,14 +53,14 @@ pub record IsPutInPart (old new : SinkTold) (text : List ℕ) : Type 0 where
   pub offers : OffersRests old.offered new.offered text
   pub rose : Rose old.faults new.faults
 
--- why a command stopped after its text was put, or while it was
-abbrev pub StopsPut : SinkTold → SinkTold → Drained → List ℕ → Stop → Type 0
-StopsPut old new how text stop.Usage = ⊥
-StopsPut old new how text (stop.Refused line) = ⊥
-StopsPut old new how text (stop.CannotRead line) = ⊥
-StopsPut old new how text stop.CannotWrite = IsPutInPart old new text
-StopsPut old new how text (stop.PairLost stage part line) = (how ≡ drained.Lost stage part) × (string_bytes line ≡ lost_line (partition stage part)) × IsPut old new text
-StopsPut old new how text stop.OutOfMemory = ⊥
+-- why a program of this name stopped after its text was put, or while it was
+abbrev pub StopsPut : List ℕ → SinkTold → SinkTold → Drained → List ℕ → Stop → Type 0
+StopsPut name old new how text stop.Usage = ⊥
+StopsPut name old new how text (stop.Refused line) = ⊥
+StopsPut name old new how text (stop.CannotRead line) = ⊥
+StopsPut name old new how text stop.CannotWrite = IsPutInPart old new text
+StopsPut name old new how text (stop.PairLost stage part line) = (how ≡ drained.Lost stage part) × (string_bytes line ≡ lost_line_by name (partition stage part)) × IsPut old new text
+StopsPut name old new how text stop.OutOfMemory = ⊥
 
 -- all was saved and put
 pub record IsFinished (before after : FilesTold) (old new : SinkTold) (ending : Ending) : Type 0 where
@@ -72,13 +72,13 @@ pub record IsFinishedInPart (before after : FilesTold) (old new : SinkTold) (end
   pub saved : IsSaved before after ending.saved
   pub put : IsPutInPart old new ending.text
 
--- why a command stopped in its last steps
-abbrev pub StopsFinish : FilesTold → FilesTold → SinkTold → SinkTold → Drained → Ending → Stop → Type 0
-StopsFinish before after old new how ending stop.Usage = ⊥
-StopsFinish before after old new how ending (stop.Refused line) = ⊥
-StopsFinish before after old new how ending (stop.CannotRead line) = ⊥
-StopsFinish before after old new how ending stop.CannotWrite =
+-- why a program of this name stopped in its last steps
+abbrev pub StopsFinish : List ℕ → FilesTold → FilesTold → SinkTold → SinkTold → Drained → Ending → Stop → Type 0
+StopsFinish name before after old new how ending stop.Usage = ⊥
+StopsFinish name before after old new how ending (stop.Refused line) = ⊥
+StopsFinish name before after old new how ending (stop.CannotRead line) = ⊥
+StopsFinish name before after old new how ending stop.CannotWrite =
     IsFinishedInPart before after old new ending ⊎ (IsNotSaved before after ending.saved × (new ≡ old))
-StopsFinish before after old new how ending (stop.PairLost stage part line) =
-    (how ≡ drained.Lost stage part) × (string_bytes line ≡ lost_line (partition stage part)) × IsFinished before after old new ending
-StopsFinish before after old new how ending stop.OutOfMemory = IsShort before after ending.saved
+StopsFinish name before after old new how ending (stop.PairLost stage part line) =
+    (how ≡ drained.Lost stage part) × (string_bytes line ≡ lost_line_by name (partition stage part)) × IsFinished before after old new ending
+StopsFinish name before after old new how ending stop.OutOfMemory = IsShort before after ending.saved

@@ -1,5 +1,5 @@
 -- What each command does with its files.
-use Rattle.std.specs.Prelude.{ℕ, ◌≡◌, List, Option, Some, String, map, option_map, string_bytes}
+use Rattle.std.specs.Prelude.{ℕ, List, Option, String, map, option_map, string_bytes}
 use Rattle.std.specs.declared.alloc.Global.{Global}
 use Rattle.command_line.specs.Forms.{Eval, Make, Move, Replay, Request, Run, Trial, Trio, form}
 use Rattle.trade_text.specs.Text.{text}
@@ -16,6 +16,7 @@ use Rattle.run_command.specs.Endings.{ending_of}
 use Rattle.run_command.specs.declared.outcome.Outcome.{Outcome}
 use Rattle.trio_command.specs.Courses.{trio_course}
 use Rattle.flux_top.specs.Ends.{EndsBy}
+use Rattle.flux_top.specs.Programs as program
 
 -- the text of the output of a plan
 abbrev pub writes_output : FeedView → Course
@@ -43,11 +44,9 @@ texts words = map string_bytes words
 abbrev pub asked : List (List ℕ) → Option Course
 asked words = option_map course_of (form words)
 
--- words ask for this course, and something holds of it
-pub record AsksFor (words : List (List ℕ)) (holds : Course → Type 0) : Type 0 where
-  pub course : Course
-  pub is_asked : asked words ≡ Some course
-  pub fact : holds course
+-- words ask for a course, and something holds of it
+abbrev pub AsksFor : List (List ℕ) → (Course → Type 0) → Type 0
+AsksFor words = program.AsksFor (asked words)
 
 -- ---- of the steps of a command
 

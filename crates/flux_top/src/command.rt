@@ -10,7 +10,7 @@ ghost use Rattle.flux_top.specs.Outcome.{CameToEnd, asked, course_of, texts};
 ghost use Rattle.tuple_edge.specs.declared.event.Drained.TheVariants as drained;
 
 use crate::eval::eval_text;
-use crate::finish::finish;
+use crate::finishing::finish;
 use crate::lines::say;
 use crate::make::made_text;
 use command_course::Stop;
@@ -120,6 +120,9 @@ pub fn flux<R: Threads + Sync, F: Files, S: Sink, E: Sink, G: Gate>(
 const USAGE: &str =
     "flux: usage: eval PLAN TRADES [--cash C] | run PLAN TRADES [options] | replay PLAN TRADES EVENTS [--cash C] | make START COUNT | trial PLAN START COUNT [options] | trio PLAN TRADES EVENTS | move PLAN TRADES MOVES\n";
 
+// The program's name, as it stands in what is said.
+const NAME: &str = "flux";
+
 // Runs the command of the words: all is read and computed before anything is saved or written.
 #[tactic(auto, using(crate::proofs::Requests::short_at_once, crate::proofs::Courses::wants_for, crate::proofs::Courses::wants_on))]
 fn run<R: Threads + Sync, F: Files, S: Sink, G: Gate>(
@@ -145,7 +148,7 @@ fn run<R: Threads + Sync, F: Files, S: Sink, G: Gate>(
         Err(_) => Err(Stop::OutOfMemory),
         Ok(None) => Err(Stop::Usage),
         Ok(Some(command)) => match outcome_of(rt, alloc, files, command, gate) {
-            Ok(outcome) => finish(alloc, files, out, &outcome),
+            Ok(outcome) => finish(alloc, NAME, files, out, &outcome),
             Err(stop) => Err(stop),
         },
     }

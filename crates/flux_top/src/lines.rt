@@ -1,7 +1,8 @@
 // The lines that are said on the error stream.
-ghost use Rattle.std.specs.Prelude.{◌≡◌, IfOk, string_bytes};
-ghost use Rattle.flux_top.specs.Clauses.{Tells};
-ghost use Rattle.flux_top.specs.Lines.{lost_line};
+ghost use Rattle.std.specs.List.{after_first};
+ghost use Rattle.std.specs.Prelude.{◌≡◌, ◌==◌, IfOk, string_bytes};
+ghost use Rattle.flux_top.specs.Lines.{line_by, lost_line_by};
+ghost use Rattle.flux_top.specs.Programs.{Tells};
 ghost use Rattle.pair_machine.specs.Drain.{partition};
 
 use flux_outside::{Failed, Sink, write_all};
@@ -18,10 +19,29 @@ pub fn say<E: Sink>(err: &mut E, line: &str)
     }
 }
 
-/// What is said of a lost pair.
-pub fn line_of_loss(alloc: Global, stage: u32, part: u32) -> Result<String, OutOfMemory>
-    ensures { IfOk result (λ line. string_bytes line ≡ lost_line (partition stage part)) }
+/// What a program of this name says of a lost pair.
+pub fn line_of_loss(alloc: Global, name: &str, stage: u32, part: u32) -> Result<String, OutOfMemory>
+    ensures { IfOk result (λ line. string_bytes line ≡ lost_line_by name.now (partition stage part)) }
 {
-    let line = format!(in alloc; "flux: pair {stage}.{part} is lost\n")?;
+    let line = format!(in alloc; "{name}: pair {stage}.{part} is lost\n")?;
     Ok(line)
+}
+
+// What stands behind the name of the program in a line.
+fn behind_name(line: &str) -> &str
+    ensures { result.now ≡ after_first (λ b. b == 58) line.now }
+{
+    match line.split_once(':') {
+        Some((_, rest)) => rest,
+        None => "",
+    }
+}
+
+/// A line of `flux` as a program of this name says it.
+pub fn line_by(alloc: Global, name: &str, line: &str) -> Result<String, OutOfMemory>
+    ensures { IfOk result (λ own. string_bytes own ≡ line_by name.now line.now) }
+{
+    let rest = behind_name(line);
+    let own = format!(in alloc; "{name}:{rest}")?;
+    Ok(own)
 }

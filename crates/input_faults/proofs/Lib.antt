@@ -1,3 +1,4 @@
+mod AllFacts
 pub mod Columns
 pub mod HeaderFacts
 pub mod LeadsOn

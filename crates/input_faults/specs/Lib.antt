@@ -1,3 +1,4 @@
+pub mod AllFaults
 pub mod Laws
 pub mod Numbers
 pub mod Places

@@ -1,10 +1,9 @@
 -- What is said of trades and of cash movements that are refused.
-use Rattle.std.specs.Prelude.{ℕ, Bool, ◌+◌, ◌/◌, ◌||◌, ◌==◌, List, ◌++◌, length, Option, position, unwrap_or, codes, if◌then◌else◌}
+use Rattle.std.specs.Prelude.{ℕ, Bool, ◌+◌, ◌/◌, ◌||◌, ◌==◌, List, ◌++◌, length, Option, codes, if◌then◌else◌}
 use Rattle.std.specs.Fmt.{decimal}
 use Rattle.csv.specs.Reading.{strip_bom}
 use Rattle.trade_text.specs.Cash.{cash_of}
-use Rattle.trade_text.specs.Columns.{is_column_of}
-use Rattle.trade_text.specs.Kinds.{Kind, cash_kind, trades_kind}
+use Rattle.trade_text.specs.Kinds.{cash_kind, trades_kind}
 use Rattle.trade_text.specs.Limits.{max_account, max_amount, max_cents, max_input_bytes, max_inputs, max_qty, max_seconds, max_symbol_bytes, max_symbols}
 use Rattle.trade_text.specs.Records.{starts_with_mark}
 use Rattle.trade_text.specs.Trades.{trades_of}
@@ -14,6 +13,7 @@ use Rattle.trade_text.specs.declared.error.Field.{Field}
 use Rattle.trade_text.specs.declared.error.Field.TheVariants as field
 use Rattle.trade_text.specs.declared.error.ReadError.{ReadError}
 use Rattle.trade_text.specs.declared.error.ReadError.TheVariants as error
+use Rattle.record_faults.specs.Columns.{place_of}
 use Rattle.input_faults.specs.Records.{Left, at_start, before, behind_fields, column_behind, fields_in, line_behind, names_in, record_of, word_in, word_start}
 use Rattle.input_faults.specs.Shown.{stands}
 use Rattle.input_faults.specs.WordFaults.{length_line, told}
@@ -40,10 +40,6 @@ field_line name text number place expected =
     ++ (codes "), column " ++ (decimal (column_behind (front_of text number place)) ++ (codes ": "
     ++ (stands (word_in (left_at text number place)) ++ (codes "; here may stand: " ++ expected)))))))))
 
--- the place of a field in a record, by the header
-abbrev pub place_of : {F : Type 0} → Kind F → F → List (List ℕ) → ℕ
-place_of kind what header = unwrap_or (position (is_column_of kind what) header) 0
-
 -- ---- the header and whole records
 
 -- that a record has so many fields, and the header another number
@@ -64,9 +60,13 @@ header_line name text columns =
     if is_headless text then name ++ (codes ": no header; the first record has to name each of these once: " ++ columns)
     else record_front name text 1 ++ (codes ": the header has to name each of these once: " ++ columns)
 
--- a record more than may be
+-- the record of this number, for which there is no room
+abbrev pub full_line : List ℕ → List ℕ → ℕ → ℕ → List ℕ → List ℕ
+full_line name text number room rows = record_front name text number ++ (codes ": at most " ++ (decimal room ++ (codes " " ++ (rows ++ codes " may be"))))
+
+-- a record more than may be, where all before it are accepted
 abbrev pub room_line : List ℕ → List ℕ → ℕ → List ℕ → List ℕ
-room_line name text room rows = record_front name text (room + 2) ++ (codes ": at most " ++ (decimal room ++ (codes " " ++ (rows ++ codes " may be"))))
+room_line name text room rows = full_line name text (room + 2) room rows
 
 -- ---- ranges, in words
 

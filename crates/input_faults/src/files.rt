@@ -2,13 +2,15 @@
 ghost use Rattle.std.specs.Prelude.{◌≡◌, ◌++◌, IfOk, OnOk, is_none, is_ok, length, option_map, string_bytes};
 ghost use Rattle.trade_text.specs.Cash.{cash_of};
 ghost use Rattle.trade_text.specs.Trades.{trades_of};
-ghost use Rattle.input_faults.specs.RecordFaults.{cash_fault, cash_form, cash_line_in, count_line, counts_text, field_line, front_of, header_line, is_headless, left_at, place_of, record_front, room_line, trade_form, trade_range, trades_fault, trades_line_in};
+ghost use Rattle.input_faults.specs.RecordFaults.{cash_fault, cash_form, cash_line_in, count_line, counts_text, field_line, front_of, full_line, header_line, is_headless, left_at, record_front, room_line, trade_form, trade_range, trades_fault, trades_line_in};
+ghost use Rattle.record_faults.specs.Columns.{place_of};
 ghost use Rattle.input_faults.specs.Records.{before, column_behind, fields_in, line_behind, names_in, record_of, word_in, word_start};
 
-use crate::header::{header_of, place_in, starts_with_mark, without_mark};
+use crate::header::header_of;
 use crate::records::{column_behind, field_at, field_count, line_behind, record_of};
 use crate::shown::push_stands;
 use crate::told::length_line;
+use record_faults::{place_in, starts_with_mark, without_mark};
 use std::alloc::Global;
 use trade_text::{
     CashError, CashField, Field, FileField, MAX_INPUT_BYTES, MAX_INPUTS, ReadError, TradeError,
@@ -18,9 +20,9 @@ use tuple_edge::OutOfMemory;
 
 // A file of records: its name, and its bytes without the mark at their front.
 #[derive(Clone, Copy)]
-struct File<'a> {
-    name: &'a str,
-    text: &'a [u8],
+pub(crate) struct File<'a> {
+    pub(crate) name: &'a str,
+    pub(crate) text: &'a [u8],
 }
 
 // Where a field begins in a file, and its bytes from the first one on that is no blank.
@@ -49,7 +51,7 @@ fn push_counts(text: &mut String, fields: u64, names: u64) -> Result<(), OutOfMe
 
 impl<'a> File<'a> {
     // The front of a line about the record of this number.
-    fn record_front(&self, alloc: Global, number: u64) -> Result<String, OutOfMemory>
+    pub(crate) fn record_front(&self, alloc: Global, number: u64) -> Result<String, OutOfMemory>
         ensures { IfOk result (λ said. string_bytes said ≡ record_front self.now.name.now self.now.text.now number) }
     {
         let name = self.name;
@@ -136,7 +138,7 @@ impl<'a> File<'a> {
     }
 
     // Whether there is no header.
-    fn is_headless(&self) -> bool
+    pub(crate) fn is_headless(&self) -> bool
         ensures { result ≡ is_headless self.now.text.now }
     {
         starts_with_mark(self.text) || field_count(self.text) == 0
@@ -161,18 +163,31 @@ impl<'a> File<'a> {
         Ok(said)
     }
 
-    // The line about a record for which there is no room.
-    fn room_line(&self, alloc: Global, room: u32, rows: &str) -> Result<String, OutOfMemory>
-        ensures { IfOk result (λ said. string_bytes said ≡ room_line self.now.name.now self.now.text.now room rows.now) }
+    // The line about the record of this number, for which there is no room.
+    pub(crate) fn full_line(
+        &self,
+        alloc: Global,
+        number: u64,
+        room: u32,
+        rows: &str,
+    ) -> Result<String, OutOfMemory>
+        ensures { IfOk result (λ said. string_bytes said ≡ full_line self.now.name.now self.now.text.now number room rows.now) }
     {
-        let mut said = self.record_front(alloc, u64::from(room) + 2)?;
+        let mut said = self.record_front(alloc, number)?;
         write!(said, ": at most {room} {rows} may be")?;
         Ok(said)
     }
+
+    // The line about a record more than may be, where all before it are accepted.
+    fn room_line(&self, alloc: Global, room: u32, rows: &str) -> Result<String, OutOfMemory>
+        ensures { IfOk result (λ said. string_bytes said ≡ room_line self.now.name.now self.now.text.now room rows.now) }
+    {
+        self.full_line(alloc, u64::from(room) + 2, room, rows)
+    }
 }
 
-// What may stand in a field of a trade.
-fn trade_form(field: Field) -> &'static str
+/// What may stand in a field of a trade.
+pub fn trade_form(field: Field) -> &'static str
     ensures { result.now ≡ trade_form field }
 {
     match field {
@@ -185,8 +200,8 @@ fn trade_form(field: Field) -> &'static str
     }
 }
 
-// What may stand in a field of a trade that is out of range.
-fn trade_range(field: Field) -> &'static str
+/// What may stand in a field of a trade that is out of range.
+pub fn trade_range(field: Field) -> &'static str
     ensures { result.now ≡ trade_range field }
 {
     match field {
@@ -209,7 +224,11 @@ fn cash_form(field: CashField) -> &'static str
 }
 
 // The line that is said of refused trades.
-fn trades_line(alloc: Global, file: &File<'_>, error: TradeError) -> Result<String, OutOfMemory>
+pub(crate) fn trades_line(
+    alloc: Global,
+    file: &File<'_>,
+    error: TradeError,
+) -> Result<String, OutOfMemory>
     ensures { IfOk result (λ said. string_bytes said ≡ trades_line_in file.now.name.now file.now.text.now error) }
 {
     match error {
@@ -226,7 +245,7 @@ fn trades_line(alloc: Global, file: &File<'_>, error: TradeError) -> Result<Stri
 }
 
 // The line that is said of refused cash movements, of which so many have room.
-fn cash_line(
+pub(crate) fn cash_line(
     alloc: Global,
     file: &File<'_>,
     room: u32,

@@ -5,13 +5,16 @@
 //! defined by the first fault of that reading and by the bytes: the line's number is the fault's, or for records that
 //! in which the fault's record begins; the column is where the word begins that is shown; and what may stand there is
 //! what the word's place in the grammar takes. It stands on `plan_reader`, `failure_script` and `trade_text` for the
-//! readings and their faults, on `text_words` for lines and words, and on csv for what a record is.
+//! readings and their faults, on `record_faults` for the faults of all records, on `text_words` for lines and words, and on
+//! csv for what a record is.
 #![tactic(auto)]
 
+mod all;
 mod files;
 mod header;
 mod law;
 mod lines;
+mod names;
 mod place;
 mod plans;
 mod records;
@@ -21,7 +24,9 @@ mod shown;
 mod spot;
 mod told;
 
-pub use files::{cash_fault, trades_fault};
+pub use all::{all_cash_faults, all_trades_faults};
+pub use files::{cash_fault, trade_form, trade_range, trades_fault};
 pub use law::{columns_are_of_words, each_word_leads_on, places_are_the_grammar, ranges_are_read};
 pub use plans::plan_fault;
+pub use records::record_line;
 pub use scripts::script_fault;

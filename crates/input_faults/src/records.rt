@@ -1,6 +1,6 @@
 // The records of a file and their fields, where they stand in its bytes.
 ghost use Rattle.std.specs.Prelude.{◌≡◌, ◌≤◌, length};
-ghost use Rattle.input_faults.specs.Records.{at_start, behind_field, behind_fields, behind_record, column_behind, drop_ends, field_len, fields_in, is_end_byte, line_behind, record_of, word_in, word_start};
+ghost use Rattle.input_faults.specs.Records.{at_start, before, behind_field, behind_fields, behind_record, column_behind, drop_ends, field_len, fields_in, is_end_byte, line_behind, record_of, word_in, word_start};
 ghost use Rattle.input_faults.specs.Scans.{left_of, state_of};
 
 use crate::scan::Stand;
@@ -168,4 +168,13 @@ pub(crate) fn column_behind(front: &[u8]) -> u64
         rest = more;
     }
     column
+}
+
+/// The line in which the record of this number begins, in a text without a mark at its front.
+pub fn record_line(text: &[u8], number: u64) -> u64
+    ensures { result ≡ line_behind (before (record_of number text.now) text.now) }
+{
+    let rest = record_of(text, number);
+    let (front, _) = text.split_at(text.len().saturating_sub(rest.len()));
+    line_behind(front)
 }

@@ -70,7 +70,7 @@ fn closing(word: &[u8]) -> &'static str
 }
 
 // Appends a word as it is shown, between double quotes.
-fn push_shown(text: &mut String, word: &[u8]) -> Result<(), AllocError>
+pub(crate) fn push_shown(text: &mut String, word: &[u8]) -> Result<(), AllocError>
     ensures { OnOk result (string_bytes text.new ≡ string_bytes text.old ++ shown word.now) }
 {
     text.push_str("\"")?;

@@ -2,6 +2,7 @@ pub mod ChartView
 pub mod Places
 pub mod Escape
 pub mod Heaviest
+pub mod Layouts
 pub mod Runs
 pub mod SvgText
 pub mod Text

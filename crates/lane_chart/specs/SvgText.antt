@@ -11,6 +11,9 @@ use Rattle.lane_chart.specs.declared.runs.Run.{Run}
 use Rattle.lane_chart.specs.ChartView.{CellKeyView, ChartView, LaneView, LetterKeyView, MarkView, Word}
 use Rattle.lane_chart.specs.Escape.{escaped}
 use Rattle.lane_chart.specs.Heaviest.{heavier, lighter}
+use Rattle.lane_chart.specs.Layouts.{lane_pitch, layout_of, mark_room}
+use Rattle.lane_chart.specs.declared.layout.Layout.{Layout}
+use Rattle.lane_chart.specs.declared.layout.Layout.TheVariants.{Close, Roomy}
 use Rattle.lane_chart.specs.Places.{placed, scaled}
 use Rattle.lane_chart.specs.Runs.{runs}
 use Rattle.lane_chart.specs.Text.{last_of}
@@ -26,18 +29,24 @@ group_at right down = codes "<g transform='translate(" ++ (decimal right ++ (cod
 -- ---- bars
 
 -- the shape of a kind of cell: its colour's name, and its height, which tells it from the others where there are no colours
-abbrev pub shape : Cell → Word
-shape cell.Strong = codes "class='strong' y='16' height='14'"
-shape cell.Plain = codes "class='plain' y='19' height='8'"
-shape cell.Weak = codes "class='weak' y='16' height='14'"
-shape cell.Absent = codes "class='absent' y='22' height='2'"
-shape cell.Active = codes "class='active' y='18' height='10'"
-shape cell.Idle = codes "class='idle' y='22' height='2'"
+abbrev pub shape : Layout → Cell → Word
+shape Roomy cell.Strong = codes "class='strong' y='16' height='14'"
+shape Roomy cell.Plain = codes "class='plain' y='19' height='8'"
+shape Roomy cell.Weak = codes "class='weak' y='16' height='14'"
+shape Roomy cell.Absent = codes "class='absent' y='22' height='2'"
+shape Roomy cell.Active = codes "class='active' y='18' height='10'"
+shape Roomy cell.Idle = codes "class='idle' y='22' height='2'"
+shape Close cell.Strong = codes "class='strong' y='1' height='8'"
+shape Close cell.Plain = codes "class='plain' y='3' height='4'"
+shape Close cell.Weak = codes "class='weak' y='1' height='8'"
+shape Close cell.Absent = codes "class='absent' y='4' height='2'"
+shape Close cell.Active = codes "class='active' y='2' height='6'"
+shape Close cell.Idle = codes "class='idle' y='4' height='2'"
 
 -- the bar of a run of cells
-unfoldable pub bar : (columns : ℕ) → Run → List ℕ
-bar columns run =
-    codes "<rect " ++ shape run.cell ++ codes " x='" ++ decimal (across columns run.start) ++ codes "' width='"
+unfoldable pub bar : Layout → (columns : ℕ) → Run → List ℕ
+bar layout columns run =
+    codes "<rect " ++ shape layout run.cell ++ codes " x='" ++ decimal (across columns run.start) ++ codes "' width='"
     ++ decimal (across columns run.end - across columns run.start) ++ codes "'/>\n"
 
 -- ---- marks
@@ -48,59 +57,73 @@ colour weight.Alarm = codes "alarm"
 colour weight.Turn = codes "turn"
 colour weight.Note = codes "note"
 
+-- where lanes stand close: a stroke below the lane, from the place where a mark belongs to the place where there is room for it
+unfoldable pub close_stroke : (at room : ℕ) → List ℕ
+close_stroke at room = codes "<path d='M" ++ (decimal at ++ (codes " 10H" ++ (decimal room ++ codes "'/>")))
+
+-- the disc of its letter there
+unfoldable pub close_disc : (room : ℕ) → List ℕ
+close_disc room = codes "<circle cx='" ++ (decimal room ++ codes "' cy='5' r='5'/>")
+
+-- and the beginning of the letter
+unfoldable pub close_letter : (room : ℕ) → List ℕ
+close_letter room = codes "<text class='close' x='" ++ (decimal room ++ codes "' y='8'>")
+
 -- a stroke at the place where a mark belongs, and a disc for its letter at the place where there is room for it
-abbrev pub stroke : (at room : ℕ) → List ℕ
-stroke at room =
+abbrev pub stroke : Layout → (at room : ℕ) → List ℕ
+stroke Roomy at room =
     codes "<path d='M" ++ decimal at ++ codes " 31V17L" ++ decimal room ++ codes " 14'/><circle cx='" ++ decimal room ++ codes "' cy='7' r='7'/><text x='"
     ++ decimal room ++ codes "' y='11'>"
+stroke Close at room = close_stroke at room ++ close_disc room ++ close_letter room
 
 -- the beginning of a mark: its colour and its title
 unfoldable pub badge_head : Weight → (title : Word) → List ℕ
 badge_head weight title = codes "<g class='" ++ colour weight ++ codes "'><title>" ++ escaped title ++ codes "</title>"
 
 -- a mark: its colour, its title, and its letter where there is room for it
-unfoldable pub badge : (at room : ℕ) → MarkView → List ℕ
-badge at room mark = badge_head mark.weight mark.title ++ stroke at room ++ escaped mark.letter ++ codes "</text></g>\n"
+unfoldable pub badge : Layout → (at room : ℕ) → MarkView → List ℕ
+badge layout at room mark = badge_head mark.weight mark.title ++ stroke layout at room ++ escaped mark.letter ++ codes "</text></g>\n"
 
 -- the last place of the page where a mark has room
 abbrev pub last_room : ℕ
 last_room = 1070
 
 -- a mark at the last place
-abbrev pub last_badge : (columns : ℕ) → MarkView → List ℕ
-last_badge columns mark = badge (across columns mark.column) last_room mark
+abbrev pub last_badge : Layout → (columns : ℕ) → MarkView → List ℕ
+last_badge layout columns mark = badge layout (across columns mark.column) last_room mark
 
 -- the marks that share the last place, of which one is held and the others come: the heaviest of them is drawn last, so that it lies on top
-abbrev pub last_badges : (columns : ℕ) → (held : MarkView) → List MarkView → List ℕ
-last_badges columns held [] = last_badge columns held
-last_badges columns held (mark ∷ marks) = last_badge columns (lighter held mark) ++ last_badges columns (heavier held mark) marks
+abbrev pub last_badges : Layout → (columns : ℕ) → (held : MarkView) → List MarkView → List ℕ
+last_badges layout columns held [] = last_badge layout columns held
+last_badges layout columns held (mark ∷ marks) = last_badge layout columns (lighter held mark) ++ last_badges layout columns (heavier held mark) marks
 
 -- where there is room for a mark: at its own place, or right of the mark before it
 abbrev pub room_at : (free at : ℕ) → ℕ
 room_at free at = max free at
 
 -- the marks of a lane, where there is room from this place on; those that would leave the page share its last place
-abbrev pub badges : (columns free : ℕ) → List MarkView → List ℕ
-badges columns free [] = []
-badges columns free (mark ∷ marks) =
+abbrev pub badges : Layout → (columns free : ℕ) → List MarkView → List ℕ
+badges layout columns free [] = []
+badges layout columns free (mark ∷ marks) =
     let at = across columns mark.column in
     let room = room_at free at in
-    if nat_lt room last_room then badge at room mark ++ badges columns (room + 15) marks else last_badges columns mark marks
+    if nat_lt room last_room then badge layout at room mark ++ badges layout columns (room + mark_room layout) marks else last_badges layout columns mark marks
 
 -- ---- lanes
 
--- how far apart lanes are
-abbrev pub lane_pitch : ℕ
-lane_pitch = 38
+-- where the name of a lane stands
+abbrev pub name_place : Layout → Word
+name_place Roomy = codes "<text class='name' x='-10' y='27'>"
+name_place Close = codes "<text class='name close' x='-10' y='8'>"
 
 -- where a lane stands, by its place among the lanes
-unfoldable pub lane_place : ℕ → List ℕ
-lane_place place = group_at 72 (64 + place * lane_pitch) ++ codes "<text class='name' x='-10' y='27'>"
+unfoldable pub lane_place : Layout → ℕ → List ℕ
+lane_place layout place = group_at 72 (64 + place * lane_pitch layout) ++ name_place layout
 
 -- a lane, by its place among the lanes
-unfoldable pub lane_drawn : (columns place : ℕ) → LaneView → List ℕ
-lane_drawn columns place lane =
-    lane_place place ++ escaped lane.name ++ codes "</text>\n" ++ flat_map (bar columns) (runs lane.cells) ++ badges columns 0 lane.marks ++ codes "</g>\n"
+unfoldable pub lane_drawn : Layout → (columns place : ℕ) → LaneView → List ℕ
+lane_drawn layout columns place lane =
+    lane_place layout place ++ escaped lane.name ++ codes "</text>\n" ++ flat_map (bar layout columns) (runs lane.cells) ++ badges layout columns 0 lane.marks ++ codes "</g>\n"
 
 -- a stroke through all lanes
 unfoldable pub grid_drawn : (at bottom : ℕ) → List ℕ
@@ -144,7 +167,7 @@ key_words name = escaped name ++ codes "</text></g>\n"
 
 -- the sample of a kind of cell
 unfoldable pub cell_sample : Cell → List ℕ
-cell_sample kind = codes "<rect " ++ shape kind ++ codes " x='0' width='24'/><text class='word' x='30' y='27'>"
+cell_sample kind = codes "<rect " ++ shape Roomy kind ++ codes " x='0' width='24'/><text class='word' x='30' y='27'>"
 
 -- what a kind of cell means, by its place in the key
 unfoldable pub cell_drawn : ℕ → CellKeyView → List ℕ
@@ -162,13 +185,17 @@ letter_drawn place key = key_place place ++ letter_sample key.weight key.letter 
 
 -- ---- the page
 
+-- how much room the lanes of a chart have
+abbrev pub layout_in : ChartView → Layout
+layout_in c = layout_of (length c.lanes)
+
 -- how far down the lanes of a chart go
 abbrev pub lanes_end : ChartView → ℕ
-lanes_end c = 64 + length c.lanes * lane_pitch
+lanes_end c = 64 + length c.lanes * lane_pitch (layout_in c)
 
 -- colours that the colour-blind tell apart, in a light scheme and a dark one, by the reader's setting
 unfoldable pub style : Word
-style = codes "<style>text{font:12px system-ui,'Segoe UI',Helvetica,Arial,sans-serif;fill:#222}.title{font-size:15px;font-weight:600}.name{text-anchor:end}.tick{text-anchor:middle;fill:#666}.page{fill:#fff}.grid{stroke:#ddd}.strong{fill:#0072b2}.plain{fill:#56b4e9}.weak{fill:#e69f00}.absent{fill:#999}.active{fill:#009e73}.idle{fill:#bbb}.step{fill:none;stroke:#009e73;stroke-width:2}.alarm,.turn,.note{stroke-width:2}.alarm{fill:#c43e00;stroke:#c43e00}.turn{fill:#222;stroke:#222}.note{fill:#7d4a9a;stroke:#7d4a9a}g>path{fill:none}g>circle{stroke:none}.alarm text,.turn text,.note text{font-size:10px;font-weight:700;text-anchor:middle;fill:#fff;stroke:none}@media(prefers-color-scheme:dark){text{fill:#ddd}.tick{fill:#999}.page{fill:#15181c}.grid{stroke:#333}.plain{fill:#7cc7f2}.strong{fill:#2f96d6}.absent{fill:#777}.idle{fill:#555}.active{fill:#1fbf94}.step{stroke:#1fbf94}.alarm{fill:#ff6a2b;stroke:#ff6a2b}.turn{fill:#eee;stroke:#eee}.note{fill:#c79be0;stroke:#c79be0}.alarm text,.turn text,.note text{fill:#111}}</style>\n"
+style = codes "<style>text{font:12px system-ui,'Segoe UI',Helvetica,Arial,sans-serif;fill:#222}.title{font-size:15px;font-weight:600}.name{text-anchor:end}.tick{text-anchor:middle;fill:#666}.page{fill:#fff}.grid{stroke:#ddd}.strong{fill:#0072b2}.plain{fill:#56b4e9}.weak{fill:#e69f00}.absent{fill:#999}.active{fill:#009e73}.idle{fill:#bbb}.step{fill:none;stroke:#009e73;stroke-width:2}.alarm,.turn,.note{stroke-width:2}.alarm{fill:#c43e00;stroke:#c43e00}.turn{fill:#222;stroke:#222}.note{fill:#7d4a9a;stroke:#7d4a9a}g>path{fill:none}g>circle{stroke:none}.alarm text,.turn text,.note text{font-size:10px;font-weight:700;text-anchor:middle;fill:#fff;stroke:none}.name.close{font-size:9px}.alarm .close,.turn .close,.note .close{font-size:7px}@media(prefers-color-scheme:dark){text{fill:#ddd}.tick{fill:#999}.page{fill:#15181c}.grid{stroke:#333}.plain{fill:#7cc7f2}.strong{fill:#2f96d6}.absent{fill:#777}.idle{fill:#555}.active{fill:#1fbf94}.step{stroke:#1fbf94}.alarm{fill:#ff6a2b;stroke:#ff6a2b}.turn{fill:#eee;stroke:#eee}.note{fill:#c79be0;stroke:#c79be0}.alarm text,.turn text,.note text{fill:#111}}</style>\n"
 
 -- how large the page is
 unfoldable pub page_size : (height : ℕ) → List ℕ
@@ -198,4 +225,4 @@ page_key end cells letters = group_at 72 (end + 84) ++ placed cell_drawn 0 cells
 unfoldable pub chart_svg : ChartView → List ℕ
 chart_svg c =
     page_head (lanes_end c + 173) c.title ++ flat_map (tick_drawn (length c.steps) (lanes_end c + 80)) c.ticks
-    ++ placed (lane_drawn (length c.steps)) 0 c.lanes ++ page_steps (lanes_end c) c.counted c.steps ++ page_key (lanes_end c) c.cells c.letters
+    ++ placed (lane_drawn (layout_in c) (length c.steps)) 0 c.lanes ++ page_steps (lanes_end c) c.counted c.steps ++ page_key (lanes_end c) c.cells c.letters

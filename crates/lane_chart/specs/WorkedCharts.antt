@@ -8,7 +8,9 @@ use Rattle.lane_chart.specs.declared.runs.Run.{Run}
 use Rattle.lane_chart.specs.ChartView.{ChartView, MarkView}
 use Rattle.lane_chart.specs.Escape.{escaped}
 use Rattle.lane_chart.specs.Runs.{runs}
+use Rattle.lane_chart.specs.Layouts.{layout_of}
 use Rattle.lane_chart.specs.SvgText.{bar, badges}
+use Rattle.lane_chart.specs.declared.layout.Layout.TheVariants.{Close, Roomy}
 use Rattle.lane_chart.specs.Text.{chart_text}
 
 -- lines, each of which ends in LF
@@ -67,14 +69,18 @@ pub record WorkedCharts : Type 0 where
   -- cells that are alike are one run
   pub in_runs : runs six_cells ≡ run cell.Strong 0 2 ∷ run cell.Absent 2 3 ∷ run cell.Weak 3 4 ∷ run cell.Plain 4 6 ∷ []
   -- two of six columns are 320 of 960 pixels
-  pub as_bar : bar 6 (run cell.Absent 2 3) ≡ codes "<rect class='absent' y='22' height='2' x='320' width='160'/>\n"
+  pub as_bar : bar Roomy 6 (run cell.Absent 2 3) ≡ codes "<rect class='absent' y='22' height='2' x='320' width='160'/>\n"
+  -- the same where lanes stand close: on a page of more than 24
+  pub close_by : layout_of 25 ≡ Close
+  pub roomy : layout_of 24 ≡ Roomy
+  pub as_close_bar : bar Close 6 (run cell.Absent 2 3) ≡ codes "<rect class='absent' y='4' height='2' x='320' width='160'/>\n"
   -- the second mark of a column stands right of the first one, and a stroke leads from each to the column
-  pub as_marks : badges 6 0 two_marks ≡ lines (
+  pub as_marks : badges Roomy 6 0 two_marks ≡ lines (
       codes "<g class='note'><title>back</title><path d='M320 31V17L320 14'/><circle cx='320' cy='7' r='7'/><text x='320' y='11'>B</text></g>"
       ∷ codes "<g class='alarm'><title>a &lt; b</title><path d='M320 31V17L335 14'/><circle cx='335' cy='7' r='7'/><text x='335' y='11'>X</text></g>"
       ∷ [])
   -- marks that would leave the page share its last place, and the heaviest of them lies on top of the others
-  pub at_the_end : badges 96 1060 three_marks ≡ lines (
+  pub at_the_end : badges Roomy 96 1060 three_marks ≡ lines (
       codes "<g class='note'><title>back</title><path d='M950 31V17L1060 14'/><circle cx='1060' cy='7' r='7'/><text x='1060' y='11'>B</text></g>"
       ∷ codes "<g class='turn'><title>leads</title><path d='M950 31V17L1070 14'/><circle cx='1070' cy='7' r='7'/><text x='1070' y='11'>L</text></g>"
       ∷ codes "<g class='alarm'><title>failed</title><path d='M950 31V17L1070 14'/><circle cx='1070' cy='7' r='7'/><text x='1070' y='11'>X</text></g>"

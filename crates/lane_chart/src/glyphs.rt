@@ -7,8 +7,8 @@ ghost use Rattle.std.specs.Prelude.{◌≡◌, map};
 use crate::chart::{Cell, Mark};
 use crate::heaviest::heavier;
 
-// The letter of a kind of cell.
-pub(crate) fn glyph(cell: Cell) -> &'static str
+/// The letter of a kind of cell.
+pub fn glyph(cell: Cell) -> &'static str
     ensures { result.now ≡ glyph cell }
 {
     match cell {

@@ -1,7 +1,7 @@
 // The lanes, the scale and the number that rises, as SVG.
 ghost use Rattle.lane_chart.specs.ChartView.{lane_shown};
 ghost use Rattle.lane_chart.specs.Places.{placed};
-ghost use Rattle.lane_chart.specs.SvgText.{grid_drawn, lane_drawn, lane_place, number_drawn, step_drawn, steps_drawn, steps_end, steps_name, tick_drawn};
+ghost use Rattle.lane_chart.specs.SvgText.{grid_drawn, lane_drawn, lane_place, name_place, number_drawn, step_drawn, steps_drawn, steps_end, steps_name, tick_drawn};
 ghost use Rattle.lane_chart.specs.Text.{last_of};
 ghost use Rattle.std.specs.List.{flat_map};
 ghost use Rattle.std.specs.Prelude.{◌≡◌, ◌++◌, OnOk, length, map, ◌<◌};
@@ -11,22 +11,35 @@ use crate::bars::{across, push_bars};
 use crate::chart::{Lane, Tick};
 use crate::escape::{push_escaped, push_text};
 use crate::groups::push_group;
+use crate::layout::{Layout, lane_pitch};
 use crate::lines::last_of;
 use crate::places::scaled;
 use std::alloc::Global;
 use tuple_edge::OutOfMemory;
 
-// How far apart lanes are.
-pub(crate) const LANE_PITCH: u128 = 38;
+// Where the name of a lane stands.
+fn name_place(layout: Layout) -> &'static str
+    ensures { result.now ≡ name_place layout }
+{
+    match layout {
+        Layout::Roomy => "<text class='name' x='-10' y='27'>",
+        Layout::Close => "<text class='name close' x='-10' y='8'>",
+    }
+}
 
 // Appends the place of a lane.
 #[tactic(auto, unfolding(crate::specs::SvgText::lane_place))]
-fn push_lane_place(out: &mut Vec<u8>, alloc: Global, place: usize) -> Result<(), OutOfMemory>
-    ensures { OnOk result (out.new.items ≡ out.old.items ++ lane_place place) }
+fn push_lane_place(
+    out: &mut Vec<u8>,
+    alloc: Global,
+    layout: Layout,
+    place: usize,
+) -> Result<(), OutOfMemory>
+    ensures { OnOk result (out.new.items ≡ out.old.items ++ lane_place layout place) }
 {
-    let down = 64 + place as u128 * LANE_PITCH;
+    let down = 64 + place as u128 * lane_pitch(layout);
     push_group(out, alloc, 72, down)?;
-    push_text(out, "<text class='name' x='-10' y='27'>")
+    push_text(out, name_place(layout))
 }
 
 // Appends a lane, by its place among the lanes.
@@ -34,17 +47,18 @@ fn push_lane_place(out: &mut Vec<u8>, alloc: Global, place: usize) -> Result<(),
 fn push_lane(
     out: &mut Vec<u8>,
     alloc: Global,
+    layout: Layout,
     columns: usize,
     place: usize,
     lane: &Lane,
 ) -> Result<(), OutOfMemory>
-    ensures { OnOk result (out.new.items ≡ out.old.items ++ lane_drawn columns place (lane_shown lane.now)) }
+    ensures { OnOk result (out.new.items ≡ out.old.items ++ lane_drawn layout columns place (lane_shown lane.now)) }
 {
-    push_lane_place(out, alloc, place)?;
+    push_lane_place(out, alloc, layout, place)?;
     push_escaped(out, &lane.name)?;
     push_text(out, "</text>\n")?;
-    push_bars(out, alloc, columns, &lane.cells)?;
-    push_badges(out, alloc, columns, &lane.marks)?;
+    push_bars(out, alloc, layout, columns, &lane.cells)?;
+    push_badges(out, alloc, layout, columns, &lane.marks)?;
     push_text(out, "</g>\n")?;
     Ok(())
 }
@@ -53,13 +67,14 @@ fn push_lane(
 pub(crate) fn push_lanes_drawn(
     out: &mut Vec<u8>,
     alloc: Global,
+    layout: Layout,
     columns: usize,
     lanes: &[Lane],
 ) -> Result<(), OutOfMemory>
-    ensures { OnOk result (out.new.items ≡ out.old.items ++ placed (lane_drawn columns) 0 (map lane_shown lanes.now)) }
+    ensures { OnOk result (out.new.items ≡ out.old.items ++ placed (lane_drawn layout columns) 0 (map lane_shown lanes.now)) }
 {
     for (place, lane) in lanes.iter().enumerate() {
-        push_lane(out, alloc, columns, place, lane)?;
+        push_lane(out, alloc, layout, columns, place, lane)?;
     }
     Ok(())
 }

@@ -15,6 +15,7 @@ mod heaviest;
 mod keys;
 mod lanes;
 mod law;
+mod layout;
 mod lines;
 mod meanings;
 mod pieces;
@@ -25,6 +26,7 @@ mod svg;
 mod text;
 
 pub use chart::{Cell, CellKey, Chart, Lane, LetterKey, Mark, Tick, Weight};
+pub use glyphs::glyph;
 pub use law::{escaped_is_plain, worked_charts};
 pub use svg::write_svg;
 pub use text::write_text;

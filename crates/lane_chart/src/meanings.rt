@@ -9,6 +9,7 @@ use crate::bars::shape;
 use crate::chart::{Cell, CellKey, LetterKey, Weight};
 use crate::escape::{push_escaped, push_text};
 use crate::groups::push_group;
+use crate::layout::Layout;
 use std::alloc::Global;
 use tuple_edge::OutOfMemory;
 
@@ -45,7 +46,7 @@ fn push_cell_sample(out: &mut Vec<u8>, cell: Cell) -> Result<(), OutOfMemory>
     ensures { OnOk result (out.new.items ≡ out.old.items ++ cell_sample cell) }
 {
     push_text(out, "<rect ")?;
-    push_text(out, shape(cell))?;
+    push_text(out, shape(Layout::Roomy, cell))?;
     push_text(out, " x='0' width='24'/><text class='word' x='30' y='27'>")
 }
 

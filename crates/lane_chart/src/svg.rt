@@ -1,23 +1,31 @@
 // A chart as SVG.
 ghost use Rattle.lane_chart.specs.ChartView.{cell_key_shown, chart_shown, letter_key_shown};
-ghost use Rattle.lane_chart.specs.SvgText.{chart_svg, lanes_end, page_head, page_key, page_sheet, page_size, page_steps, page_title};
+ghost use Rattle.lane_chart.specs.SvgText.{chart_svg, lanes_end, layout_in, page_head, page_key, page_sheet, page_size, page_steps, page_title};
 ghost use Rattle.std.specs.Prelude.{◌≡◌, ◌<◌, ◌^◌, ◌++◌, IfOk, OnOk, map};
 
 use crate::chart::{CellKey, Chart, LetterKey};
 use crate::escape::{push_escaped, push_text};
 use crate::groups::push_group;
-use crate::lanes::{LANE_PITCH, push_lanes_drawn, push_steps_drawn, push_ticks};
+use crate::lanes::{push_lanes_drawn, push_steps_drawn, push_ticks};
+use crate::layout::{Layout, lane_pitch, layout_of};
 use crate::meanings::{push_cells, push_letters_drawn};
 use crate::style::style;
 use std::alloc::Global;
 use tuple_edge::OutOfMemory;
+
+// How much room the lanes of a chart have.
+fn layout_in(chart: &Chart) -> Layout
+    ensures { result ≡ layout_in (chart_shown chart.now) }
+{
+    layout_of(chart.lanes.len())
+}
 
 // How far down the lanes of a chart go.
 fn lanes_end(chart: &Chart) -> u128
     ensures value { result ≡ lanes_end (chart_shown chart.now) }
     ensures small { result < 2 ^ 80 }
 {
-    64 + chart.lanes.len() as u128 * LANE_PITCH
+    64 + chart.lanes.len() as u128 * lane_pitch(layout_in(chart))
 }
 
 // Appends how large the page is.
@@ -105,7 +113,7 @@ fn push_page(out: &mut Vec<u8>, alloc: Global, chart: &Chart) -> Result<(), OutO
     let columns = chart.steps.len();
     push_head(out, alloc, end + 173, &chart.title)?;
     push_ticks(out, alloc, columns, end + 80, &chart.ticks)?;
-    push_lanes_drawn(out, alloc, columns, &chart.lanes)?;
+    push_lanes_drawn(out, alloc, layout_in(chart), columns, &chart.lanes)?;
     push_steps_part(out, alloc, end, chart.counted, &chart.steps)?;
     push_key_part(out, alloc, end, &chart.cells, &chart.letters)
 }

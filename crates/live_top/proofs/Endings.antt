@@ -9,8 +9,8 @@ use Rattle.flux_outside.specs.Told.{FilesTold, SinkTold}
 use Rattle.flux_top.specs.Clauses.{HasCause}
 use Rattle.live_feed.specs.declared.answer.Live.{Live}
 use Rattle.live_feed.specs.declared.answer.Live.TheVariants as live
-use Rattle.live_top.specs.Clauses.{IsQuiet, NamesLost, StopsBefore, StopsLive, StopsTo}
 use Rattle.live_top.specs.Runs.{ComesToRun, Lived, RunLives}
+use Rattle.live_top.specs.Stops.{IsQuiet, NamesLost, StopsBefore, StopsLive, StopsTo}
 
 module _ (feed : FeedView) (script : List Order) (old new : SinkTold) where
   -- what was put is a front of the text also where no memory was to be had for the line

@@ -1,18 +1,19 @@
 -- The inputs of a live run, read as those of `flux run`, and the lines of their refusals under the own name.
-use Rattle.std.proofs.Common.{ℕ, ◌≡◌, ◌∙◌, List, ap, sym, subst, Option, Some, Ok, Err, ⊎_elim, string_bytes}
+use Rattle.std.proofs.Common.{ℕ, ◌≡◌, ◌∙◌, List, ap, sym, subst, Some, Ok, Err, ⊎_elim, string_bytes}
 use Rattle.std.specs.Prelude.{IfErr, IfOk, IfSome, Result}
 use Rattle.command_course.specs.Course.{AtReading, Between, Came, Course, Refuses, Runs, StoppedShort}
-use Rattle.command_course.specs.Steps.{HasReadCause, IsWant, OnlyReads, StopsOf}
+use Rattle.command_course.specs.Steps.{StopsOf}
 use Rattle.command_course.specs.declared.stop.Stop.{Stop}
 use Rattle.command_course.specs.declared.stop.Stop.TheVariants as stop
 use Rattle.command_course.proofs.Courses.{came_on, stops_on}
-pub use Rattle.command_course.proofs.Courses.{reads_on, reads_stopped, reads_then, wants_for}
-use Rattle.flux_outside.specs.Outside.{StopsAtWant, Wants}
+pub use Rattle.command_course.proofs.Courses.{reads_on, reads_stopped, reads_then}
 use Rattle.flux_outside.specs.Told.{FilesTold}
 use Rattle.flux_top.specs.Outcome.{asked}
-use Rattle.live_top.specs.Clauses.{IsOwn, StopsBefore}
-use Rattle.live_top.specs.Lines.{own_line}
+use Rattle.flux_top.specs.Stops.{IsOwn}
+pub use Rattle.flux_top.proofs.Owning.{own_reads}
+use Rattle.live_top.specs.Lines.{name, own_line}
 use Rattle.live_top.specs.Runs.{run_in}
+use Rattle.live_top.specs.Stops.{StopsBefore}
 use Rattle.live_top.specs.Words.{as_run}
 use Rattle.live_top.specs.declared.given.Given.{Given}
 
@@ -36,7 +37,7 @@ module _ (old new : FilesTold) (words : List (List ℕ)) (course : Course) (is :
   short : StoppedShort old new course → IfSome (asked (as_run words)) (StoppedShort old new)
   short stopped = subst (λ c. IfSome c (StoppedShort old new)) (sym is) stopped
 
-  pub own_stops : (why own : Stop) → StopsOf old new course why → IsOwn why own → StopsBefore old new words own
+  pub own_stops : (why own : Stop) → StopsOf old new course why → IsOwn name why own → StopsBefore old new words own
   own_stops stop.Usage own stops is_own = absurd stops
   own_stops (stop.Refused line) own stops is_own = ⊎_elim
       (λ want. subst (StopsBefore old new words) (sym want) (short (Between (Refuses (string_bytes line)) stops)))
@@ -49,33 +50,3 @@ module _ (old new : FilesTold) (words : List (List ℕ)) (course : Course) (is :
   own_stops stop.CannotWrite own stops is_own = absurd stops
   own_stops (stop.PairLost stage part line) own stops is_own = absurd stops
   own_stops stop.OutOfMemory own stops is_own = subst (StopsBefore old new words) (sym is_own) (short stops)
-
-own_cause : (before now : ℕ) (why own : Stop) → HasReadCause before now why → IsOwn why own → HasReadCause before now own
-own_cause before now stop.Usage own cause is_own = subst (HasReadCause before now) (sym is_own) cause
-own_cause before now (stop.Refused line) own cause is_own = ⊎_elim
-    (λ want. subst (HasReadCause before now) (sym want) tt) (λ says. subst (HasReadCause before now) (sym says.1) cause) is_own
-own_cause before now (stop.CannotRead line) own cause is_own = ⊎_elim
-    (λ want. subst (HasReadCause before now) (sym want) tt) (λ says. subst (HasReadCause before now) (sym says.1) cause) is_own
-own_cause before now stop.CannotWrite own cause is_own = absurd cause
-own_cause before now (stop.PairLost stage part line) own cause is_own = absurd cause
-own_cause before now stop.OutOfMemory own cause is_own = subst (HasReadCause before now) (sym is_own) tt
-
-want_stays : (A : Type 0) (why own : Stop) → IsOwn why own → IsWant {A = A} (Err why) → IsWant {A = A} (Err own)
-want_stays A stop.Usage own is_own want = absurd want
-want_stays A (stop.Refused line) own is_own want = absurd want
-want_stays A (stop.CannotRead line) own is_own want = absurd want
-want_stays A stop.CannotWrite own is_own want = absurd want
-want_stays A (stop.PairLost stage part line) own is_own want = absurd want
-want_stays A stop.OutOfMemory own is_own want = subst (λ s. IsWant {A = A} (Err s)) (sym is_own) tt
-
-own_wants : (A : Type 0) (old new : Option Wants) (why own : Stop) → IsOwn why own → StopsAtWant old new (IsWant {A = A} (Err why)) → StopsAtWant old new (IsWant {A = A} (Err own))
-own_wants A old new why own is_own wants = wants_for old new (IsWant {A = A} (Err why)) (IsWant {A = A} (Err own)) (want_stays A why own is_own) wants
-
-pub own_reads : (A : Type 0) (old new : FilesTold) (why own : Stop) → IsOwn why own → OnlyReads {A = A} old new (Err why) → OnlyReads {A = A} old new (Err own)
-own_reads A old new why own is_own reads = record {
-  contents = reads.contents;
-  saves = reads.saves;
-  wants = own_wants A old.wants new.wants why own is_own reads.wants;
-  cause = own_cause old.read_faults new.read_faults why own reads.cause is_own;
-  still = tt;
-}

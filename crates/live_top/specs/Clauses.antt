@@ -1,108 +1,50 @@
--- What the clauses of `flux_live` and of its steps say.
-use Rattle.std.specs.Prelude.{ℕ, ◌≡◌, ◌⊎◌, List, None}
-use Rattle.std.specs.String.{string_bytes}
-use Rattle.pair_machine.specs.Drain.{partition}
+-- What the clauses of `flux_live` say, as those of `flux` do, of its own lines, of its words as words of `flux run`, and of a run that is written while it goes on.
+use Rattle.std.specs.Prelude.{ℕ, ◌≡◌, ◌⊎◌, List}
 use Rattle.pair_machine.specs.Numbers.{Partition}
-use Rattle.pair_machine.specs.declared.order.Order.{Order}
-use Rattle.command_course.specs.FeedView.{FeedView}
-use Rattle.command_course.specs.Lines.{cannot_read_line}
-use Rattle.command_course.specs.declared.stop.Stop.{Stop}
-use Rattle.command_course.specs.declared.stop.Stop.TheVariants as stop
 use Rattle.flux_outside.specs.Outside.{Rose}
 use Rattle.flux_outside.specs.Told.{FilesTold, SinkTold}
-use Rattle.flux_top.specs.Clauses.{ComesToRead, ComesToRefusal, StopsShort, Tells}
-use Rattle.flux_top.specs.Lines.{lost_line}
-use Rattle.flux_top.specs.Outcome.{asked}
+use Rattle.flux_top.specs.Clauses.{Accepts, ComesToRead, ComesToRefusal, IsStatus, Rejects, StopsShort}
+use Rattle.flux_top.specs.Ends.{IsAtEnd, LosesNone}
+use Rattle.flux_top.specs.Programs as program
 use Rattle.live_feed.specs.declared.answer.Live.TheVariants as live
-use Rattle.live_top.specs.Lines.{own_line}
-use Rattle.live_top.specs.Runs.{Lived, RunLives}
+use Rattle.live_top.specs.Lines.{lines, lost_line, own_line}
+use Rattle.live_top.specs.Runs.{Lived}
 use Rattle.live_top.specs.Words.{as_run}
 
--- ---- of `flux_live`
+-- no status is one at which a file may have been saved
+abbrev pub MaySave : ℕ → Type 0
+MaySave status = ⊥
+
+-- It is one of the statuses of `flux`, and at those that have a line of their own that line is said.
+abbrev pub SaysAt : ℕ → SinkTold → SinkTold → Type 0
+SaysAt = program.SaysAt lines IsStatus
+
+-- What stays of the files at a status. The first want of memory ends it, with 8. The count of faults of reads stays but at 4 and 8, and that of saves and what names hold stay at all.
+abbrev pub StaysAt : ℕ → FilesTold → FilesTold → Type 0
+StaysAt = program.StaysAt MaySave
 
 -- an input was refused, and the line of `flux` was said of it, under the own name
-pub record SaysRefusal (before after : FilesTold) (words : List (List ℕ)) (old new : SinkTold) : Type 0 where
-  pub line : List ℕ
-  pub comes : ComesToRefusal before after (as_run words) line
-  pub tells : Tells old new (own_line line)
+abbrev pub SaysRefusal : FilesTold → FilesTold → List (List ℕ) → SinkTold → SinkTold → Type 0
+SaysRefusal before after words = program.SaysRefusal (ComesToRefusal before after (as_run words)) own_line
 
 -- the file that was to be read last could not be read, as the count of faults of reads rose, and its name was said
-pub record SaysUnread (before after : FilesTold) (words : List (List ℕ)) (old new : SinkTold) : Type 0 where
-  pub name : List ℕ
-  pub comes : ComesToRead before after (as_run words) name
-  pub tells : Tells old new (own_line (cannot_read_line name))
-  pub rose : Rose before.read_faults after.read_faults
+abbrev pub SaysUnread : FilesTold → FilesTold → List (List ℕ) → SinkTold → SinkTold → Type 0
+SaysUnread before after words = program.SaysUnread (ComesToRead before after (as_run words)) own_line before after
 
 -- a pair was lost, what was emitted before was put, and the pair's name was said
 pub record SaysLost (before after : FilesTold) (words : List (List ℕ)) (old new : SinkTold) (said says : SinkTold) : Type 0 where
   pub pair : Partition
   pub lived : Lived before after words old new (live.Lost pair.stage pair.part)
-  pub tells : Tells said says (own_line (lost_line pair))
+  pub tells : program.Tells said says (lost_line pair)
 
 -- no memory was to be had before anything was put, or while a run was written
 abbrev pub FallsShort : FilesTold → FilesTold → List (List ℕ) → SinkTold → SinkTold → Type 0
 FallsShort before after words old new = (StopsShort before after (as_run words) × (new ≡ old)) ⊎ Lived before after words old new live.OutOfMemory
 
--- ---- of its steps
-
--- the same stop with the own name in its line, or want of memory for that
-abbrev pub IsOwn : Stop → Stop → Type 0
-IsOwn stop.Usage own = own ≡ stop.Usage
-IsOwn (stop.Refused line) own = (own ≡ stop.OutOfMemory) ⊎ ((said : _) × (own ≡ stop.Refused said) × (string_bytes said ≡ own_line (string_bytes line)))
-IsOwn (stop.CannotRead line) own = (own ≡ stop.OutOfMemory) ⊎ ((said : _) × (own ≡ stop.CannotRead said) × (string_bytes said ≡ own_line (string_bytes line)))
-IsOwn stop.CannotWrite own = own ≡ stop.CannotWrite
-IsOwn (stop.PairLost stage part line) own = own ≡ stop.PairLost stage part line
-IsOwn stop.OutOfMemory own = own ≡ stop.OutOfMemory
-
--- a line is said of a refused input
-pub record RefusesBy (before after : FilesTold) (words : List (List ℕ)) (said : List ℕ) : Type 0 where
-  pub line : List ℕ
-  pub comes : ComesToRefusal before after (as_run words) line
-  pub said_is : said ≡ own_line line
-
--- a line is said of a file that can't be read
-pub record UnreadBy (before after : FilesTold) (words : List (List ℕ)) (said : List ℕ) : Type 0 where
-  pub name : List ℕ
-  pub comes : ComesToRead before after (as_run words) name
-  pub said_is : said ≡ own_line (cannot_read_line name)
-
--- why the words' inputs weren't all read and accepted
-abbrev pub StopsBefore : FilesTold → FilesTold → List (List ℕ) → Stop → Type 0
-StopsBefore before after words stop.Usage = asked (as_run words) ≡ None
-StopsBefore before after words (stop.Refused line) = RefusesBy before after words (string_bytes line)
-StopsBefore before after words (stop.CannotRead line) = UnreadBy before after words (string_bytes line)
-StopsBefore before after words stop.CannotWrite = ⊥
-StopsBefore before after words (stop.PairLost stage part line) = ⊥
-StopsBefore before after words stop.OutOfMemory = StopsShort before after (as_run words)
-
--- why a run was not whole, or not written whole
-abbrev pub StopsLive : FeedView → List Order → SinkTold → SinkTold → Stop → Type 0
-StopsLive feed script old new stop.Usage = ⊥
-StopsLive feed script old new (stop.Refused line) = ⊥
-StopsLive feed script old new (stop.CannotRead line) = ⊥
-StopsLive feed script old new stop.CannotWrite = RunLives feed script old new live.WriteFault
-StopsLive feed script old new (stop.PairLost stage part line) = RunLives feed script old new (live.Lost stage part) × (string_bytes line ≡ own_line (lost_line (partition stage part)))
-StopsLive feed script old new stop.OutOfMemory = RunLives feed script old new live.OutOfMemory
-
--- this pair was lost, as a line says, or no memory was to be had for that
-abbrev pub NamesLost : (stage part : ℕ) → Stop → Type 0
-NamesLost stage part why = (why ≡ stop.OutOfMemory) ⊎ ((line : _) × (why ≡ stop.PairLost stage part line) × (string_bytes line ≡ own_line (lost_line (partition stage part))))
-
--- why the words' run stopped, before it or in it
-abbrev pub StopsTo : FilesTold → FilesTold → List (List ℕ) → SinkTold → SinkTold → Stop → Type 0
-StopsTo before after words old new stop.Usage = asked (as_run words) ≡ None
-StopsTo before after words old new (stop.Refused line) = RefusesBy before after words (string_bytes line)
-StopsTo before after words old new (stop.CannotRead line) = UnreadBy before after words (string_bytes line)
-StopsTo before after words old new stop.CannotWrite = Lived before after words old new live.WriteFault
-StopsTo before after words old new (stop.PairLost stage part line) =
-    Lived before after words old new (live.Lost stage part) × (string_bytes line ≡ own_line (lost_line (partition stage part)))
-StopsTo before after words old new stop.OutOfMemory = FallsShort before after words old new
-
--- nothing was put before any stop but those of a run
-abbrev pub IsQuiet : {A : Type 0} → A → A → Stop → Type 0
-IsQuiet old new stop.Usage = new ≡ old
-IsQuiet old new (stop.Refused line) = new ≡ old
-IsQuiet old new (stop.CannotRead line) = new ≡ old
-IsQuiet old new stop.CannotWrite = Unit {0}
-IsQuiet old new (stop.PairLost stage part line) = Unit {0}
-IsQuiet old new stop.OutOfMemory = Unit {0}
+-- Where the files tell what they hold and no count rose, what they hold is accepted and done, or it is refused, unless no memory was to be had. Only a run under a
+-- script that isn't safe may lose a pair.
+pub record IsComplete (status : ℕ) (before after : FilesTold) (words : List (List ℕ)) (old new : SinkTold) : Type 0 where
+  pub complete : Accepts before.contents (as_run words) LosesNone → (Rose before.read_faults after.read_faults → ⊥) → (Rose old.faults new.faults → ⊥) → (status ≡ 0) ⊎ (status ≡ 8)
+  pub may_lose : Accepts before.contents (as_run words) IsAtEnd → (Rose before.read_faults after.read_faults → ⊥) → (Rose old.faults new.faults → ⊥)
+      → (status ≡ 0) ⊎ (status ≡ 6) ⊎ (status ≡ 8)
+  pub rejects : Rejects before.contents (as_run words) → (Rose before.read_faults after.read_faults → ⊥) → (status ≡ 3) ⊎ (status ≡ 8)

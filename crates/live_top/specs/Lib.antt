@@ -1,4 +1,5 @@
 pub mod Clauses
 pub mod Lines
 pub mod Runs
+pub mod Stops
 pub mod Words

@@ -4,20 +4,23 @@ ghost use Rattle.command_course.specs.Feeds.{feed_of};
 ghost use Rattle.command_course.specs.Steps.{OnlyReads, StopsOf};
 ghost use Rattle.command_line.specs.Views.{text_in};
 ghost use Rattle.flux_top.specs.Outcome.{asked, texts};
-ghost use Rattle.live_top.specs.Clauses.{StopsBefore};
 ghost use Rattle.live_top.specs.Runs.{ComesToRun, run_in};
+ghost use Rattle.live_top.specs.Stops.{StopsBefore};
 ghost use Rattle.live_top.specs.Words.{as_run, course_over, files_in, options_with};
 ghost use Rattle.command_course.specs.declared.stop.Stop.TheVariants.{Usage};
 ghost use Rattle.run_command.specs.Courses.{runs};
 ghost use Rattle.std.specs.Prelude.{◌≡◌, Err, false, IfErr, IfOk, None};
 
-use crate::own::own_stop;
 use crate::words::{Named, read_words};
 use command_course::{Feed, Stop, feed_at};
 use failure_script::Script;
 use flux_outside::Files;
+use flux_top::own_stop;
 use run_command::script_at;
 use std::alloc::Global;
+
+/// The program's name, as it stands in what is said.
+pub(crate) const NAME: &str = "flux_live";
 
 /// A plan with its trades, and a failure script, which may have no orders.
 #[derive(Drop)]
@@ -42,7 +45,7 @@ pub(crate) fn read_inputs<F: Files>(
         None => Err(Stop::Usage),
         Some(named) => match given_at(alloc, files, named) {
             Ok(given) => Ok(given),
-            Err(stop) => Err(own_stop(alloc, stop)),
+            Err(stop) => Err(own_stop(alloc, NAME, stop)),
         },
     }
 }

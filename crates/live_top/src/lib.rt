@@ -9,7 +9,6 @@
 mod command;
 mod given;
 mod lived;
-mod own;
 mod words;
 
 pub use command::flux_live;

@@ -1,16 +1,11 @@
 // The run itself, written while it goes on.
 ghost use Rattle.live_feed.specs.declared.answer.Live.TheVariants as live;
-ghost use Rattle.live_top.specs.Clauses.{NamesLost, StopsLive};
-ghost use Rattle.live_top.specs.Lines.{own_line};
 ghost use Rattle.live_top.specs.Runs.{RunLives};
-ghost use Rattle.command_course.specs.declared.stop.Stop.TheVariants as stop;
+ghost use Rattle.live_top.specs.Stops.{NamesLost, StopsLive};
 ghost use Rattle.command_course.specs.Feeds.{feed_of};
-ghost use Rattle.flux_top.specs.Lines.{lost_line};
-ghost use Rattle.pair_machine.specs.Drain.{partition};
-ghost use Rattle.std.specs.Prelude.{◌≡◌, IfErr, IfOk, OnOk, string_bytes};
+ghost use Rattle.std.specs.Prelude.{IfErr, OnOk};
 
-use crate::given::Given;
-use crate::own::own_line;
+use crate::given::{Given, NAME};
 use command_course::Stop;
 use flux_outside::Sink;
 use flux_top::line_of_loss;
@@ -18,21 +13,12 @@ use live_feed::{Gate, Live, live};
 use std::alloc::Global;
 use std::sync::Wait;
 use std::thread::Threads;
-use tuple_edge::OutOfMemory;
 
 /// How many workers a live run has.
 const THREADS: u32 = 4;
 
 /// How many turns each of them takes at most.
 const TURNS: u64 = 200_000;
-
-// What is said of a lost pair.
-fn line_of(alloc: Global, stage: u32, part: u32) -> Result<String, OutOfMemory>
-    ensures { IfOk result (λ line. string_bytes line ≡ own_line (lost_line (partition stage part))) }
-{
-    let line = line_of_loss(alloc, stage, part)?;
-    own_line(alloc, line.as_str())
-}
 
 // A live run.
 fn answer<R: Threads + Wait + Sync, S: Sink + Send, G: Gate>(
@@ -80,7 +66,7 @@ pub(crate) fn lived<R: Threads + Wait + Sync, S: Sink + Send, G: Gate>(
 fn lost(alloc: Global, stage: u32, part: u32) -> Stop
     ensures { NamesLost stage part result }
 {
-    match line_of(alloc, stage, part) {
+    match line_of_loss(alloc, NAME, stage, part) {
         Ok(line) => Stop::PairLost { stage, part, line },
         Err(_) => Stop::OutOfMemory,
     }

@@ -1,5 +1,6 @@
 pub mod Cash
 pub mod Judged
 pub mod Told
+pub mod Wants
 pub mod Watched
 pub mod Ways

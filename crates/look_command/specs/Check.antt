@@ -12,6 +12,7 @@ use Rattle.command_course.specs.Course.{Reading, Way}
 use Rattle.command_course.specs.Inputs.{cash_from, plan_from, trades_from}
 use Rattle.command_course.specs.Lines.{not_in_plan_line}
 use Rattle.run_command.specs.Scripts.{script_from}
+use Rattle.look_json.specs.CheckJson.{check_json}
 use Rattle.plan_check.specs.Text.{check_text}
 use Rattle.plan_check.specs.Warnings.{warnings}
 use Rattle.look_course.specs.Answers.{AnswerView, answer}
@@ -110,18 +111,26 @@ accepted (Some (Ok value)) = Some value
 abbrev pub ending_after : ℕ → Ending
 ending_after count = if count == 0 then Done else Warned
 
+-- a text as it stands, or as JSON
+abbrev pub check_as : (json faulty : Bool) → List ℕ → List ℕ
+check_as json faulty text = if json then check_json faulty text else text
+
+-- what is said of files one of which has a fault
+abbrev pub faulty_answer : (json : Bool) → Given → AnswerView
+faulty_answer json given = answer Faulty (check_as json true (fault_lines given))
+
 -- what is said of files that have no fault
-abbrev pub sound_answer : PlanView → Option TradesView → Option (List Order) → AnswerView
-sound_answer plan trades script = answer (ending_after (length (warnings plan script))) (check_text plan trades script)
+abbrev pub sound_answer : (json : Bool) → PlanView → Option TradesView → Option (List Order) → AnswerView
+sound_answer json plan trades script = answer (ending_after (length (warnings plan script))) (check_as json false (check_text plan trades script))
 
 -- what is said of a plan and of the files beside it
-abbrev pub judged : Reading PlanView → Given → AnswerView
-judged (Err line) given = answer Faulty (fault_lines given)
-judged (Ok plan) given = if has_fault given then answer Faulty (fault_lines given) else sound_answer plan (accepted given.trades) (accepted given.script)
+abbrev pub judged : (json : Bool) → Reading PlanView → Given → AnswerView
+judged json (Err line) given = faulty_answer json given
+judged json (Ok plan) given = if has_fault given then faulty_answer json given else sound_answer json plan (accepted given.trades) (accepted given.script)
 
 -- what is said of all files
-abbrev pub judgement : Given → AnswerView
-judgement given = judged given.plan given
+abbrev pub judgement : (json : Bool) → Given → AnswerView
+judgement json given = judged json given.plan given
 
 -- ---- the course
 
@@ -130,20 +139,20 @@ abbrev pub given : Reading PlanView → Named TradesView → Named (List Row) �
 given plan trades cash script = record { plan = plan; trades = trades; cash = cash; script = script }
 
 -- the script comes last, and then all are judged
-abbrev pub checks_script : Option (List ℕ) → Reading PlanView → Named TradesView → Named (List Row) → Way AnswerView
-checks_script script plan trades cash next = tries_script plan script (λ orders. next (judgement (given plan trades cash orders)))
+abbrev pub checks_script : Option (List ℕ) → (json : Bool) → Reading PlanView → Named TradesView → Named (List Row) → Way AnswerView
+checks_script script json plan trades cash next = tries_script plan script (λ orders. next (judgement json (given plan trades cash orders)))
 
 -- before the script come the movements
-abbrev pub checks_cash : (cash script : Option (List ℕ)) → Reading PlanView → Named TradesView → Way AnswerView
-checks_cash cash script plan trades next = tries_cash plan (room_beside trades) cash (λ movements. checks_script script plan trades movements next)
+abbrev pub checks_cash : (cash script : Option (List ℕ)) → (json : Bool) → Reading PlanView → Named TradesView → Way AnswerView
+checks_cash cash script json plan trades next = tries_cash plan (room_beside trades) cash (λ movements. checks_script script json plan trades movements next)
 
 -- before the movements come the trades
-abbrev pub checks_trades : (trades cash script : Option (List ℕ)) → Reading PlanView → Way AnswerView
-checks_trades trades cash script plan next = tries_named max_input_bytes trades_told trades (λ them. checks_cash cash script plan them next)
+abbrev pub checks_trades : (trades cash script : Option (List ℕ)) → (json : Bool) → Reading PlanView → Way AnswerView
+checks_trades trades cash script json plan next = tries_named max_input_bytes trades_told trades (λ them. checks_cash cash script json plan them next)
 
 -- `check`: the plan comes first
-abbrev pub check_way : (plan : List ℕ) → (trades cash script : Option (List ℕ)) → Way AnswerView
-check_way plan trades cash script next = tries max_plan_bytes plan_told plan (λ it. checks_trades trades cash script it next)
+abbrev pub check_way : (plan : List ℕ) → (trades cash script : Option (List ℕ)) → (json : Bool) → Way AnswerView
+check_way plan trades cash script json next = tries max_plan_bytes plan_told plan (λ it. checks_trades trades cash script json it next)
 
 -- ---- as the code holds it
 

@@ -17,7 +17,8 @@ use plan_reader::Plan;
 use std::alloc::Global;
 use trade_text::{Cash, MAX_INPUTS, Trades};
 
-/// What `check` says of the files that are named: what the plan does and what is hardly meant, or their faults.
+/// What `check` says of the files that are named, as text or as JSON: what the plan does and what is hardly meant, or
+/// their faults.
 #[tactic(auto, using(crate::proofs::Ways::reads_on, crate::proofs::Ways::reads_stopped))]
 pub fn check_report<F: Files>(
     alloc: Global,
@@ -26,13 +27,14 @@ pub fn check_report<F: Files>(
     trades: Option<&str>,
     cash: Option<&str>,
     script: Option<&str>,
+    json: bool,
 ) -> Result<Answer, Stop>
-    ensures gives { IfOk result (λ answer. GivesBy (F.told files.old) (F.told files.new) (check_way plan.now (option_map (λ n. n.now) trades.entry) (option_map (λ n. n.now) cash.entry) (option_map (λ n. n.now) script.entry)) (answer_of answer)) }
-    ensures stops { IfErr result (λ stop. StopsBy (F.told files.old) (F.told files.new) (check_way plan.now (option_map (λ n. n.now) trades.entry) (option_map (λ n. n.now) cash.entry) (option_map (λ n. n.now) script.entry)) stop) }
+    ensures gives { IfOk result (λ answer. GivesBy (F.told files.old) (F.told files.new) (check_way plan.now (option_map (λ n. n.now) trades.entry) (option_map (λ n. n.now) cash.entry) (option_map (λ n. n.now) script.entry) json) (answer_of answer)) }
+    ensures stops { IfErr result (λ stop. StopsBy (F.told files.old) (F.told files.new) (check_way plan.now (option_map (λ n. n.now) trades.entry) (option_map (λ n. n.now) cash.entry) (option_map (λ n. n.now) script.entry) json) stop) }
     ensures reads { OnlyReads (F.told files.old) (F.told files.new) result }
 {
     match tried_at(alloc, files, plan, &ToldPlan) {
-        Ok(plan) => with_trades(alloc, files, plan, trades, cash, script),
+        Ok(plan) => with_trades(alloc, files, plan, trades, cash, script, json),
         Err(stop) => Err(stop),
     }
 }
@@ -46,13 +48,14 @@ fn with_trades<F: Files>(
     trades: Option<&str>,
     cash: Option<&str>,
     script: Option<&str>,
+    json: bool,
 ) -> Result<Answer, Stop>
-    ensures gives { IfOk result (λ answer. GivesBy (F.told files.old) (F.told files.new) (checks_trades (option_map (λ n. n.now) trades.entry) (option_map (λ n. n.now) cash.entry) (option_map (λ n. n.now) script.entry) (tried_of plan)) (answer_of answer)) }
-    ensures stops { IfErr result (λ stop. StopsBy (F.told files.old) (F.told files.new) (checks_trades (option_map (λ n. n.now) trades.entry) (option_map (λ n. n.now) cash.entry) (option_map (λ n. n.now) script.entry) (tried_of plan)) stop) }
+    ensures gives { IfOk result (λ answer. GivesBy (F.told files.old) (F.told files.new) (checks_trades (option_map (λ n. n.now) trades.entry) (option_map (λ n. n.now) cash.entry) (option_map (λ n. n.now) script.entry) json (tried_of plan)) (answer_of answer)) }
+    ensures stops { IfErr result (λ stop. StopsBy (F.told files.old) (F.told files.new) (checks_trades (option_map (λ n. n.now) trades.entry) (option_map (λ n. n.now) cash.entry) (option_map (λ n. n.now) script.entry) json (tried_of plan)) stop) }
     ensures reads { OnlyReads (F.told files.old) (F.told files.new) result }
 {
     match tried_if_named(alloc, files, trades, &ToldTrades) {
-        Ok(trades) => with_cash(alloc, files, plan, trades, cash, script),
+        Ok(trades) => with_cash(alloc, files, plan, trades, cash, script, json),
         Err(stop) => Err(stop),
     }
 }
@@ -66,14 +69,15 @@ fn with_cash<F: Files>(
     trades: Option<Result<Trades, String>>,
     cash: Option<&str>,
     script: Option<&str>,
+    json: bool,
 ) -> Result<Answer, Stop>
-    ensures gives { IfOk result (λ answer. GivesBy (F.told files.old) (F.told files.new) (checks_cash (option_map (λ n. n.now) cash.entry) (option_map (λ n. n.now) script.entry) (tried_of plan) (named_of trades)) (answer_of answer)) }
-    ensures stops { IfErr result (λ stop. StopsBy (F.told files.old) (F.told files.new) (checks_cash (option_map (λ n. n.now) cash.entry) (option_map (λ n. n.now) script.entry) (tried_of plan) (named_of trades)) stop) }
+    ensures gives { IfOk result (λ answer. GivesBy (F.told files.old) (F.told files.new) (checks_cash (option_map (λ n. n.now) cash.entry) (option_map (λ n. n.now) script.entry) json (tried_of plan) (named_of trades)) (answer_of answer)) }
+    ensures stops { IfErr result (λ stop. StopsBy (F.told files.old) (F.told files.new) (checks_cash (option_map (λ n. n.now) cash.entry) (option_map (λ n. n.now) script.entry) json (tried_of plan) (named_of trades)) stop) }
     ensures reads { OnlyReads (F.told files.old) (F.told files.new) result }
 {
     let room = room_beside(&trades);
     match tried_cash(alloc, files, &plan, room, cash) {
-        Ok(cash) => with_script(alloc, files, plan, trades, cash, script),
+        Ok(cash) => with_script(alloc, files, plan, trades, cash, script, json),
         Err(stop) => Err(stop),
     }
 }
@@ -87,9 +91,10 @@ fn with_script<F: Files>(
     trades: Option<Result<Trades, String>>,
     cash: Option<Result<Cash, String>>,
     script: Option<&str>,
+    json: bool,
 ) -> Result<Answer, Stop>
-    ensures gives { IfOk result (λ answer. GivesBy (F.told files.old) (F.told files.new) (checks_script (option_map (λ n. n.now) script.entry) (tried_of plan) (named_of trades) (named_of cash)) (answer_of answer)) }
-    ensures stops { IfErr result (λ stop. StopsBy (F.told files.old) (F.told files.new) (checks_script (option_map (λ n. n.now) script.entry) (tried_of plan) (named_of trades) (named_of cash)) stop) }
+    ensures gives { IfOk result (λ answer. GivesBy (F.told files.old) (F.told files.new) (checks_script (option_map (λ n. n.now) script.entry) json (tried_of plan) (named_of trades) (named_of cash)) (answer_of answer)) }
+    ensures stops { IfErr result (λ stop. StopsBy (F.told files.old) (F.told files.new) (checks_script (option_map (λ n. n.now) script.entry) json (tried_of plan) (named_of trades) (named_of cash)) stop) }
     ensures reads { OnlyReads (F.told files.old) (F.told files.new) result }
 {
     match tried_script(alloc, files, &plan, script) {
@@ -101,17 +106,18 @@ fn with_script<F: Files>(
                 cash,
                 script,
             },
+            json,
         ),
         Err(stop) => Err(stop),
     }
 }
 
 // What is said of the files, where want of memory is why the command stops.
-fn all_judged(alloc: Global, said: &Said) -> Result<Answer, Stop>
-    ensures answer { IfOk result (λ answer. answer_of answer ≡ judgement (given_of said.now)) }
+fn all_judged(alloc: Global, said: &Said, json: bool) -> Result<Answer, Stop>
+    ensures answer { IfOk result (λ answer. answer_of answer ≡ judgement json (given_of said.now)) }
     ensures want { IfErr result (λ stop. stop ≡ Stop.OutOfMemory) }
 {
-    let answer = judged(alloc, said)?;
+    let answer = judged(alloc, said, json)?;
     Ok(answer)
 }
 

@@ -1,12 +1,12 @@
 // What is said of files that were read: their faults, or what they ask for.
-ghost use Rattle.look_command.specs.Check.{accepted, ending_after, fault_line, fault_lines, given_of, has_fault, is_faulty, is_named_faulty, judged, judgement, named_line, sound_answer};
-ghost use Rattle.look_course.specs.Answers.{answer, answer_of};
+ghost use Rattle.look_command.specs.Check.{accepted, check_as, ending_after, fault_line, fault_lines, faulty_answer, given_of, has_fault, is_faulty, is_named_faulty, judged, judgement, named_line, sound_answer};
+ghost use Rattle.look_course.specs.Answers.{answer_of};
 ghost use Rattle.look_course.specs.Trying.{named_of, tried_of};
-ghost use Rattle.look_course.specs.declared.answer.Ending.TheVariants.{Faulty};
-ghost use Rattle.std.specs.Prelude.{◌≡◌, ◌++◌, IfOk, Ok, OnOk, option_map};
+ghost use Rattle.std.specs.Prelude.{◌≡◌, ◌++◌, IfOk, Ok, OnOk, option_map, string_bytes};
 
 use failure_script::Script;
 use look_course::{Answer, Ending};
+use look_json::write_check_json;
 use plan_check::write_check;
 use plan_reader::Plan;
 use std::alloc::Global;
@@ -53,21 +53,21 @@ fn has_fault(said: &Said) -> bool
 }
 
 // Appends the line of a fault.
-fn push_fault<T>(text: &mut Vec<u8>, said: &Result<T, String>) -> Result<(), OutOfMemory>
-    ensures { OnOk result (text.new.items ≡ text.old.items ++ fault_line (tried_of said.now)) }
+fn push_fault<T>(text: &mut String, said: &Result<T, String>) -> Result<(), OutOfMemory>
+    ensures { OnOk result (string_bytes text.new ≡ string_bytes text.old ++ fault_line (tried_of said.now)) }
 {
     match said {
         Ok(_) => Ok(()),
         Err(line) => {
-            text.extend_from_slice(line.as_bytes())?;
+            text.push_str(line)?;
             Ok(())
         }
     }
 }
 
 // The same of a file that may be named.
-fn push_named<T>(text: &mut Vec<u8>, said: &Option<Result<T, String>>) -> Result<(), OutOfMemory>
-    ensures { OnOk result (text.new.items ≡ text.old.items ++ named_line (named_of said.now)) }
+fn push_named<T>(text: &mut String, said: &Option<Result<T, String>>) -> Result<(), OutOfMemory>
+    ensures { OnOk result (string_bytes text.new ≡ string_bytes text.old ++ named_line (named_of said.now)) }
 {
     match said {
         None => Ok(()),
@@ -76,10 +76,10 @@ fn push_named<T>(text: &mut Vec<u8>, said: &Option<Result<T, String>>) -> Result
 }
 
 // The lines of all faults.
-fn fault_text(alloc: Global, said: &Said) -> Result<Vec<u8>, OutOfMemory>
-    ensures { IfOk result (λ text. text.items ≡ fault_lines (given_of said.now)) }
+fn fault_text(alloc: Global, said: &Said) -> Result<String, OutOfMemory>
+    ensures { IfOk result (λ text. string_bytes text ≡ fault_lines (given_of said.now)) }
 {
-    let mut text = Vec::new(alloc);
+    let mut text = String::new(alloc);
     push_fault(&mut text, &said.plan)?;
     push_named(&mut text, &said.trades)?;
     push_named(&mut text, &said.cash)?;
@@ -87,14 +87,26 @@ fn fault_text(alloc: Global, said: &Said) -> Result<Vec<u8>, OutOfMemory>
     Ok(text)
 }
 
-// What is said of files one of which has a fault.
-fn faulty(alloc: Global, said: &Said) -> Result<Answer, OutOfMemory>
-    ensures { IfOk result (λ it. answer_of it ≡ answer Faulty (fault_lines (given_of said.now))) }
+// A text as it stands, or as JSON.
+fn written(alloc: Global, text: String, json: bool, faulty: bool) -> Result<Vec<u8>, OutOfMemory>
+    ensures { IfOk result (λ bytes. bytes.items ≡ check_as json faulty (string_bytes text)) }
 {
-    let text = fault_text(alloc, said)?;
+    if json {
+        return write_check_json(alloc, &text, faulty);
+    }
+    Ok(text.into_bytes())
+}
+
+// What is said of files one of which has a fault.
+fn faulty(alloc: Global, said: &Said, json: bool) -> Result<Answer, OutOfMemory>
+    ensures { IfOk result (λ it. answer_of it ≡ faulty_answer json (given_of said.now)) }
+{
+    let lines = fault_text(alloc, said)?;
+    let text = written(alloc, lines, json, true)?;
     Ok(Answer {
         text,
         ending: Ending::Faulty,
+        saved: None,
     })
 }
 
@@ -121,33 +133,35 @@ fn ending_after(count: u64) -> Ending
 }
 
 // What is said of a plan, where no file has a fault.
-fn sound(alloc: Global, plan: &Plan, said: &Said) -> Result<Answer, OutOfMemory>
-    ensures { IfOk result (λ it. answer_of it ≡ sound_answer plan.now (accepted (named_of said.now.trades)) (accepted (named_of said.now.script))) }
+fn sound(alloc: Global, plan: &Plan, said: &Said, json: bool) -> Result<Answer, OutOfMemory>
+    ensures { IfOk result (λ it. answer_of it ≡ sound_answer json plan.now (accepted (named_of said.now.trades)) (accepted (named_of said.now.script))) }
 {
     let checked = write_check(alloc, plan, accepted(&said.trades), accepted(&said.script))?;
     let ending = ending_after(checked.warnings);
+    let text = written(alloc, checked.text, json, false)?;
     Ok(Answer {
-        text: checked.text,
+        text,
         ending,
+        saved: None,
     })
 }
 
 // What is said of files whose plan has no fault.
-fn planned(alloc: Global, plan: &Plan, said: &Said) -> Result<Answer, OutOfMemory>
-    ensures { IfOk result (λ it. answer_of it ≡ judged (Ok plan.now) (given_of said.now)) }
+fn planned(alloc: Global, plan: &Plan, said: &Said, json: bool) -> Result<Answer, OutOfMemory>
+    ensures { IfOk result (λ it. answer_of it ≡ judged json (Ok plan.now) (given_of said.now)) }
 {
     if has_fault(said) {
-        return faulty(alloc, said);
+        return faulty(alloc, said, json);
     }
-    sound(alloc, plan, said)
+    sound(alloc, plan, said, json)
 }
 
-/// What is said of files: the faults, where one of them has any.
-pub(crate) fn judged(alloc: Global, said: &Said) -> Result<Answer, OutOfMemory>
-    ensures { IfOk result (λ it. answer_of it ≡ judgement (given_of said.now)) }
+/// What is said of files, as text or as JSON: the faults, where one of them has any.
+pub(crate) fn judged(alloc: Global, said: &Said, json: bool) -> Result<Answer, OutOfMemory>
+    ensures { IfOk result (λ it. answer_of it ≡ judgement json (given_of said.now)) }
 {
     match &said.plan {
-        Ok(plan) => planned(alloc, plan, said),
-        Err(_) => faulty(alloc, said),
+        Ok(plan) => planned(alloc, plan, said, json),
+        Err(_) => faulty(alloc, said, json),
     }
 }

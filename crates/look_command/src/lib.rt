@@ -6,6 +6,7 @@
 //! run_story, run_timeline and lane_chart for what is told of a run.
 #![tactic(auto)]
 
+mod all;
 mod check;
 mod ended;
 mod faults;
@@ -15,4 +16,4 @@ mod timeline;
 
 pub use check::check_report;
 pub use story::story_text;
-pub use timeline::timeline_text;
+pub use timeline::{Drawing, timeline_text};

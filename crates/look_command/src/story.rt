@@ -1,27 +1,31 @@
 // The command `story`.
-ghost use Rattle.command_course.specs.Feeds.{feed_of};
+ghost use Rattle.command_course.specs.Feeds.{IsFed, feed_of};
 ghost use Rattle.command_course.specs.Steps.{GivesBy, OnlyReads, StopsBy};
 ghost use Rattle.flux_core.specs.CoreView.{flow_in, inputs_of};
 ghost use Rattle.flux_core.specs.Stands.{StandsFor};
-ghost use Rattle.look_command.specs.Courses.{story_telling, story_way, tells_story};
+ghost use Rattle.look_command.specs.Courses.{rows_in_all, story_as, story_telling, story_way, tells_story};
 ghost use Rattle.look_course.specs.Answers.{answer_of};
+ghost use Rattle.look_course.specs.Reports.{reports};
 ghost use Rattle.look_course.specs.declared.report.ReportError.TheVariants as report_error;
 ghost use Rattle.pair_machine.specs.Machine.{State};
-ghost use Rattle.run_story.specs.StoryText.{is_done, story_text};
+ghost use Rattle.run_end.specs.Ends.{end_in};
 ghost use Rattle.run_watch.specs.Watching.{emitted_in};
 ghost use Rattle.std.specs.Prelude.{◌≡◌, IfErr, IfOk, option_map};
 
+use crate::all::rows_in_all;
 use crate::ended::ended;
 use command_course::{Feed, Stop, feed_at};
 use failure_script::Script;
 use flux_core::Core;
 use flux_outside::Files;
 use look_course::{Answer, Report, ReportError, reported_at};
+use look_json::write_story_json;
 use run_command::script_at;
 use run_journal::Lined;
 use run_story::write_story;
 use run_watch::{Watched, watch};
 use std::alloc::Global;
+use tuple_edge::OutOfMemory;
 
 // A story is told event by event: it wants no columns.
 const COLUMNS: u32 = 1;
@@ -36,13 +40,14 @@ pub fn story_text<F: Files>(
     events: &str,
     cash: Option<&str>,
     script: Option<&str>,
+    json: bool,
 ) -> Result<Answer, Stop>
-    ensures gives { IfOk result (λ answer. GivesBy (F.told files.old) (F.told files.new) (story_way plan.now trades.now events.now (option_map (λ n. n.now) cash.entry) (option_map (λ n. n.now) script.entry)) (answer_of answer)) }
-    ensures stops { IfErr result (λ stop. StopsBy (F.told files.old) (F.told files.new) (story_way plan.now trades.now events.now (option_map (λ n. n.now) cash.entry) (option_map (λ n. n.now) script.entry)) stop) }
+    ensures gives { IfOk result (λ answer. GivesBy (F.told files.old) (F.told files.new) (story_way plan.now trades.now events.now (option_map (λ n. n.now) cash.entry) (option_map (λ n. n.now) script.entry) json) (answer_of answer)) }
+    ensures stops { IfErr result (λ stop. StopsBy (F.told files.old) (F.told files.new) (story_way plan.now trades.now events.now (option_map (λ n. n.now) cash.entry) (option_map (λ n. n.now) script.entry) json) stop) }
     ensures reads { OnlyReads (F.told files.old) (F.told files.new) result }
 {
     match feed_at(alloc, files, plan, trades, cash) {
-        Ok(feed) => fed_story(alloc, files, &feed, events, script),
+        Ok(feed) => fed_story(alloc, files, &feed, events, script, json),
         Err(stop) => Err(stop),
     }
 }
@@ -55,13 +60,36 @@ fn fed_story<F: Files>(
     feed: &Feed,
     events: &str,
     script: Option<&str>,
+    json: bool,
 ) -> Result<Answer, Stop>
-    ensures gives { IfOk result (λ answer. GivesBy (F.told files.old) (F.told files.new) (tells_story events.now (option_map (λ n. n.now) script.entry) (feed_of feed.now)) (answer_of answer)) }
-    ensures stops { IfErr result (λ stop. StopsBy (F.told files.old) (F.told files.new) (tells_story events.now (option_map (λ n. n.now) script.entry) (feed_of feed.now)) stop) }
+    requires { IsFed feed.now }
+    ensures gives { IfOk result (λ answer. GivesBy (F.told files.old) (F.told files.new) (tells_story events.now (option_map (λ n. n.now) script.entry) json (feed_of feed.now)) (answer_of answer)) }
+    ensures stops { IfErr result (λ stop. StopsBy (F.told files.old) (F.told files.new) (tells_story events.now (option_map (λ n. n.now) script.entry) json (feed_of feed.now)) stop) }
     ensures reads { OnlyReads (F.told files.old) (F.told files.new) result }
 {
     match script_at(alloc, files, &feed.plan, script) {
-        Ok(script) => reported_at(alloc, files, feed, events, &Story { script: &script }),
+        Ok(script) => scripted_story(alloc, files, feed, events, &script, json),
+        Err(stop) => Err(stop),
+    }
+}
+
+// The same, once the script was read.
+#[tactic(auto, using(crate::proofs::Ways::reads_none))]
+fn scripted_story<F: Files>(
+    alloc: Global,
+    files: &mut F,
+    feed: &Feed,
+    events: &str,
+    script: &Script,
+    json: bool,
+) -> Result<Answer, Stop>
+    requires { IsFed feed.now }
+    ensures gives { IfOk result (λ answer. GivesBy (F.told files.old) (F.told files.new) (reports (story_telling json script.now (rows_in_all (feed_of feed.now))) events.now (feed_of feed.now)) (answer_of answer)) }
+    ensures stops { IfErr result (λ stop. StopsBy (F.told files.old) (F.told files.new) (reports (story_telling json script.now (rows_in_all (feed_of feed.now))) events.now (feed_of feed.now)) stop) }
+    ensures reads { OnlyReads (F.told files.old) (F.told files.new) result }
+{
+    match rows_in_all(alloc, feed) {
+        Ok(all) => reported_at(alloc, files, feed, events, &Story { json, script, all }),
         Err(stop) => Err(stop),
     }
 }
@@ -69,11 +97,13 @@ fn fed_story<F: Files>(
 // The story of a run, which may be one under a script.
 #[derive(Drop)]
 struct Story<'a> {
+    json: bool,
     script: &'a Script,
+    all: u64,
 }
 
 impl<'a> Report for Story<'a> {
-    ghost tells = { λ story. story_telling story.script.now };
+    ghost tells = { λ story. story_telling story.json story.script.now story.all };
 
     fn report(
         &self,
@@ -83,24 +113,40 @@ impl<'a> Report for Story<'a> {
         events: &[Lined],
     ) -> Result<Vec<u8>, ReportError> {
         match watch(alloc, core, events, COLUMNS) {
-            Ok(watched) => told(alloc, self.script, &watched, core),
+            Ok(watched) => told(alloc, self, &watched, core),
             Err(error) => Err(ended(error)),
         }
     }
 }
 
-// The text of a run that was watched.
+// The text of a run that was watched, or its JSON.
+fn written(
+    alloc: Global,
+    story: &Story,
+    watched: &Watched,
+    core: &Core,
+) -> Result<Vec<u8>, OutOfMemory>
+    ensures { IfOk result (λ text. (s : State) → StandsFor core.now s → text.items
+        ≡ story_as story.now.json watched.now.told.items story.now.script.now (emitted_in core.now.plan (inputs_of core.now) s) (end_in (flow_in core.now) s) story.now.all) }
+{
+    if story.json {
+        return write_story_json(alloc, story.script.orders(), watched, core, story.all);
+    }
+    write_story(alloc, Some(story.script), watched, core, story.all)
+}
+
+// The same, where want of memory is why the report ends.
 fn told(
     alloc: Global,
-    script: &Script,
+    story: &Story,
     watched: &Watched,
     core: &Core,
 ) -> Result<Vec<u8>, ReportError>
     ensures text { IfOk result (λ text. (s : State) → StandsFor core.now s → text.items
-        ≡ story_text watched.now.told.items script.now (emitted_in core.now.plan (inputs_of core.now) s) (is_done (flow_in core.now) s)) }
+        ≡ story_as story.now.json watched.now.told.items story.now.script.now (emitted_in core.now.plan (inputs_of core.now) s) (end_in (flow_in core.now) s) story.now.all) }
     ensures want { IfErr result (λ error. error ≡ report_error.OutOfMemory) }
 {
-    match write_story(alloc, Some(script), watched, core) {
+    match written(alloc, story, watched, core) {
         Ok(text) => Ok(text),
         Err(_) => Err(ReportError::OutOfMemory),
     }

@@ -1,4 +1,5 @@
-//! The courses of `flux_look`: what its commands come to, a text and a status, and how a run's events are reported.
+//! The courses of `flux_look`: what its commands come to (a text, a status, and maybe a file
+//! that is saved before), and how a run's events are reported.
 //!
 //! `reported_at` reads a list of events, applies them to a plan as it opens, and gives the text that a `Report` makes of
 //! them; its clauses say, as those of `replay` do, how far the course came, and which event is refused. `tried_at` reads
@@ -11,6 +12,6 @@ mod answer;
 mod report;
 mod trying;
 
-pub use answer::{Answer, Ending};
+pub use answer::{Answer, Ending, Saved};
 pub use report::{Report, ReportError, reported_at};
 pub use trying::{tried, tried_at, tried_if_named};

@@ -115,6 +115,7 @@ fn applied<R: Report>(
         Ok(text) => Ok(Answer {
             text,
             ending: Ending::Done,
+            saved: None,
         }),
         Err(ReportError::Stopped(stopped)) => Err(refused_event(alloc, name, stopped)),
         Err(ReportError::OutOfMemory) => Err(Stop::OutOfMemory),

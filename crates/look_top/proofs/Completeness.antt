@@ -3,10 +3,12 @@ use Rattle.std.proofs.Common.{ℕ, ◌≡◌, List, [], ◌∷◌, refl, sym, �
 use Rattle.command_course.specs.Course.{Course, Leads, Reads, Refuses, Runs, Way, Writes}
 use Rattle.flux_outside.specs.Outside.{Call, Names}
 use Rattle.flux_outside.specs.Told.{FilesTold, SinkTold}
-use Rattle.look_course.specs.Answers.{AnswerView, answer, status_of}
+use Rattle.flux_top.specs.Ends.{saves_of}
+use Rattle.look_course.specs.Answers.{AnswerView, status_of}
 use Rattle.look_course.specs.declared.answer.Ending.{Ending}
 use Rattle.look_top.specs.Asked.{AsksFor, asked}
-use Rattle.look_top.specs.Clauses.{ComesTo, ComesToRefusal, Rejects, RejectsBy, Settles, WritesWhole}
+use Rattle.look_top.specs.Clauses.{ComesTo, ComesToRefusal, Rejects, RejectsBy, Settles, WritesWhole, answer_with}
+use Rattle.run_command.specs.Endings.{Ending as Written}
 
 -- a course that reads no further input
 abbrev IsOver : Course → Type 0
@@ -32,16 +34,16 @@ one_end named (Runs run) (call ∷ xs) ys x y end_x end_y to_x to_y = absurd to_
 one_end named (Refuses line) [] (call ∷ ys) x y end_x end_y to_x to_y = absurd to_y
 one_end named (Refuses line) (call ∷ xs) ys x y end_x end_y to_x to_y = absurd to_x
 
--- a way by which it is seen how an answer ends
-shows_status : AnswerView → Course
-shows_status a = Writes (status_of a.ending ∷ [])
+-- a way by which it is seen what an answer is marked with
+shows : (AnswerView → ℕ) → AnswerView → Course
+shows mark a = Writes (mark a ∷ [])
 
-status_in : Course → ℕ
-status_in (Writes (b ∷ text)) = b
-status_in (Writes []) = 0
-status_in (Reads name most next) = 0
-status_in (Runs run) = 0
-status_in (Refuses line) = 0
+mark_in : Course → ℕ
+mark_in (Writes (b ∷ text)) = b
+mark_in (Writes []) = 0
+mark_in (Reads name most next) = 0
+mark_in (Runs run) = 0
+mark_in (Refuses line) = 0
 
 text_no_refusal : (text line : List ℕ) → Writes text ≡ Refuses line → ⊥
 text_no_refusal text line e = cc
@@ -71,35 +73,64 @@ rejected_of : (told : Option Names) (words : List (List ℕ)) → Rejects told w
 rejected_of None words rejects = absurd rejects
 rejected_of (Some named) words rejects = record { named = named; is = refl; by = rejects }
 
--- what files settle is how the answer ends
+-- what files settle is the answer that the words come to
+same_mark : (mark : AnswerView → ℕ) (before after : FilesTold) (words : List (List ℕ)) (ending : Ending) (written : Written) (more : List Call) (of : AnswerView) → Settles before.contents words of
+    → ComesTo before after words ending written more → mark (answer_with ending written) ≡ mark of
+unfolding shows mark_in
+same_mark mark before after words ending written more of settled comes =
+    let it = settled_of before.contents words of settled in
+    let came = comes.fact (shows mark) in
+    ap mark_in (one_end_to it.named words comes.course it.asks.course comes.is_asked it.asks.is_asked (shows mark) came.reads it.asks.fact.0
+    (shows mark (answer_with ending written)) (shows mark of) tt tt
+    (subst (λ told. Leads told (comes.course (shows mark)) came.reads (shows mark (answer_with ending written))) it.is came.leads) (it.asks.fact.1 (shows mark)))
+
+-- so it ends
 pub settled_status : (before after : FilesTold) (words : List (List ℕ)) (ending : Ending) (old new : SinkTold) (of : AnswerView) → Settles before.contents words of
     → WritesWhole before after words ending old new → status_of ending ≡ status_of of.ending
-unfolding shows_status status_in
 settled_status before after words ending old new of settled writes =
-    let it = settled_of before.contents words of settled in
-    let came = writes.comes.fact shows_status in
-    ap status_in (one_end_to it.named words writes.comes.way it.asks.way writes.comes.is_asked it.asks.is_asked shows_status came.calls it.asks.fact.0
-    (shows_status (answer ending writes.text)) (shows_status of) tt tt
-    (subst (λ told. Leads told (writes.comes.way shows_status) came.calls (shows_status (answer ending writes.text))) it.is came.leads) (it.asks.fact.1 shows_status))
+    same_mark (λ a. status_of a.ending) before after words ending writes.ending (saves_of writes.ending.saved) of settled writes.finishes.comes
+
+-- whether a file is saved
+saves_mark : Option (List ℕ × List ℕ) → ℕ
+saves_mark None = 0
+saves_mark (Some saved) = 1
+
+no_mark : (saved : Option (List ℕ × List ℕ)) → saves_mark saved ≡ 0 → saved ≡ None
+unfolding saves_mark
+no_mark None is = refl
+no_mark (Some saved) is = cc
+
+none_marked : (saved : Option (List ℕ × List ℕ)) → saved ≡ None → saves_mark saved ≡ 0
+unfolding saves_mark
+none_marked saved is = ap saves_mark is
+
+-- and so much it saves: nothing, where the answer has no file
+pub settled_saves : (before after : FilesTold) (words : List (List ℕ)) (ending : Ending) (written : Written) (more : List Call) (of : AnswerView) → Settles before.contents words of → of.saved ≡ None
+    → ComesTo before after words ending written more → written.saved ≡ None
+settled_saves before after words ending written more of settled none comes =
+    no_mark written.saved (same_mark (λ a. saves_mark a.saved) before after words ending written more of settled comes ∙ none_marked of.saved none)
 
 -- what is settled isn't refused
 pub settled_unrefused : (before after : FilesTold) (words : List (List ℕ)) (line : List ℕ) (of : AnswerView) → Settles before.contents words of
     → ComesToRefusal before after words line → ⊥
-unfolding shows_status
+unfolding shows
 settled_unrefused before after words line of settled comes =
     let it = settled_of before.contents words of settled in
-    let came = comes.fact shows_status in
-    text_no_refusal _ line (one_end_to it.named words it.asks.way comes.way it.asks.is_asked comes.is_asked shows_status it.asks.fact.0 came.calls
-    (shows_status of) (Refuses line) tt tt (it.asks.fact.1 shows_status) (subst (λ told. Leads told (comes.way shows_status) came.calls (Refuses line)) it.is came.leads))
+    let mark : AnswerView → ℕ = λ a. 0 in
+    let came = comes.fact (shows mark) in
+    text_no_refusal _ line (one_end_to it.named words it.asks.course comes.course it.asks.is_asked comes.is_asked (shows mark) it.asks.fact.0 came.calls
+    (shows mark of) (Refuses line) tt tt (it.asks.fact.1 (shows mark)) (subst (λ told. Leads told (comes.course (shows mark)) came.calls (Refuses line)) it.is came.leads))
 
 -- what is refused comes to no answer
-pub rejected_unanswered : (before after : FilesTold) (words : List (List ℕ)) (of : AnswerView) → Rejects before.contents words → ComesTo before after words of → ⊥
-unfolding shows_status
-rejected_unanswered before after words of rejects comes =
+pub rejected_unanswered : (before after : FilesTold) (words : List (List ℕ)) (ending : Ending) (written : Written) (more : List Call) → Rejects before.contents words
+    → ComesTo before after words ending written more → ⊥
+unfolding shows
+rejected_unanswered before after words ending written more rejects comes =
     let it = rejected_of before.contents words rejects in
-    let came = comes.fact shows_status in
-    text_no_refusal _ it.by.line (one_end_to it.named words comes.way it.by.leads.way comes.is_asked it.by.leads.is_asked shows_status came.calls it.by.calls
-    (shows_status of) (Refuses it.by.line) tt tt (subst (λ told. Leads told (comes.way shows_status) came.calls (shows_status of)) it.is came.leads) (it.by.leads.fact shows_status))
+    let mark : AnswerView → ℕ = λ a. 0 in
+    let came = comes.fact (shows mark) in
+    text_no_refusal _ it.by.line (one_end_to it.named words comes.course it.by.leads.course comes.is_asked it.by.leads.is_asked (shows mark) came.reads it.by.calls
+    (shows mark (answer_with ending written)) (Refuses it.by.line) tt tt (subst (λ told. Leads told (comes.course (shows mark)) came.reads (shows mark (answer_with ending written))) it.is came.leads) (it.by.leads.fact (shows mark)))
 
 none_not_some : {A : Type 0} {x : A} → None ≡ Some x → ⊥
 none_not_some e = cc

@@ -1,55 +1,81 @@
 -- How the program ends, from the answer of its words on.
-use Rattle.std.proofs.Common.{ℕ, ◌≡◌, List, refl, subst, sym, Ok, Err}
-use Rattle.std.specs.Prelude.{IfErr, IfOk, Result}
+use Rattle.std.proofs.Common.{ℕ, ◌≡◌, List, refl, subst, sym, Ok, Err, inl}
+use Rattle.std.specs.Prelude.{IfErr, IfOk, IfSome, OnOk, Result}
+use Rattle.tuple_edge.specs.declared.event.Drained.TheVariants as drained
+use Rattle.command_course.specs.Course.{Course, StoppedShort}
 use Rattle.command_course.specs.declared.stop.Stop.{Stop}
 use Rattle.command_course.specs.declared.stop.Stop.TheVariants as stop
+use Rattle.flux_outside.specs.Outside.{Adds, Call}
 use Rattle.flux_outside.specs.Told.{FilesTold, SinkTold}
-use Rattle.flux_top.specs.Clauses.{HasCause, IsQuiet}
-use Rattle.look_course.specs.Answers.{AnswerView, answer}
+use Rattle.flux_top.specs.Finish.{IsFinished, StopsFinish}
+use Rattle.flux_top.proofs.LastSteps.{came_then, kept_of, short_then, unwritten_of, whole_of}
+use Rattle.look_course.specs.Answers.{AnswerView}
 use Rattle.look_course.specs.declared.answer.Ending.{Ending}
-use Rattle.look_top.specs.Clauses.{ComesTo, IsPut, StopsBefore, StopsPut, StopsTo, WritesWhole}
+use Rattle.look_course.specs.declared.answer.Ending.TheVariants.{Done, Faulty, Lost, Warned}
+use Rattle.look_top.specs.Clauses.{ComesTo, ComesToAny, WritesWhole}
+use Rattle.look_top.specs.Lines.{name}
+use Rattle.look_top.specs.Stops.{Answers, KeepsTo, StopsBefore, StopsTo, drained_of, written_of}
 
-module _ (before after : FilesTold) (words : List (List ℕ)) (of : AnswerView) (comes : ComesTo before after words of) (old new : SinkTold) where
-  pub put_whole : (result : Result Ending Stop) → IfOk result (λ ending. IsPut old new ending of) → IfOk result (λ ending. WritesWhole before after words ending old new)
-  put_whole (Ok ending) put = record {
-    text = of.text;
-    comes = subst (λ e. ComesTo before after words (answer e of.text)) (sym put.ends) comes;
-    takes = put.takes;
-    offers = put.offers;
+-- only the answer of a run that lost a pair is drained so
+lost_ending : (ending : Ending) (stage part : ℕ) → drained_of ending ≡ drained.Lost stage part → ending ≡ Lost stage part
+lost_ending Done stage part is = cc
+lost_ending Warned stage part is = cc
+lost_ending Faulty stage part is = cc
+lost_ending (Lost s p) stage part is = cc
+
+module _ (before between after : FilesTold) (words : List (List ℕ)) (of : AnswerView) (answers : Answers before between words of) (same : between.contents ≡ before.contents) where
+  -- the calls that read, and these after them
+  comes_of : (ending : Ending) → of.ending ≡ ending → (more : List Call) → Adds between.calls after.calls more → ComesTo before after words ending (written_of of) more
+  comes_of ending is more added = subst (λ e. ComesTo before after words e (written_of of) more) is (record {
+    course = answers.course;
+    is_asked = answers.is_asked;
+    fact = λ next. came_then before between after (answers.course next) (next of) (answers.fact next) more added;
+  })
+
+  comes_so : (more : List Call) → Adds between.calls after.calls more → ComesToAny before after words (written_of of) more
+  comes_so more added = (of.ending, comes_of of.ending refl more added)
+
+  stops_to : between.save_faults ≡ before.save_faults → (old new : SinkTold) (why : Stop) → StopsFinish name between after old new (drained_of of.ending) (written_of of) why
+      → StopsTo before after words old new why
+  stops_to calm old new stop.Usage stops = absurd stops
+  stops_to calm old new (stop.Refused line) stops = absurd stops
+  stops_to calm old new (stop.CannotRead line) stops = absurd stops
+  stops_to calm old new stop.CannotWrite stops = unwritten_of before between after (ComesToAny before after words) (written_of of) same comes_so old new calm stops
+  stops_to calm old new (stop.PairLost stage part line) stops = record {
+    writes = whole_of before between after (ComesTo before after words (Lost stage part)) (written_of of) same (comes_of (Lost stage part) (lost_ending of.ending stage part stops.0)) old new stops.2;
+    line_is = stops.1;
   }
-  put_whole (Err why) put = tt
+  stops_to calm old new stop.OutOfMemory stops = subst (λ w. IfSome w (λ way. (next : AnswerView → Course) → StoppedShort before after (way next))) (sym answers.is_asked)
+      (λ next. short_then before between after (answers.course next) (next of) (answers.fact next) stops.added)
 
-  put_stops : (why : Stop) → StopsPut old new of.text why → StopsTo before after words old new why
-  put_stops stop.Usage stops = absurd stops
-  put_stops (stop.Refused line) stops = absurd stops
-  put_stops (stop.CannotRead line) stops = absurd stops
-  put_stops stop.CannotWrite stops = record { whole = of; comes = comes; takes = stops.takes; offers = stops.offers; rose = stops.rose }
-  put_stops (stop.PairLost stage part line) stops = stops
-  put_stops stop.OutOfMemory stops = absurd stops
+  keeps_to : (old new : SinkTold) (why : Stop) → StopsFinish name between after old new (drained_of of.ending) (written_of of) why → KeepsTo before after words why
+  keeps_to old new stop.Usage stops = absurd stops
+  keeps_to old new (stop.Refused line) stops = absurd stops
+  keeps_to old new (stop.CannotRead line) stops = absurd stops
+  keeps_to old new stop.CannotWrite stops = tt
+  keeps_to old new (stop.PairLost stage part line) stops = tt
+  keeps_to old new stop.OutOfMemory stops = kept_of before between after (ComesToAny before after words) (written_of of) same comes_so stops
 
-  pub put_part : (result : Result Ending Stop) → IfErr result (λ why. StopsPut old new of.text why) → IfErr result (λ why. StopsTo before after words old new why)
-  put_part (Ok ending) stops = tt
-  put_part (Err why) stops = put_stops why stops
+  -- ---- what the last steps answered
 
-pub put_cause : (before now : ℕ) (same : now ≡ before) (old new : SinkTold) (text : List ℕ) (result : Result Ending Stop) → IfErr result (λ why. StopsPut old new text why)
-    → IfErr result (λ why. HasCause before now why)
-put_cause before now same old new text (Ok ending) stops = tt
-put_cause before now same old new text (Err stop.Usage) stops = absurd stops
-put_cause before now same old new text (Err (stop.Refused line)) stops = absurd stops
-put_cause before now same old new text (Err (stop.CannotRead line)) stops = absurd stops
-put_cause before now same old new text (Err stop.CannotWrite) stops = same
-put_cause before now same old new text (Err (stop.PairLost stage part line)) stops = absurd stops
-put_cause before now same old new text (Err stop.OutOfMemory) stops = absurd stops
+  pub finished_whole : (old new : SinkTold) (result : Result Ending Stop) → IfOk result (λ how. (how ≡ of.ending) × (drained_of how ≡ drained.Whole))
+      → OnOk result (IsFinished between after old new (written_of of)) → IfOk result (λ how. WritesWhole before after words how old new)
+  finished_whole old new (Ok how) whole finished = whole_of before between after (ComesTo before after words how) (written_of of) same (comes_of how (sym whole.0)) old new finished
+  finished_whole old new (Err why) whole finished = tt
 
-pub put_quiet : {A : Type 0} (out put : A) (old new : SinkTold) (text : List ℕ) (result : Result Ending Stop) → IfErr result (λ why. StopsPut old new text why)
-    → IfErr result (λ why. IsQuiet out put why)
-put_quiet out put old new text (Ok ending) stops = tt
-put_quiet out put old new text (Err stop.Usage) stops = absurd stops
-put_quiet out put old new text (Err (stop.Refused line)) stops = absurd stops
-put_quiet out put old new text (Err (stop.CannotRead line)) stops = absurd stops
-put_quiet out put old new text (Err stop.CannotWrite) stops = tt
-put_quiet out put old new text (Err (stop.PairLost stage part line)) stops = tt
-put_quiet out put old new text (Err stop.OutOfMemory) stops = absurd stops
+  pub finished_stops : (old new : SinkTold) (result : Result Ending Stop) → between.save_faults ≡ before.save_faults
+      → IfErr result (λ why. StopsFinish name between after old new (drained_of of.ending) (written_of of) why) → IfErr result (λ why. StopsTo before after words old new why)
+  finished_stops old new (Ok how) calm stops = tt
+  finished_stops old new (Err why) calm stops = stops_to calm old new why stops
+
+  pub finished_keeps : (old new : SinkTold) (result : Result Ending Stop)
+      → IfErr result (λ why. StopsFinish name between after old new (drained_of of.ending) (written_of of) why) → IfErr result (λ why. KeepsTo before after words why)
+  finished_keeps old new (Ok how) stops = tt
+  finished_keeps old new (Err why) stops = keeps_to old new why stops
+
+pub finished_ends : (ending : Ending) (result : Result Ending Stop) → IfOk result (λ how. (how ≡ ending) × (drained_of how ≡ drained.Whole)) → IfOk result (λ how. drained_of how ≡ drained.Whole)
+finished_ends ending (Ok how) whole = whole.1
+finished_ends ending (Err why) whole = tt
 
 -- ---- words that came to no answer
 
@@ -59,13 +85,13 @@ stopped_before before after words out stop.Usage stops = stops
 stopped_before before after words out (stop.Refused line) stops = stops
 stopped_before before after words out (stop.CannotRead line) stops = stops
 stopped_before before after words out stop.CannotWrite stops = absurd stops
-stopped_before before after words out (stop.PairLost stage part line) stops = stops
+stopped_before before after words out (stop.PairLost stage part line) stops = absurd stops
 stopped_before before after words out stop.OutOfMemory stops = stops
 
-pub quiet_before : {A : Type 0} (out : A) (why : Stop) → IsQuiet out out why
-quiet_before out stop.Usage = refl
-quiet_before out (stop.Refused line) = refl
-quiet_before out (stop.CannotRead line) = refl
-quiet_before out stop.CannotWrite = tt
-quiet_before out (stop.PairLost stage part line) = tt
-quiet_before out stop.OutOfMemory = refl
+pub stopped_keeps : (before after : FilesTold) (words : List (List ℕ)) (why : Stop) → after.contents ≡ before.contents → KeepsTo before after words why
+stopped_keeps before after words stop.Usage kept = kept
+stopped_keeps before after words (stop.Refused line) kept = kept
+stopped_keeps before after words (stop.CannotRead line) kept = kept
+stopped_keeps before after words stop.CannotWrite kept = tt
+stopped_keeps before after words (stop.PairLost stage part line) kept = tt
+stopped_keeps before after words stop.OutOfMemory kept = inl kept

@@ -1,73 +1,91 @@
--- What the clauses of `flux_look` and of its steps say.
+-- What the clauses of `flux_look` say, as those of `flux` do, of its own lines, words and answers.
 use Rattle.std.specs.Prelude.{ℕ, ◌≡◌, ◌⊎◌, List, Option, None, Some, IfSome}
-use Rattle.std.specs.String.{string_bytes}
 use Rattle.command_course.specs.Course.{Came, Course, Leads, Refuses, StoppedShort}
-use Rattle.command_course.specs.Steps.{GivesBy, IsUnread}
-use Rattle.command_course.specs.declared.stop.Stop.{Stop}
-use Rattle.command_course.specs.declared.stop.Stop.TheVariants as stop
-use Rattle.flux_outside.specs.Outside.{Call, Names, OffersRests, Rose, Takes, TakesPart}
+use Rattle.command_course.specs.Lines.{cannot_read_line}
+use Rattle.command_course.specs.Steps.{IsUnread}
+use Rattle.flux_outside.specs.Outside.{Call, Names, Rose}
 use Rattle.flux_outside.specs.Told.{FilesTold, SinkTold}
-use Rattle.flux_top.specs.Clauses.{Tells}
-use Rattle.look_course.specs.Answers.{AnswerView, answer}
+use Rattle.flux_top.specs.Programs as program
+use Rattle.look_course.specs.Answers.{AnswerView, status_of}
 use Rattle.look_course.specs.declared.answer.Ending.{Ending}
+use Rattle.look_course.specs.declared.answer.Ending.TheVariants.{Lost}
 use Rattle.look_top.specs.Asked.{AsksFor, asked}
-use Rattle.look_top.specs.Lines.{cannot_write_line, memory_line, own_line, usage_line}
+use Rattle.look_top.specs.Lines.{lines, lost_line, own_line}
+use Rattle.run_command.specs.Endings.{Ending as Written}
 
--- ---- of `flux_look`
+-- ---- its statuses
 
 -- the statuses that there are
 abbrev pub IsStatus : ℕ → Type 0
-IsStatus status = (status ≡ 0) ⊎ (status ≡ 1) ⊎ (status ≡ 2) ⊎ (status ≡ 3) ⊎ (status ≡ 4) ⊎ (status ≡ 5) ⊎ (status ≡ 8)
+IsStatus status = (status ≡ 0) ⊎ (status ≡ 1) ⊎ (status ≡ 2) ⊎ (status ≡ 3) ⊎ (status ≡ 4) ⊎ (status ≡ 5) ⊎ (status ≡ 6) ⊎ (status ≡ 8)
 
--- the words' inputs were read by just the calls that were added, and what they say comes to this answer
-abbrev pub ComesTo : FilesTold → FilesTold → List (List ℕ) → AnswerView → Type 0
-ComesTo before after words answer = AsksFor words (λ way. GivesBy before after way answer)
+-- those at which a file may have been saved
+abbrev pub MaySave : ℕ → Type 0
+MaySave status = (status ≡ 0) ⊎ (status ≡ 1) ⊎ (status ≡ 3) ⊎ (status ≡ 5) ⊎ (status ≡ 6) ⊎ (status ≡ 8)
 
--- a text was put whole, each put being given all that was left of it; it is that of an answer which ends so
-pub record IsPut (old new : SinkTold) (ending : Ending) (of : AnswerView) : Type 0 where
-  pub ends : ending ≡ of.ending
-  pub takes : Takes old.taken new.taken of.text
-  pub offers : OffersRests old.offered new.offered of.text
+-- It is one of the statuses that there are, and at those that have a line of their own that line is said.
+abbrev pub SaysAt : ℕ → SinkTold → SinkTold → Type 0
+SaysAt = program.SaysAt lines IsStatus
 
--- the words came to an answer that ends so, and its text was written whole
-pub record WritesWhole (before after : FilesTold) (words : List (List ℕ)) (ending : Ending) (old new : SinkTold) : Type 0 where
-  pub text : List ℕ
-  pub comes : ComesTo before after words (answer ending text)
-  pub takes : Takes old.taken new.taken text
-  pub offers : OffersRests old.offered new.offered text
+-- What stays of the files at a status: all, but that a file may be saved where an answer is.
+abbrev pub StaysAt : ℕ → FilesTold → FilesTold → Type 0
+StaysAt = program.StaysAt MaySave
 
--- or a proper front of it, in the same way, as the count of the sink's faults rose
-pub record WritesPart (before after : FilesTold) (words : List (List ℕ)) (old new : SinkTold) : Type 0 where
-  pub whole : AnswerView
-  pub comes : ComesTo before after words whole
-  pub takes : TakesPart old.taken new.taken whole.text
-  pub offers : OffersRests old.offered new.offered whole.text
-  pub rose : Rose old.faults new.faults
+-- ---- what its words come to
+
+-- the answer with what was written, and saved before, after which a command ends so
+abbrev pub answer_with : Ending → Written → AnswerView
+answer_with ending written = record { text = written.text; ending = ending; saved = written.saved }
+
+-- Whatever comes behind the words' answer, they came to it, by calls that read; these more calls were added after them. It is the answer that ends so.
+abbrev pub ComesTo : FilesTold → FilesTold → List (List ℕ) → Ending → Written → List Call → Type 0
+ComesTo before after words ending written more = AsksFor words (λ way. (next : AnswerView → Course) → program.CameThen before after more (way next) (next (answer_with ending written)))
+
+-- they came to an answer, however it ends
+abbrev pub ComesToAny : FilesTold → FilesTold → List (List ℕ) → Written → List Call → Type 0
+ComesToAny before after words written more = (ending : Ending) × ComesTo before after words ending written more
+
+-- The words came to an answer that ends so. Where it has a file, the last call saved it, and then its text was written whole.
+abbrev pub WritesWhole : FilesTold → FilesTold → List (List ℕ) → Ending → SinkTold → SinkTold → Type 0
+WritesWhole before after words ending = program.WritesWhole (ComesTo before after words ending) before after
+
+-- a proper front of it was written, as the count of the sink's faults rose; or its file was not saved, as the count of faults of saves rose, and nothing was written
+abbrev pub WritesNot : FilesTold → FilesTold → List (List ℕ) → SinkTold → SinkTold → Type 0
+WritesNot before after words = program.WritesNot (ComesToAny before after words) before after
+
+-- the files hold what they held, but for one for whose save no memory was to be had
+abbrev pub KeepsFiles : FilesTold → FilesTold → List (List ℕ) → Type 0
+KeepsFiles before after words = program.KeepsFiles (ComesToAny before after words) before after
 
 -- whatever comes behind the words' answer, they came to a refusal by the calls that were added
 abbrev pub ComesToRefusal : FilesTold → FilesTold → List (List ℕ) → List ℕ → Type 0
 ComesToRefusal before after words line = AsksFor words (λ way. (next : AnswerView → Course) → Came before after (way next) (Refuses line))
 
--- whatever comes behind the words' answer, they came to the reading of a file, and this line says that it can't be read
+-- whatever comes behind the words' answer, they came to the reading of this file, which was tried last
 abbrev pub ComesToRead : FilesTold → FilesTold → List (List ℕ) → List ℕ → Type 0
-ComesToRead before after words line = AsksFor words (λ way. (next : AnswerView → Course) → IsUnread before after (way next) line)
+ComesToRead before after words file = AsksFor words (λ way. (next : AnswerView → Course) → IsUnread before after (way next) (cannot_read_line file))
 
 -- the words' command stopped on its way, if they ask for one
 abbrev pub StopsShort : FilesTold → FilesTold → List (List ℕ) → Type 0
 StopsShort before after words = IfSome (asked words) (λ way. (next : AnswerView → Course) → StoppedShort before after (way next))
 
+-- the same, and what names hold then
+abbrev pub FallsShort : FilesTold → FilesTold → List (List ℕ) → Type 0
+FallsShort before after words = program.FallsShort (StopsShort before after words) (ComesToAny before after words) before after
+
 -- an input or an event was refused, and the line of `flux` was said of it, under the own name
-pub record SaysRefusal (before after : FilesTold) (words : List (List ℕ)) (old new : SinkTold) : Type 0 where
-  pub line : List ℕ
-  pub comes : ComesToRefusal before after words line
-  pub tells : Tells old new (own_line line)
+abbrev pub SaysRefusal : FilesTold → FilesTold → List (List ℕ) → SinkTold → SinkTold → Type 0
+SaysRefusal before after words = program.SaysRefusal (ComesToRefusal before after words) own_line
 
 -- the file that was to be read last could not be read, as the count of faults of reads rose, and its name was said
-pub record SaysUnread (before after : FilesTold) (words : List (List ℕ)) (old new : SinkTold) : Type 0 where
-  pub line : List ℕ
-  pub comes : ComesToRead before after words line
-  pub tells : Tells old new (own_line line)
-  pub rose : Rose before.read_faults after.read_faults
+abbrev pub SaysUnread : FilesTold → FilesTold → List (List ℕ) → SinkTold → SinkTold → Type 0
+SaysUnread before after words = program.SaysUnread (ComesToRead before after words) own_line before after
+
+-- a pair was lost in the run that the words ask for, what is told of that was written whole, and the pair's name said
+abbrev pub SaysLost : FilesTold → FilesTold → List (List ℕ) → SinkTold → SinkTold → SinkTold → SinkTold → Type 0
+SaysLost before after words = program.SaysLost (λ pair. ComesTo before after words (Lost pair.stage pair.part)) lost_line before after
+
+-- ---- over files that tell what they hold
 
 -- the files tell what they hold, and of that the words come to this answer
 abbrev pub Settles : Option Names → List (List ℕ) → AnswerView → Type 0
@@ -85,85 +103,9 @@ abbrev pub Rejects : Option Names → List (List ℕ) → Type 0
 Rejects None words = ⊥
 Rejects (Some named) words = RejectsBy named words
 
--- ---- of its steps
-
--- the same stop with the own name in its line, or want of memory for that
-abbrev pub IsOwn : Stop → Stop → Type 0
-IsOwn stop.Usage own = own ≡ stop.Usage
-IsOwn (stop.Refused line) own = (own ≡ stop.OutOfMemory) ⊎ ((said : _) × (own ≡ stop.Refused said) × (string_bytes said ≡ own_line (string_bytes line)))
-IsOwn (stop.CannotRead line) own = (own ≡ stop.OutOfMemory) ⊎ ((said : _) × (own ≡ stop.CannotRead said) × (string_bytes said ≡ own_line (string_bytes line)))
-IsOwn stop.CannotWrite own = own ≡ stop.CannotWrite
-IsOwn (stop.PairLost stage part line) own = own ≡ stop.PairLost stage part line
-IsOwn stop.OutOfMemory own = own ≡ stop.OutOfMemory
-
--- a line is said of a refused input
-pub record RefusesBy (before after : FilesTold) (words : List (List ℕ)) (said : List ℕ) : Type 0 where
-  pub line : List ℕ
-  pub comes : ComesToRefusal before after words line
-  pub said_is : said ≡ own_line line
-
--- a line is said of a file that can't be read
-pub record UnreadBy (before after : FilesTold) (words : List (List ℕ)) (said : List ℕ) : Type 0 where
-  pub line : List ℕ
-  pub comes : ComesToRead before after words line
-  pub said_is : said ≡ own_line line
-
--- why the words came to no answer
-abbrev pub StopsBefore : FilesTold → FilesTold → List (List ℕ) → Stop → Type 0
-StopsBefore before after words stop.Usage = asked words ≡ None
-StopsBefore before after words (stop.Refused line) = RefusesBy before after words (string_bytes line)
-StopsBefore before after words (stop.CannotRead line) = UnreadBy before after words (string_bytes line)
-StopsBefore before after words stop.CannotWrite = ⊥
-StopsBefore before after words (stop.PairLost stage part line) = ⊥
-StopsBefore before after words stop.OutOfMemory = StopsShort before after words
-
--- a text was put in part, and the count of faults rose
-pub record IsPutPart (old new : SinkTold) (text : List ℕ) : Type 0 where
-  pub takes : TakesPart old.taken new.taken text
-  pub offers : OffersRests old.offered new.offered text
-  pub rose : Rose old.faults new.faults
-
--- why a text was not put whole: only because it could not be written
-abbrev pub StopsPut : SinkTold → SinkTold → List ℕ → Stop → Type 0
-StopsPut old new text stop.Usage = ⊥
-StopsPut old new text (stop.Refused line) = ⊥
-StopsPut old new text (stop.CannotRead line) = ⊥
-StopsPut old new text stop.CannotWrite = IsPutPart old new text
-StopsPut old new text (stop.PairLost stage part line) = ⊥
-StopsPut old new text stop.OutOfMemory = ⊥
-
--- why the words came to no answer, or to one that was not written whole
-abbrev pub StopsTo : FilesTold → FilesTold → List (List ℕ) → SinkTold → SinkTold → Stop → Type 0
-StopsTo before after words old new stop.Usage = asked words ≡ None
-StopsTo before after words old new (stop.Refused line) = RefusesBy before after words (string_bytes line)
-StopsTo before after words old new (stop.CannotRead line) = UnreadBy before after words (string_bytes line)
-StopsTo before after words old new stop.CannotWrite = WritesPart before after words old new
-StopsTo before after words old new (stop.PairLost stage part line) = ⊥
-StopsTo before after words old new stop.OutOfMemory = StopsShort before after words
-
--- the program runs nothing, so no pair is lost
-abbrev pub LosesNoPair : Stop → Type 0
-LosesNoPair stop.Usage = Unit {0}
-LosesNoPair (stop.Refused line) = Unit {0}
-LosesNoPair (stop.CannotRead line) = Unit {0}
-LosesNoPair stop.CannotWrite = Unit {0}
-LosesNoPair (stop.PairLost stage part line) = ⊥
-LosesNoPair stop.OutOfMemory = Unit {0}
-
--- the status of the program that stops so, where a lost pair has that of `flux`
-abbrev pub status_at : Stop → ℕ
-status_at stop.Usage = 2
-status_at (stop.Refused line) = 3
-status_at (stop.CannotRead line) = 4
-status_at stop.CannotWrite = 5
-status_at (stop.PairLost stage part line) = 6
-status_at stop.OutOfMemory = 8
-
--- the line that is said then
-abbrev pub line_at : Stop → List ℕ
-line_at stop.Usage = usage_line
-line_at (stop.Refused line) = string_bytes line
-line_at (stop.CannotRead line) = string_bytes line
-line_at stop.CannotWrite = cannot_write_line
-line_at (stop.PairLost stage part line) = string_bytes line
-line_at stop.OutOfMemory = memory_line
+-- Where the files tell what they hold and no count rose, what they hold comes to its status, or it is refused, unless no memory was to be had. The count of faults
+-- of saves matters only where a file is saved.
+pub record IsComplete (status : ℕ) (before after : FilesTold) (words : List (List ℕ)) (old new : SinkTold) : Type 0 where
+  pub settles : (answer : AnswerView) → Settles before.contents words answer → (Rose before.read_faults after.read_faults → ⊥)
+      → (answer.saved ≡ None) ⊎ (Rose before.save_faults after.save_faults → ⊥) → (Rose old.faults new.faults → ⊥) → (status ≡ status_of answer.ending) ⊎ (status ≡ 8)
+  pub rejects : Rejects before.contents words → (Rose before.read_faults after.read_faults → ⊥) → (status ≡ 3) ⊎ (status ≡ 8)

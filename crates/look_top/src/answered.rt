@@ -2,19 +2,21 @@
 ghost use Rattle.command_course.specs.Steps.{GivesBy, OnlyReads, StopsBy};
 ghost use Rattle.command_course.specs.declared.stop.Stop.TheVariants.{Usage};
 ghost use Rattle.flux_top.specs.Outcome.{texts};
-ghost use Rattle.look_command.specs.Courses.{way_of};
 ghost use Rattle.look_course.specs.Answers.{answer_of};
-ghost use Rattle.look_top.specs.Asked.{asked};
-ghost use Rattle.look_top.specs.Clauses.{ComesTo, StopsBefore};
+ghost use Rattle.look_top.specs.Asked.{asked, way_of};
+ghost use Rattle.look_top.specs.Stops.{Answers, StopsBefore};
 ghost use Rattle.look_words.specs.Forms.{request_of};
 ghost use Rattle.std.specs.Prelude.{◌≡◌, Err, IfErr, IfOk, None};
 
-use crate::own::own_stop;
+use crate::finished::NAME;
 use command_course::Stop;
 use flux_outside::Files;
+use flux_top::own_stop;
 use look_command::{check_report, story_text, timeline_text};
 use look_course::Answer;
 use look_words::{LookCommand, read_words};
+use sift_command::sift_report;
+use sql_command::sql_report;
 use std::alloc::Global;
 
 /// What the words' command comes to, where they have a form.
@@ -23,7 +25,7 @@ pub(crate) fn answered<F: Files>(
     words: &[String],
     files: &mut F,
 ) -> Result<Answer, Stop>
-    ensures comes { IfOk result (λ answer. ComesTo (F.told files.old) (F.told files.new) (texts words.now) (answer_of answer)) }
+    ensures comes { IfOk result (λ answer. Answers (F.told files.old) (F.told files.new) (texts words.now) (answer_of answer)) }
     ensures usage { asked (texts words.now) ≡ None → result ≡ Err Usage }
     ensures unasked { asked (texts words.now) ≡ None → files.new ≡ files.old }
     ensures stops { IfErr result (λ stop. StopsBefore (F.told files.old) (F.told files.new) (texts words.now) stop) }
@@ -33,7 +35,7 @@ pub(crate) fn answered<F: Files>(
         None => Err(Stop::Usage),
         Some(command) => match answer_of(alloc, files, command) {
             Ok(answer) => Ok(answer),
-            Err(stop) => Err(own_stop(alloc, stop)),
+            Err(stop) => Err(own_stop(alloc, NAME, stop)),
         },
     }
 }
@@ -54,20 +56,26 @@ fn answer_of<F: Files>(
             trades,
             cash,
             script,
-        } => check_report(alloc, files, plan, trades, cash, script),
+            json,
+        } => check_report(alloc, files, plan, trades, cash, script, json),
         LookCommand::Story {
             plan,
             trades,
             events,
             cash,
             script,
-        } => story_text(alloc, files, plan, trades, events, cash, script),
+            json,
+        } => story_text(alloc, files, plan, trades, events, cash, script, json),
         LookCommand::Timeline {
             plan,
             trades,
             events,
             cash,
             svg,
-        } => timeline_text(alloc, files, plan, trades, events, cash, svg),
+            json,
+            only,
+        } => timeline_text(alloc, files, plan, trades, events, cash, svg, only, json),
+        LookCommand::Sift { trades, rejects } => sift_report(alloc, files, trades, rejects),
+        LookCommand::Sql { plan } => sql_report(alloc, files, plan),
     }
 }

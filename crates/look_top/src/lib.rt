@@ -7,6 +7,6 @@
 
 mod answered;
 mod command;
-mod own;
+mod finished;
 
 pub use command::flux_look;

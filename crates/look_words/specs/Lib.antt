@@ -1,3 +1,4 @@
 pub mod Forms
+pub mod Options
 pub mod Parts
 pub mod Reading

@@ -2,21 +2,28 @@
 use Rattle.std.specs.Prelude.{◌&&◌, not, Bool, false, true, Option, Some, None, option_map, is_some, if◌then◌else◌}
 use Rattle.std.specs.Borrow.{Bor}
 use Rattle.command_line.specs.Words.{Text, is_plain}
+use Rattle.look_words.specs.declared.kind.Flag.{Flag}
+use Rattle.look_words.specs.declared.kind.Flag.TheVariants as flag
+use Rattle.look_words.specs.declared.kind.Valued.{Valued}
+use Rattle.look_words.specs.declared.kind.Valued.TheVariants as valued
 use Rattle.look_words.specs.declared.option.Named.{Named}
 use Rattle.look_words.specs.declared.parts.Parts.{Parts as FoundParts}
 
--- up to three names in order, the files of two options, and whether `--svg` stands among the words
+-- up to three names in order, the values of the options that have one, and which of the others stand among the words
 pub record Parts : Type 0 where
   pub first : Option Text
   pub second : Option Text
   pub third : Option Text
   pub cash : Option Text
   pub script : Option Text
+  pub rejects : Option Text
   pub svg : Bool
+  pub json : Bool
+  pub only : Bool
 
 -- what no words give
 abbrev pub no_parts : Parts
-no_parts = record { first = None; second = None; third = None; cash = None; script = None; svg = false }
+no_parts = record { first = None; second = None; third = None; cash = None; script = None; rejects = None; svg = false; json = false; only = false }
 
 -- a name stands in the first place that is free, of three
 abbrev pub in_place : Text → Parts → (first second third : Option Text) → Option Parts
@@ -29,17 +36,25 @@ in_place name parts (Some a) (Some b) (Some c) = None
 abbrev pub name_given : Text → Parts → Option Parts
 name_given name parts = in_place name parts parts.first parts.second parts.third
 
--- the file of `--cash`, which is given once
-abbrev pub cash_given : Text → Parts → Option Parts
-cash_given file parts = if is_plain file && not (is_some parts.cash) then Some (record parts { cash = Some file }) else None
+-- the value of an option, which is given once
+abbrev pub taken : Option Text → Text → Option Text
+taken before value = if is_plain value && not (is_some before) then Some value else None
 
--- the file of `--script`, which is given once
-abbrev pub script_given : Text → Parts → Option Parts
-script_given file parts = if is_plain file && not (is_some parts.script) then Some (record parts { script = Some file }) else None
+-- an option with its value
+abbrev pub value_given : Valued → Text → Parts → Option Parts
+value_given valued.Cash value parts = option_map (λ file. record parts { cash = Some file }) (taken parts.cash value)
+value_given valued.Script value parts = option_map (λ file. record parts { script = Some file }) (taken parts.script value)
+value_given valued.Rejects value parts = option_map (λ file. record parts { rejects = Some file }) (taken parts.rejects value)
 
--- `--svg`, which is given once and has no value
-abbrev pub svg_given : Option Text → Parts → Option Parts
-svg_given value parts = if not (is_some value) && not parts.svg then Some (record parts { svg = true }) else None
+-- that an option stands among the words, which is given once and has no value
+abbrev pub raised : Bool → Option Text → Option Bool
+raised before value = if not (is_some value) && not before then Some true else None
+
+-- an option that has no value
+abbrev pub flag_given : Flag → Option Text → Parts → Option Parts
+flag_given flag.Svg value parts = option_map (λ up. record parts { svg = up }) (raised parts.svg value)
+flag_given flag.Json value parts = option_map (λ up. record parts { json = up }) (raised parts.json value)
+flag_given flag.Only value parts = option_map (λ up. record parts { only = up }) (raised parts.only value)
 
 -- ---- as the code holds it
 
@@ -55,7 +70,10 @@ parts_in parts = record {
   third = text_in parts.third;
   cash = text_in parts.cash;
   script = text_in parts.script;
+  rejects = text_in parts.rejects;
   svg = parts.svg;
+  json = parts.json;
+  only = parts.only;
 }
 
 -- an option that code has found: its name, and its value, if it has one

@@ -1,11 +1,21 @@
 // The form of each command.
-ghost use Rattle.look_words.specs.Forms.{check_form, request, request_of, story_form, timeline_form};
-ghost use Rattle.look_words.specs.Parts.{parts_in};
+ghost use Rattle.look_words.specs.Forms.{check_form, one, request, request_of, sift_form, sql_form, story_form, timeline_form};
+ghost use Rattle.look_words.specs.Parts.{parts_in, text_in};
 ghost use Rattle.command_line.specs.Forms.{three};
 ghost use Rattle.std.specs.Prelude.{◌≡◌, option_map};
 
 use crate::LookCommand;
 use crate::parts::Parts;
+
+// The name, where there is exactly one.
+fn one<'a>(parts: &Parts<'a>) -> Option<&'a str>
+    ensures { text_in result ≡ one (parts_in parts.now).first (parts_in parts.now).second }
+{
+    match (parts.first, parts.second) {
+        (Some(first), None) => Some(first),
+        _ => None,
+    }
+}
 
 // The names, where there are exactly three.
 fn three<'a>(parts: &Parts<'a>) -> Option<(&'a str, &'a str, &'a str)>
@@ -21,7 +31,7 @@ fn three<'a>(parts: &Parts<'a>) -> Option<(&'a str, &'a str, &'a str)>
 fn check_of<'a>(parts: &Parts<'a>) -> Option<LookCommand<'a>>
     ensures { option_map request_of result ≡ check_form (parts_in parts.now) }
 {
-    if parts.third.is_some() || parts.svg {
+    if parts.third.is_some() {
         return None;
     }
     let plan = parts.first?;
@@ -30,6 +40,7 @@ fn check_of<'a>(parts: &Parts<'a>) -> Option<LookCommand<'a>>
         trades: parts.second,
         cash: parts.cash,
         script: parts.script,
+        json: parts.json,
     })
 }
 
@@ -37,9 +48,6 @@ fn check_of<'a>(parts: &Parts<'a>) -> Option<LookCommand<'a>>
 fn story_of<'a>(parts: &Parts<'a>) -> Option<LookCommand<'a>>
     ensures { option_map request_of result ≡ story_form (parts_in parts.now) }
 {
-    if parts.svg {
-        return None;
-    }
     let (plan, trades, events) = three(parts)?;
     Some(LookCommand::Story {
         plan,
@@ -47,6 +55,7 @@ fn story_of<'a>(parts: &Parts<'a>) -> Option<LookCommand<'a>>
         events,
         cash: parts.cash,
         script: parts.script,
+        json: parts.json,
     })
 }
 
@@ -54,7 +63,7 @@ fn story_of<'a>(parts: &Parts<'a>) -> Option<LookCommand<'a>>
 fn timeline_of<'a>(parts: &Parts<'a>) -> Option<LookCommand<'a>>
     ensures { option_map request_of result ≡ timeline_form (parts_in parts.now) }
 {
-    if parts.script.is_some() {
+    if parts.svg && parts.json {
         return None;
     }
     let (plan, trades, events) = three(parts)?;
@@ -64,7 +73,26 @@ fn timeline_of<'a>(parts: &Parts<'a>) -> Option<LookCommand<'a>>
         events,
         cash: parts.cash,
         svg: parts.svg,
+        json: parts.json,
+        only: parts.only,
     })
+}
+
+#[tactic(auto, unfolding(crate::specs::Forms::sift_form))]
+fn sift_of<'a>(parts: &Parts<'a>) -> Option<LookCommand<'a>>
+    ensures { option_map request_of result ≡ sift_form (parts_in parts.now) }
+{
+    let trades = one(parts)?;
+    let rejects = parts.rejects?;
+    Some(LookCommand::Sift { trades, rejects })
+}
+
+#[tactic(auto, unfolding(crate::specs::Forms::sql_form))]
+fn sql_of<'a>(parts: &Parts<'a>) -> Option<LookCommand<'a>>
+    ensures { option_map request_of result ≡ sql_form (parts_in parts.now) }
+{
+    let plan = one(parts)?;
+    Some(LookCommand::Sql { plan })
 }
 
 /// What a command of this name asks for with these parts.
@@ -76,6 +104,8 @@ pub(crate) fn request<'a>(command: &str, parts: &Parts<'a>) -> Option<LookComman
         "check" => check_of(parts),
         "story" => story_of(parts),
         "timeline" => timeline_of(parts),
+        "sift" => sift_of(parts),
+        "sql" => sql_of(parts),
         _ => None,
     }
 }

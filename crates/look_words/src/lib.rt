@@ -6,6 +6,7 @@
 
 mod command;
 mod forms;
+mod kind;
 mod option;
 mod parts;
 mod read;

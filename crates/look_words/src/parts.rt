@@ -1,9 +1,11 @@
 // The words behind a command by what they are.
-ghost use Rattle.look_words.specs.Parts.{name_given, parts_in, no_parts, cash_given, script_given, svg_given};
+ghost use Rattle.look_words.specs.Parts.{flag_given, name_given, no_parts, parts_in, raised, taken, text_in, value_given};
 ghost use Rattle.command_line.specs.Words.{is_plain};
 ghost use Rattle.std.specs.Prelude.{◌≡◌, option_map};
 
-/// Up to three names in order, the files of two options, and whether `--svg` stands among the words.
+use crate::kind::{Flag, Valued};
+
+/// Up to three names in order, the values of the options that have one, and which of the others stand among the words.
 #[derive(Clone, Copy)]
 pub(crate) struct Parts<'a> {
     pub(crate) first: Option<&'a str>,
@@ -11,10 +13,13 @@ pub(crate) struct Parts<'a> {
     pub(crate) third: Option<&'a str>,
     pub(crate) cash: Option<&'a str>,
     pub(crate) script: Option<&'a str>,
+    pub(crate) rejects: Option<&'a str>,
     pub(crate) svg: bool,
+    pub(crate) json: bool,
+    pub(crate) only: bool,
 }
 
-/// Whether a word may name a file: it is not empty, and doesn't begin with `-`.
+/// Whether a word may be a name or a value: it is not empty, and doesn't begin with `-`.
 pub(crate) fn is_plain(word: &str) -> bool
     ensures { result ≡ is_plain word.now }
 {
@@ -22,6 +27,26 @@ pub(crate) fn is_plain(word: &str) -> bool
         None => false,
         Some(byte) => *byte != b'-',
     }
+}
+
+// The value of an option, which is given once.
+fn taken<'a>(before: Option<&'a str>, value: &'a str) -> Option<&'a str>
+    ensures { text_in result ≡ taken (text_in before.entry) value.now }
+{
+    if before.is_some() || !is_plain(value) {
+        return None;
+    }
+    Some(value)
+}
+
+// That an option stands among the words, which is given once and has no value.
+fn raised(before: bool, value: Option<&str>) -> Option<bool>
+    ensures { result ≡ raised before (text_in value.entry) }
+{
+    if before || value.is_some() {
+        return None;
+    }
+    Some(true)
 }
 
 impl<'a> Parts<'a> {
@@ -35,7 +60,10 @@ impl<'a> Parts<'a> {
             third: None,
             cash: None,
             script: None,
+            rejects: None,
             svg: false,
+            json: false,
+            only: false,
         }
     }
 
@@ -60,39 +88,43 @@ impl<'a> Parts<'a> {
         }
     }
 
-    /// With the file of `--cash`, which is given once.
-    pub(crate) fn with_cash(self, file: &'a str) -> Option<Parts<'a>>
-        ensures { option_map parts_in result ≡ cash_given file.now (parts_in self.entry) }
+    /// With the value of an option.
+    pub(crate) fn with_value(self, option: Valued, value: &'a str) -> Option<Parts<'a>>
+        ensures { option_map parts_in result ≡ value_given option value.now (parts_in self.entry) }
     {
-        if self.cash.is_some() || !is_plain(file) {
-            return None;
+        match option {
+            Valued::Cash => Some(Parts {
+                cash: Some(taken(self.cash, value)?),
+                ..self
+            }),
+            Valued::Script => Some(Parts {
+                script: Some(taken(self.script, value)?),
+                ..self
+            }),
+            Valued::Rejects => Some(Parts {
+                rejects: Some(taken(self.rejects, value)?),
+                ..self
+            }),
         }
-        Some(Parts {
-            cash: Some(file),
-            ..self
-        })
     }
 
-    /// With the file of `--script`, which is given once.
-    pub(crate) fn with_script(self, file: &'a str) -> Option<Parts<'a>>
-        ensures { option_map parts_in result ≡ script_given file.now (parts_in self.entry) }
+    /// With an option that has no value.
+    pub(crate) fn with_flag(self, option: Flag, value: Option<&str>) -> Option<Parts<'a>>
+        ensures { option_map parts_in result ≡ flag_given option (text_in value.entry) (parts_in self.entry) }
     {
-        if self.script.is_some() || !is_plain(file) {
-            return None;
+        match option {
+            Flag::Svg => Some(Parts {
+                svg: raised(self.svg, value)?,
+                ..self
+            }),
+            Flag::Json => Some(Parts {
+                json: raised(self.json, value)?,
+                ..self
+            }),
+            Flag::Only => Some(Parts {
+                only: raised(self.only, value)?,
+                ..self
+            }),
         }
-        Some(Parts {
-            script: Some(file),
-            ..self
-        })
-    }
-
-    /// With `--svg`, which is given once and has no value.
-    pub(crate) fn with_svg(self, value: Option<&str>) -> Option<Parts<'a>>
-        ensures { option_map parts_in result ≡ svg_given (option_map (λ text. text.now) value.entry) (parts_in self.entry) }
-    {
-        if self.svg || value.is_some() {
-            return None;
-        }
-        Some(Parts { svg: true, ..self })
     }
 }

@@ -1,17 +1,17 @@
 // Words read from left to right.
 ghost use Rattle.look_words.specs.Parts.{parts_in, text_in};
-ghost use Rattle.look_words.specs.Reading.{after_option, after_word, parts_at_end, reading_in, settled, start};
+ghost use Rattle.look_words.specs.Reading.{after_kind, after_option, after_word, parts_at_end, reading_in, settled, start};
 ghost use Rattle.std.specs.Prelude.{◌≡◌, option_map};
 
+use crate::kind::{OptionKind, Valued, option_kind};
 use crate::option::{Named, option_of};
 use crate::parts::{Parts, is_plain};
 
-/// What the next word is to be: a name or an option, or the file of the option before it.
+/// What the next word is to be: a name or an option, or the value of the option before it.
 #[derive(Clone, Copy)]
 pub(crate) enum Awaited {
     Any,
-    Cash,
-    Script,
+    Value(Valued),
 }
 
 /// What the words so far gave.
@@ -21,7 +21,7 @@ pub(crate) struct Reading<'a> {
     pub(crate) awaited: Awaited,
 }
 
-// These parts, of which no option awaits its file.
+// These parts, of which no option awaits its value.
 fn settled<'a>(parts: Option<Parts<'a>>) -> Option<Reading<'a>>
     ensures { option_map reading_in result ≡ settled (option_map parts_in parts.entry) }
 {
@@ -32,25 +32,25 @@ fn settled<'a>(parts: Option<Parts<'a>>) -> Option<Reading<'a>>
     })
 }
 
-// After an option, whose file may be the next word.
-#[tactic(auto, unfolding(crate::specs::Reading::after_option))]
-fn after_option<'a>(parts: Parts<'a>, option: Named<'a>) -> Option<Reading<'a>>
-    ensures { option_map reading_in result ≡ after_option option.entry.name.now (text_in option.entry.value) (parts_in parts.entry) }
+// After an option of this kind, whose value may be the next word.
+fn after_kind<'a>(parts: Parts<'a>, kind: OptionKind, value: Option<&'a str>) -> Option<Reading<'a>>
+    ensures { option_map reading_in result ≡ after_kind kind (text_in value.entry) (parts_in parts.entry) }
 {
-    match (option.name, option.value) {
-        ("svg", value) => settled(parts.with_svg(value)),
-        ("cash", Some(file)) => settled(parts.with_cash(file)),
-        ("script", Some(file)) => settled(parts.with_script(file)),
-        ("cash", None) => Some(Reading {
+    match (kind, value) {
+        (OptionKind::Alone(flag), value) => settled(parts.with_flag(flag, value)),
+        (OptionKind::WithValue(option), Some(value)) => settled(parts.with_value(option, value)),
+        (OptionKind::WithValue(option), None) => Some(Reading {
             parts,
-            awaited: Awaited::Cash,
+            awaited: Awaited::Value(option),
         }),
-        ("script", None) => Some(Reading {
-            parts,
-            awaited: Awaited::Script,
-        }),
-        _ => None,
     }
+}
+
+// After an option, if the command has it.
+fn after_option<'a>(command: &str, parts: Parts<'a>, option: Named<'a>) -> Option<Reading<'a>>
+    ensures { option_map reading_in result ≡ after_option command.now option.entry.name.now (text_in option.entry.value) (parts_in parts.entry) }
+{
+    after_kind(parts, option_kind(command, option.name)?, option.value)
 }
 
 impl<'a> Reading<'a> {
@@ -64,29 +64,28 @@ impl<'a> Reading<'a> {
         }
     }
 
-    /// After one more word.
-    pub(crate) fn after_word(self, word: &'a str) -> Option<Reading<'a>>
-        ensures { option_map reading_in result ≡ after_word word.now (reading_in self.entry) }
+    /// After one more word behind a command.
+    pub(crate) fn after_word(self, command: &str, word: &'a str) -> Option<Reading<'a>>
+        ensures { option_map reading_in result ≡ after_word command.now word.now (reading_in self.entry) }
     {
         match self.awaited {
-            Awaited::Cash => settled(self.parts.with_cash(word)),
-            Awaited::Script => settled(self.parts.with_script(word)),
+            Awaited::Value(option) => settled(self.parts.with_value(option, word)),
             Awaited::Any => {
                 if is_plain(word) {
                     return settled(self.parts.with_name(word));
                 }
-                after_option(self.parts, option_of(word)?)
+                after_option(command, self.parts, option_of(word)?)
             }
         }
     }
 
-    /// What the words gave, where no option awaits its file.
+    /// What the words gave, where no option awaits its value.
     pub(crate) fn parts_at_end(self) -> Option<Parts<'a>>
         ensures { option_map parts_in result ≡ parts_at_end (reading_in self.entry) }
     {
         match self.awaited {
             Awaited::Any => Some(self.parts),
-            _ => None,
+            Awaited::Value(_) => None,
         }
     }
 }

@@ -137,12 +137,12 @@ module _ (key : By) (g : Key → Bool) (p : Row → Bool) (agree : (x : Row) →
       by_test true passes later = ap (λ (ks : List Key). fold more ks (filter p rows)) (sym (with_passed g (key_of key x) keys (sym (agree x) ∙ passes) ascends)) ∙ later
       by_test false fails later = ap (λ (ks : List Key). fold more ks (filter p rows)) (sym (with_failed g (key_of key x) keys (sym (agree x) ∙ fails))) ∙ later
 
-  keys_pass : (rows : List Row) → keys_among key (filter p rows) ≡ filter g (keys_among key rows)
+  pub keys_pass : (rows : List Row) → keys_among key (filter p rows) ≡ filter g (keys_among key rows)
   keys_pass rows = keys_from rows [] tt
 
 -- ---- rows made of keys
 
-rows_of_passed : (f : Row → Bool) (g : Key → Bool) (made : Key → Row) → ((k : Key) → f (made k) ≡ g k) → (keys : List Key) → filter f (map made keys) ≡ map made (filter g keys)
+pub rows_of_passed : (f : Row → Bool) (g : Key → Bool) (made : Key → Row) → ((k : Key) → f (made k) ≡ g k) → (keys : List Key) → filter f (map made keys) ≡ map made (filter g keys)
 rows_of_passed f g made agree [] = refl
 rows_of_passed f g made agree (k ∷ keys) = by_test (g k) (agree k) (rows_of_passed f g made agree keys)
   where
@@ -151,7 +151,7 @@ rows_of_passed f g made agree (k ∷ keys) = by_test (g k) (agree k) (rows_of_pa
     by_test true passes later = rw passes (ap (λ rest. made k ∷ rest) later)
     by_test false fails later = rw fails later
 
-made_alike : (g : Key → Bool) (one another : Key → Row) → ((k : Key) → g k ≡ true → one k ≡ another k) → (keys : List Key) → map one (filter g keys) ≡ map another (filter g keys)
+pub made_alike : (g : Key → Bool) (one another : Key → Row) → ((k : Key) → g k ≡ true → one k ≡ another k) → (keys : List Key) → map one (filter g keys) ≡ map another (filter g keys)
 made_alike g one another alike [] = refl
 made_alike g one another alike (k ∷ keys) = by_test (g k) refl (made_alike g one another alike keys)
   where
@@ -162,7 +162,7 @@ made_alike g one another alike (k ∷ keys) = by_test (g k) refl (made_alike g o
 -- ---- a window whose key holds the column
 
 -- what a key has in a column that it holds
-abbrev of_key : Column → Key → ℤ
+abbrev pub of_key : Column → Key → ℤ
 of_key column.Account k = k.account
 of_key column.Symbol k = k.symbol
 of_key column.Time k = pos 0
@@ -170,7 +170,7 @@ of_key column.Qty k = pos 0
 of_key column.Value k = pos 0
 
 -- so has each row of the key, and the row that tells of its window
-in_row : (key : By) (c : Column) (x : Row) → holds_column key c ≡ true → column_of c x ≡ of_key c (key_of key x)
+pub in_row : (key : By) (c : Column) (x : Row) → holds_column key c ≡ true → column_of c x ≡ of_key c (key_of key x)
 in_row by.Account column.Account x holds = refl
 in_row by.Account column.Symbol x holds = absurd (false≢true holds)
 in_row by.Account column.Time x holds = absurd (false≢true holds)

@@ -36,7 +36,7 @@ rows_with-key key rows r =
     ap (filter test) (rows_of-items_of (filter test rows)) ∙ filter_within test test rows (λ x passes. passes) ∙ ap (filter test) (sym (rows_of-items_of rows))
 
 -- An operator looks at the rows of its key alone.
-row_answer-key : (spec : OpSpec) (key : By) (xs ys : List Row) (r : Row) → key_in spec ≡ Some key
+pub row_answer-key : (spec : OpSpec) (key : By) (xs ys : List Row) (r : Row) → key_in spec ≡ Some key
     → rows_with key (items_of xs) (key_of key r) ≡ rows_with key (items_of ys) (key_of key r) → row_answer spec (items_of xs) r ≡ row_answer spec (items_of ys) r
 row_answer-key (op.Keep column compare limit) key xs ys r is same = refl
 row_answer-key (op.Total of_key) key xs ys r is same =

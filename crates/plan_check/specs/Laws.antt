@@ -1,19 +1,21 @@
 -- What holds of a stage that splits no keys, and of scripts that aren't safe.
-use Rattle.std.specs.Prelude.{◌≡◌, ◌==◌, ◌<◌, not, ℕ, Bool, true, false, List, Option, Some, None}
+use Rattle.std.specs.Prelude.{◌≡◌, ◌==◌, ◌<◌, not, ℕ, Bool, true, false, List, [], ◌∷◌, Option, Some, None}
 use Rattle.std.specs.Bool.{Decides}
 use Rattle.std.specs.List.{filter, list_any}
 use Rattle.tuple_edge.specs.Row.{route_of}
 use Rattle.tuple_edge.specs.declared.row.Row.{Row}
 use Rattle.op_spec.specs.Keys.{is_key, key_of}
 use Rattle.op_spec.specs.declared.spec.By.{By}
+use Rattle.op_spec.specs.declared.spec.By.TheVariants as by
 use Rattle.stream_ops.specs.Answers.{end_answer, row_answer}
-use Rattle.plan_reader.specs.PlanView.{IsStage}
+use Rattle.plan_reader.specs.PlanView.{IsStage, PlanView}
 use Rattle.plan_reader.specs.declared.stage.Stage.{Stage}
 use Rattle.pair_machine.specs.Scripts.{IsSafe}
 use Rattle.pair_machine.specs.declared.order.Order.{Order}
 use Rattle.bucket_move.specs.Rows.{items_of}
+use Rattle.plan_check.specs.Order.{dealing}
 use Rattle.plan_check.specs.Sums.{key_in, splits_keys}
-use Rattle.plan_check.specs.Warnings.{script_warnings}
+use Rattle.plan_check.specs.Warnings.{is_warned_of_parts, script_warnings}
 use Rattle.plan_check.specs.declared.warning.Warning.{Warning}
 use Rattle.plan_check.specs.declared.warning.Warning.TheVariants as warning
 
@@ -47,6 +49,17 @@ KeysStayTogether = (s : Stage) (before : List Row) (r : Row) → IsStage s → s
 abbrev pub EndsStayTogether : Type 0
 EndsStayTogether = (s : Stage) (part : ℕ) (before : List Row) → IsStage s → splits_keys s ≡ false → part < s.parts
     → end_answer s.op (items_of (rows_at s part before)) ≡ rows_at s part (end_answer s.op (items_of before))
+
+-- ---- plans
+
+-- none of these stages splits keys
+abbrev pub AreUnsplit : List Stage → Type 0
+AreUnsplit [] = Unit {0}
+AreUnsplit (s ∷ stages) = (splits_keys s ≡ false) × AreUnsplit stages
+
+-- A plan that isn't warned of for its partitions splits no keys, and no rows of one key leave it from several partitions of a stage behind a `window`.
+abbrev pub QuietPlansDealNone : Type 0
+QuietPlansDealNone = (plan : PlanView) → is_warned_of_parts plan ≡ false → AreUnsplit plan.stages × (dealing by.Both 1 plan.stages ≡ None)
 
 -- ---- scripts
 

@@ -1,6 +1,8 @@
 pub mod Laws
 pub mod Limits
+pub mod Order
 pub mod Sentences
+pub mod Stages
 pub mod Sums
 pub mod Text
 pub mod Warnings

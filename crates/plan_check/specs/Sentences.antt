@@ -14,7 +14,7 @@ use Rattle.plan_reader.specs.Text.{column_name, compare_name}
 use Rattle.plan_reader.specs.declared.stage.Stage.{Stage}
 use Rattle.run_journal.specs.Text.{node_name}
 use Rattle.trade_text.specs.TradesView.{TradesView}
-use Rattle.plan_check.specs.Warnings.{numbered}
+use Rattle.plan_check.specs.Stages.{numbered}
 use Rattle.plan_check.specs.Words.{key_text, order_text, stage_text}
 use Rattle.plan_check.specs.declared.warning.Numbered.{Numbered}
 

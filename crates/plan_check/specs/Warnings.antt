@@ -1,12 +1,15 @@
 -- What is warned of, in a plan and in a failure script.
-use Rattle.std.specs.Prelude.{ℕ, ◌+◌, ◌&&◌, ◌||◌, nat_le, nat_lt, not, Bool, true, false, List, [], ◌∷◌, ◌++◌, Option, None, Some, flat_map, max, unwrap_or, if◌then◌else◌}
+use Rattle.std.specs.Prelude.{ℕ, ◌+◌, ◌&&◌, ◌||◌, nat_le, nat_lt, not, Bool, true, false, List, [], ◌∷◌, ◌++◌, Option, None, Some, flat_map, length, max, unwrap_or, if◌then◌else◌}
 use Rattle.std.specs.List.{list_any}
+use Rattle.op_spec.specs.declared.spec.By.TheVariants as by
 use Rattle.plan_reader.specs.PlanView.{PlanView}
 use Rattle.plan_reader.specs.declared.stage.Stage.{Stage}
 use Rattle.pair_machine.specs.declared.order.Order.{Order}
 use Rattle.failure_script.specs.Orders.{are_of_one_pair, are_unsafe, is_reached}
 use Rattle.node_tasks.specs.Limits.{portion}
 use Rattle.plan_check.specs.Limits.{long_mark}
+use Rattle.plan_check.specs.Order.{dealing, is_window, joins_keys, key_behind}
+use Rattle.plan_check.specs.Stages.{numbered}
 use Rattle.plan_check.specs.Sums.{adds_up, counts_again, splits_keys}
 use Rattle.plan_check.specs.declared.warning.Numbered.{Numbered}
 use Rattle.plan_check.specs.declared.warning.Warning.{Warning}
@@ -32,10 +35,6 @@ hold_warnings plan = where_so (nat_lt plan.hold portion) (warning.ShortHold plan
 
 -- ---- its stages
 
--- a stage with its number
-abbrev pub numbered : ℕ → Stage → Numbered
-numbered number s = record { number = number; stage = s }
-
 -- a stage whose keys are split
 abbrev pub split_warnings : Numbered → List Warning
 split_warnings s = where_so (splits_keys s.stage) (warning.SplitKeys s)
@@ -50,15 +49,58 @@ abbrev pub first_sums : Option Numbered → Numbered → Option Numbered
 first_sums None s = if counts_again s.stage.op then Some s else None
 first_sums (Some sums) s = Some sums
 
--- the warnings of stages, numbered from here on, behind stages of which this is the first one that gives such sums
-abbrev pub stage_warnings : Option Numbered → ℕ → List Stage → List Warning
-stage_warnings sums number [] = []
-stage_warnings sums number (s ∷ stages) =
-    split_warnings (numbered number s) ++ sums_warnings sums (numbered number s) ++ stage_warnings (first_sums sums (numbered number s)) (number + 1) stages
+-- the last `window`, where this stage follows
+abbrev pub last_window : Option Numbered → Numbered → Option Numbered
+last_window window s = if is_window s.stage.op then Some s else window
+
+-- a stage, the last of these, that adds up rows of several keys of the last `window` before it: these come in the order in which windows close
+abbrev pub time_warnings : Option Numbered → List Stage → Numbered → List Warning
+time_warnings None stages s = []
+time_warnings (Some window) stages s = where_so (adds_up s.stage.op && joins_keys window.number stages) (warning.TimeOrder s window)
+
+-- a stage that adds up rows of one key from several partitions of a stage behind a `window`
+abbrev pub dealt_warnings : Option Numbered → Numbered → List Warning
+dealt_warnings None s = []
+dealt_warnings (Some dealt) s = where_so (adds_up s.stage.op) (warning.PartOrder s dealt)
+
+-- the same of the stages before it
+abbrev pub part_warnings : List Stage → Numbered → List Warning
+part_warnings before s = dealt_warnings (dealing (key_behind s.stage.op) 1 before) s
+
+-- the warnings of a stage behind others: the first of those that gives sums again and again is known, and the last `window`
+abbrev pub own_warnings : Option Numbered → Option Numbered → List Stage → Numbered → List Warning
+own_warnings sums window before s = split_warnings s ++ sums_warnings sums s ++ time_warnings window (before ++ s.stage ∷ []) s ++ part_warnings before s
+
+-- the warnings of stages behind others
+abbrev pub stage_warnings : Option Numbered → Option Numbered → List Stage → List Stage → List Warning
+stage_warnings sums window before [] = []
+stage_warnings sums window before (s ∷ stages) =
+    own_warnings sums window before (numbered (length before + 1) s)
+    ++ stage_warnings (first_sums sums (numbered (length before + 1) s)) (last_window window (numbered (length before + 1) s)) (before ++ s ∷ []) stages
+
+-- rows of one key that leave a plan from several partitions of a stage behind a `window`
+abbrev pub dealt_leaving : Option Numbered → List Warning
+dealt_leaving None = []
+dealt_leaving (Some dealt) = warning.LeavingOrder dealt ∷ []
+
+-- the same of all stages of a plan: a key that leaves is that of the last stage, and of a `keep` both columns
+abbrev pub leaving_warnings : List Stage → List Warning
+leaving_warnings stages = dealt_leaving (dealing by.Both 1 stages)
 
 -- the warnings of a plan
 abbrev pub plan_warnings : PlanView → List Warning
-plan_warnings plan = mark_warnings plan ++ hold_warnings plan ++ stage_warnings None 1 plan.stages
+plan_warnings plan = mark_warnings plan ++ hold_warnings plan ++ stage_warnings None None [] plan.stages ++ leaving_warnings plan.stages
+
+-- whether a warning is of partitions
+abbrev pub is_of_parts : Warning → Bool
+is_of_parts (warning.SplitKeys s) = true
+is_of_parts (warning.PartOrder s dealt) = true
+is_of_parts (warning.LeavingOrder dealt) = true
+is_of_parts w = false
+
+-- whether a plan is warned of for its partitions: these are the warnings under which its rows may be others, or in another order, in one partition
+abbrev pub is_warned_of_parts : PlanView → Bool
+is_warned_of_parts plan = list_any is_of_parts (plan_warnings plan)
 
 -- ---- scripts
 

@@ -7,6 +7,7 @@ use Rattle.tuple_edge.specs.declared.node.Which.TheVariants.{A, B}
 use Rattle.tuple_edge.specs.declared.row.Column.{Column}
 use Rattle.tuple_edge.specs.declared.row.Column.TheVariants as column
 use Rattle.tuple_edge.specs.declared.row.Row.{Row}
+use Rattle.op_spec.specs.declared.spec.By.{By}
 use Rattle.op_spec.specs.declared.spec.By.TheVariants as by
 use Rattle.op_spec.specs.declared.spec.Compare.TheVariants as compare
 use Rattle.op_spec.specs.declared.spec.OpSpec.{OpSpec}
@@ -18,7 +19,9 @@ use Rattle.pair_machine.specs.declared.order.Order.{Order}
 use Rattle.bucket_move.specs.Rows.{items_of}
 use Rattle.plan_check.specs.Laws.{rows_beside}
 use Rattle.plan_check.specs.Sums.{splits_keys}
-use Rattle.plan_check.specs.Warnings.{numbered, plan_warnings, script_warnings}
+use Rattle.plan_check.specs.Stages.{numbered}
+use Rattle.plan_check.specs.Warnings.{plan_warnings, script_warnings}
+use Rattle.plan_check.specs.declared.warning.Warning.{Warning}
 use Rattle.plan_check.specs.declared.warning.Warning.TheVariants as warning
 
 -- ---- two trades
@@ -92,6 +95,54 @@ pub record PlansWarned : Type 0 where
   pub settings : plan_warnings (plan 513 511 (total column.Account ∷ [])) ≡ warning.LongMark 513 ∷ warning.ShortHold 511 ∷ []
   pub bounds : plan_warnings (plan 512 512 (total column.Account ∷ [])) ≡ []
 
+-- ---- the order of rows behind a `window`
+
+-- minutes of this key
+abbrev pub minutes_of : By → Column → Stage
+minutes_of key column = stage column (op.Window key (pos 60))
+
+-- the last row of each key
+abbrev pub last_of : By → Column → Stage
+last_of key column = stage column (op.Last key 1)
+
+-- rows of a quantity
+abbrev pub keep : Column → Stage
+keep routing = stage routing (op.Keep column.Qty compare.Greater (pos 0))
+
+-- the warnings of these stages, with a mark and a hold that aren't warned of
+abbrev pub stages_warned : List Stage → List Warning
+stages_warned stages = plan_warnings (plan 64 1024 stages)
+
+-- what these stages are warned of, for the order in which their rows come
+pub record OrdersWarned : Type 0 where
+  -- an account's minutes of several symbols, each of which closes once its own symbol is traded again
+  pub times : stages_warned (minutes_of by.Both column.Account ∷ total column.Account ∷ [])
+      ≡ warning.TimeOrder (numbered 2 (total column.Account)) (numbered 1 (minutes_of by.Both column.Account)) ∷ []
+  -- an account's minutes have no symbol, and so they are of one key also for a stage by both
+  pub one_key : stages_warned (minutes_of by.Account column.Account ∷ stage column.Account (op.Total by.Both) ∷ []) ≡ []
+  -- nor has a window by both, where an account's positions come to it
+  pub lost_before : stages_warned (last_of by.Account column.Account ∷ minutes_of by.Both column.Account ∷ total column.Account ∷ []) ≡ []
+  -- at any distance, and where the symbol is lost on the way
+  pub far : stages_warned (minutes_of by.Both column.Account ∷ keep column.Account ∷ last_of by.Account column.Account ∷ total column.Account ∷ [])
+      ≡ warning.TimeOrder (numbered 4 (total column.Account)) (numbered 1 (minutes_of by.Both column.Account)) ∷ []
+  -- a second window puts its rows in the order of times again
+  pub again : stages_warned (minutes_of by.Both column.Account ∷ minutes_of by.Account column.Account ∷ total column.Account ∷ [])
+      ≡ warning.TimeOrder (numbered 2 (minutes_of by.Account column.Account)) (numbered 1 (minutes_of by.Both column.Account)) ∷ []
+  -- minutes of an account in two partitions by symbol: a sum, and the output, have them partition by partition
+  pub parts : stages_warned (minutes_of by.Both column.Symbol ∷ total column.Account ∷ [])
+      ≡ warning.TimeOrder (numbered 2 (total column.Account)) (numbered 1 (minutes_of by.Both column.Symbol))
+      ∷ warning.PartOrder (numbered 2 (total column.Account)) (numbered 1 (minutes_of by.Both column.Symbol))
+      ∷ warning.LeavingOrder (numbered 1 (minutes_of by.Both column.Symbol))
+      ∷ []
+  -- the account that routes is lost, and so the output has rows of a symbol partition by partition
+  pub leaving : stages_warned (minutes_of by.Both column.Account ∷ last_of by.Symbol column.Symbol ∷ keep column.Symbol ∷ [])
+      ≡ warning.LeavingOrder (numbered 1 (minutes_of by.Both column.Account)) ∷ []
+  -- before a window rows come in the order of trades, whatever routes them
+  pub before : stages_warned (last_of by.Account column.Symbol ∷ total column.Account ∷ []) ≡ []
+  -- a stage that splits keys isn't named again
+  pub split : stages_warned (minutes column.Account ∷ total column.Symbol ∷ total column.Account ∷ [])
+      ≡ warning.SplitKeys (numbered 2 (total column.Symbol)) ∷ warning.SumsOfSums (numbered 3 (total column.Account)) (numbered 2 (total column.Symbol)) ∷ []
+
 -- ---- scripts
 
 -- a replica of the first stage
@@ -121,4 +172,5 @@ pub record ScriptsWarned : Type 0 where
 pub record WorkedRows : Type 0 where
   pub rows : RowsDiffer
   pub plans : PlansWarned
+  pub orders : OrdersWarned
   pub scripts : ScriptsWarned

@@ -16,7 +16,7 @@ use tuple_edge::OutOfMemory;
 #[derive(Debug, Drop)]
 pub struct Checked {
     /// The sentences, and a line for each warning.
-    pub text: Vec<u8>,
+    pub text: String,
     /// How many warnings there are.
     pub warnings: u64,
 }
@@ -94,14 +94,14 @@ pub fn write_check(
     trades: Option<&Trades>,
     script: Option<&Script>,
 ) -> Result<Checked, OutOfMemory>
-    ensures text { IfOk result (λ checked. checked.text.items ≡ check_text plan.now (option_map (λ t. t.now) trades.entry) (option_map (λ s. s.now) script.entry)) }
+    ensures text { IfOk result (λ checked. string_bytes checked.text ≡ check_text plan.now (option_map (λ t. t.now) trades.entry) (option_map (λ s. s.now) script.entry)) }
     ensures warnings { IfOk result (λ checked. checked.warnings ≡ length (warnings plan.now (option_map (λ s. s.now) script.entry))) }
 {
     let found = warnings_of(alloc, plan, script)?;
     let count = found.len() as u64;
     let text = text_of(alloc, plan, trades, script, &found)?;
     Ok(Checked {
-        text: text.into_bytes(),
+        text,
         warnings: count,
     })
 }

@@ -1,5 +1,5 @@
 // What holds of what is warned of and of what isn't, as contracts of functions that do nothing.
-ghost use Rattle.plan_check.specs.Laws.{EndsStayTogether, KeysStayTogether, UnsafeScriptsAreTold};
+ghost use Rattle.plan_check.specs.Laws.{EndsStayTogether, KeysStayTogether, QuietPlansDealNone, UnsafeScriptsAreTold};
 ghost use Rattle.plan_check.specs.WorkedRows.{WorkedRows};
 
 /// A law: a stage that isn't warned of for its key answers each row as one partition would to which all rows of the
@@ -14,6 +14,12 @@ pub fn keys_stay_together()
 #[tactic(auto, using(crate::proofs::Ends::ends_together))]
 pub fn ends_stay_together()
     ensures { EndsStayTogether }
+{}
+
+/// A law: a plan that isn't warned of for its partitions splits no keys, and no rows of one key leave it from several
+/// partitions of a stage behind a `window`.
+pub fn quiet_plans_deal_none()
+    ensures { QuietPlansDealNone }
 {}
 
 /// A law: a script is warned of as not safe exactly where it isn't safe in the machine's sense.

@@ -12,6 +12,7 @@ mod check;
 mod law;
 mod limits;
 mod names;
+mod order;
 mod orders;
 mod plan_warnings;
 mod script_warnings;
@@ -22,5 +23,8 @@ mod warning_text;
 mod words;
 
 pub use check::{Checked, write_check};
-pub use law::{ends_stay_together, keys_stay_together, unsafe_scripts_are_told, worked_rows};
+pub use law::{
+    ends_stay_together, keys_stay_together, quiet_plans_deal_none, unsafe_scripts_are_told,
+    worked_rows,
+};
 pub use limits::LONG_MARK;

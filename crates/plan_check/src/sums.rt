@@ -44,7 +44,7 @@ pub(crate) fn counts_again(op: &OpSpec) -> bool
 }
 
 // Whether rows of one key agree in a column.
-fn holds_column(key: By, column: Column) -> bool
+pub(crate) fn holds_column(key: By, column: Column) -> bool
     ensures { result ≡ holds_column key column }
 {
     match (key, column) {

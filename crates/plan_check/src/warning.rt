@@ -29,6 +29,20 @@ pub(crate) enum Warning {
         stage: Numbered,
         sums: Numbered,
     },
+    /// The first stage adds up rows of several keys of the second one, a `window`, which come as its windows close.
+    TimeOrder {
+        stage: Numbered,
+        window: Numbered,
+    },
+    /// Rows of one key come to the first stage from several partitions of the second one, which is behind a `window`.
+    PartOrder {
+        stage: Numbered,
+        dealt: Numbered,
+    },
+    /// Rows of one key leave the plan from several partitions of a stage, which is behind a `window`.
+    LeavingOrder {
+        dealt: Numbered,
+    },
     /// Two orders by which a script isn't safe.
     Unsafe {
         first: Order,

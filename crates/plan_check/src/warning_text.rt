@@ -1,6 +1,6 @@
 // The lines of warnings.
 ghost use Rattle.std.specs.Prelude.{◌≡◌, ◌++◌, flat_map, OnOk, string_bytes};
-ghost use Rattle.plan_check.specs.Text.{alone_text, warned, warning_line};
+ghost use Rattle.plan_check.specs.Text.{alone_text, partitions_of, warned, warning_line};
 ghost use Rattle.plan_check.specs.declared.warning.Warning.TheVariants as warning;
 
 use crate::names::column_name;
@@ -55,6 +55,55 @@ fn push_sums(text: &mut String, stage: &Numbered, sums: &Numbered) -> Result<(),
     Ok(())
 }
 
+// Appends that a stage adds up rows in the order in which windows close.
+fn push_time(text: &mut String, stage: &Numbered, window: &Numbered) -> Result<(), OutOfMemory>
+    ensures { OnOk result (string_bytes text.new ≡ string_bytes text.old ++ warned (warning.TimeOrder stage.now window.now)) }
+{
+    push_stage(text, stage)?;
+    text.push_str(": it adds up rows of several keys of ")?;
+    push_stage(text, window)?;
+    text.push_str(
+        ", and they come in the order in which its windows close, not in that of their times",
+    )?;
+    Ok(())
+}
+
+// Appends the partitions of a stage, and by which column rows go to them.
+fn push_partitions(text: &mut String, stage: &Numbered) -> Result<(), OutOfMemory>
+    ensures { OnOk result (string_bytes text.new ≡ string_bytes text.old ++ partitions_of stage.now) }
+{
+    let by = column_name(stage.stage.by);
+    let parts = stage.stage.parts;
+    write!(text, "of the {parts} partitions by {by} of ")?;
+    push_stage(text, stage)?;
+    Ok(())
+}
+
+// Appends that rows of one key come to a stage partition by partition.
+fn push_dealt(text: &mut String, stage: &Numbered, dealt: &Numbered) -> Result<(), OutOfMemory>
+    ensures { OnOk result (string_bytes text.new ≡ string_bytes text.old ++ warned (warning.PartOrder stage.now dealt.now)) }
+{
+    push_stage(text, stage)?;
+    text.push_str(": rows of one key come from several ")?;
+    push_partitions(text, dealt)?;
+    text.push_str(
+        "; at the end they come partition by partition, so what it tells depends on their number",
+    )?;
+    Ok(())
+}
+
+// Appends that rows of one key leave the plan partition by partition.
+fn push_leaving(text: &mut String, dealt: &Numbered) -> Result<(), OutOfMemory>
+    ensures { OnOk result (string_bytes text.new ≡ string_bytes text.old ++ warned (warning.LeavingOrder dealt.now)) }
+{
+    text.push_str("rows of one key leave the plan from several ")?;
+    push_partitions(text, dealt)?;
+    text.push_str(
+        "; at the end they come partition by partition, so their order depends on their number",
+    )?;
+    Ok(())
+}
+
 // Appends that two orders aren't safe.
 fn push_unsafe(text: &mut String, first: &Order, second: &Order) -> Result<(), OutOfMemory>
     ensures { OnOk result (string_bytes text.new ≡ string_bytes text.old ++ warned (warning.Unsafe first.now second.now)) }
@@ -74,7 +123,7 @@ fn alone_text(back: bool) -> &'static str
     if back {
         "isn't asked back"
     } else {
-        "isn't stopped"
+        "isn't stopped until its partner is up again"
     }
 }
 
@@ -108,6 +157,9 @@ fn push_warned(text: &mut String, warning: &Warning) -> Result<(), OutOfMemory>
         Warning::ShortHold { hold } => push_short_hold(text, *hold),
         Warning::SplitKeys { stage } => push_split(text, stage),
         Warning::SumsOfSums { stage, sums } => push_sums(text, stage, sums),
+        Warning::TimeOrder { stage, window } => push_time(text, stage, window),
+        Warning::PartOrder { stage, dealt } => push_dealt(text, stage, dealt),
+        Warning::LeavingOrder { dealt } => push_leaving(text, dealt),
         Warning::Unsafe { first, second } => push_unsafe(text, first, second),
         Warning::Alone {
             order,

@@ -3,14 +3,14 @@ use Rattle.std.specs.Prelude.{ℕ, Bool, true, false, List, [], ◌∷◌, ◌++
 use Rattle.std.specs.Fmt.{decimal}
 use Rattle.std.specs.List.{flat_map, list_any}
 use Rattle.tuple_edge.specs.declared.node.NodeId.{NodeId}
-use Rattle.tuple_edge.specs.declared.node.NodeId.TheVariants as node
 use Rattle.text_words.specs.Lines.{Word}
-use Rattle.pair_machine.specs.Boundary.{egress_partition}
-use Rattle.pair_machine.specs.Flow.{Flow}
-use Rattle.pair_machine.specs.Machine.{State, egress_in}
 use Rattle.pair_machine.specs.Numbers.{is_node}
 use Rattle.pair_machine.specs.declared.order.Order.{Order}
 use Rattle.run_journal.specs.Text.{node_name}
+use Rattle.run_end.specs.Words.{end_words}
+use Rattle.run_end.specs.declared.ends.RunEnd.{RunEnd}
+use Rattle.run_watch.specs.declared.happening.Fell.{Fell}
+use Rattle.run_watch.specs.declared.happening.Fell.TheVariants as fell
 use Rattle.run_watch.specs.declared.happening.Happening.{Happening}
 use Rattle.run_watch.specs.declared.happening.Happening.TheVariants as happening
 use Rattle.run_watch.specs.declared.happening.Told.{Told}
@@ -25,9 +25,15 @@ incarnation_text n words inc = node_name n ++ codes " " ++ words ++ codes " in i
 abbrev pub pair_text : (stage part : ℕ) → Word → List ℕ
 pair_text stage part words = codes "pair " ++ decimal stage ++ codes "." ++ decimal part ++ codes " " ++ words
 
+-- how long ago a partner fell, and how; of one that never did nothing is said
+abbrev pub fell_text : Fell → (after : ℕ) → List ℕ
+fell_text fell.Never after = []
+fell_text fell.Failed after = codes ", " ++ decimal after ++ codes " events after its partner failed"
+fell_text fell.AskedStop after = codes ", " ++ decimal after ++ codes " events after its partner asked to be stopped"
+
 -- who is named leader
-abbrev pub named_text : NodeId → (term after : ℕ) → List ℕ
-named_text n term after = node_name n ++ codes " is named leader in term " ++ decimal term ++ codes ", " ++ decimal after ++ codes " events after its partner fell"
+abbrev pub named_text : NodeId → (term after : ℕ) → Fell → List ℕ
+named_text n term after how = node_name n ++ codes " is named leader in term " ++ decimal term ++ fell_text how after
 
 -- whose state was sent, and how much it is
 abbrev pub moved_text : NodeId → (target entries : ℕ) → List ℕ
@@ -44,7 +50,7 @@ happening_text (happening.Failed n inc) = incarnation_text n (codes "failed") in
 happening_text (happening.Stopped n inc) = incarnation_text n (codes "stopped") inc
 happening_text (happening.AskedStop n inc) = incarnation_text n (codes "asks to be stopped") inc
 happening_text (happening.AskedBack n) = node_name n ++ codes " is asked back by its partner"
-happening_text (happening.Named n term after) = named_text n term after
+happening_text (happening.Named n term after how) = named_text n term after how
 happening_text (happening.Leads n term) = node_name n ++ codes " leads in term " ++ decimal term
 happening_text (happening.Recalled n inc) = incarnation_text n (codes "is to begin") inc
 happening_text (happening.Begun n inc) = incarnation_text n (codes "begins") inc
@@ -119,27 +125,18 @@ orders_in (Some orders) = orders
 
 -- a leader was named
 abbrev pub is_named : Happening → Bool
-is_named (happening.Named n term after) = true
+is_named (happening.Named n term after how) = true
 is_named h = false
 
 -- so it was at what is told here
 abbrev pub is_takeover : Told → Bool
 is_takeover t = is_named t.happening
 
--- yes or no
-abbrev pub done_word : Bool → Word
-done_word true = codes "yes"
-done_word false = codes "no"
-
--- how the run stands: takeovers, rows that egress has emitted, and whether it has merged all
-abbrev pub end_text : (takeovers rows : ℕ) → (done : Bool) → List ℕ
-end_text takeovers rows done = codes "takeovers " ++ decimal takeovers ++ codes "\nrows " ++ decimal rows ++ codes "\ndone " ++ done_word done ++ codes "\n"
-
--- whether egress has merged all
-abbrev pub is_done : Flow → State → Bool
-is_done f s = (egress_in (s.nodes node.Egress)).count == f.total (egress_partition f)
+-- how the run stands: takeovers, rows that egress has emitted, and how it ends, where the plan gives so many rows in all
+abbrev pub end_text : (takeovers rows : ℕ) → RunEnd → (all : ℕ) → List ℕ
+end_text takeovers rows end all = codes "takeovers " ++ decimal takeovers ++ codes "\nrows " ++ decimal rows ++ codes "\nend: " ++ end_words end rows all ++ codes "\n"
 
 -- the whole text
-abbrev pub story_text : List Told → List Order → (rows : ℕ) → (done : Bool) → List ℕ
-story_text told orders rows done =
-    codes "story 1\n" ++ flat_map told_line told ++ flat_map (order_text told) orders ++ end_text (count_by is_takeover told) rows done
+abbrev pub story_text : List Told → List Order → (rows : ℕ) → RunEnd → (all : ℕ) → List ℕ
+story_text told orders rows end all =
+    codes "story 2\n" ++ flat_map told_line told ++ flat_map (order_text told) orders ++ end_text (count_by is_takeover told) rows end all

@@ -1,7 +1,8 @@
 // How a run stands at its end.
-ghost use Rattle.run_story.specs.StoryText.{done_word, end_text, is_takeover};
+ghost use Rattle.run_story.specs.StoryText.{end_text, is_takeover};
 ghost use Rattle.std.specs.Prelude.{◌≡◌, ◌++◌, OnOk, count_by, string_bytes};
 
+use run_end::{RunEnd, push_run_end};
 use run_watch::{Happening, Told};
 use tuple_edge::OutOfMemory;
 
@@ -15,8 +16,8 @@ fn is_takeover(told: &Told) -> bool
     }
 }
 
-// How often a leader was named.
-pub(crate) fn takeovers(told: &[Told]) -> usize
+/// How often a leader was named.
+pub fn takeovers(told: &[Told]) -> usize
     ensures { result ≡ count_by is_takeover told.now }
 {
     let mut count = 0;
@@ -28,23 +29,19 @@ pub(crate) fn takeovers(told: &[Told]) -> usize
     count
 }
 
-fn done_word(done: bool) -> &'static str
-    ensures { result.now ≡ done_word done }
-{
-    if done { "yes" } else { "no" }
-}
-
 // Appends the last lines.
 pub(crate) fn push_end(
     text: &mut String,
     takeovers: usize,
-    rows: usize,
-    done: bool,
+    rows: u64,
+    end: RunEnd,
+    all: u64,
 ) -> Result<(), OutOfMemory>
-    ensures { OnOk result (string_bytes text.new ≡ string_bytes text.old ++ end_text takeovers rows done) }
+    ensures { OnOk result (string_bytes text.new ≡ string_bytes text.old ++ end_text takeovers rows end all) }
 {
-    let word = done_word(done);
     write!(text, "takeovers {takeovers}\n")?;
-    write!(text, "rows {rows}\ndone {word}\n")?;
+    write!(text, "rows {rows}\nend: ")?;
+    push_run_end(text, end, rows, all)?;
+    text.push_str("\n")?;
     Ok(())
 }

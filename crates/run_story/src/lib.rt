@@ -10,4 +10,6 @@ mod lines;
 mod orders;
 mod story;
 
+pub use ends::takeovers;
+pub use orders::{has_fired, is_asked_back, order_word};
 pub use story::write_story;

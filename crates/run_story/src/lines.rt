@@ -1,12 +1,12 @@
 // The lines of what happened.
 ghost use Rattle.run_journal.specs.Text.{node_name};
-ghost use Rattle.run_story.specs.StoryText.{caught_up_text, happening_text, incarnation_text, moved_text, named_text, pair_text, place_text, told_line};
+ghost use Rattle.run_story.specs.StoryText.{caught_up_text, fell_text, happening_text, incarnation_text, moved_text, named_text, pair_text, place_text, told_line};
 ghost use Rattle.std.specs.Fmt.{decimal};
 ghost use Rattle.std.specs.List.{flat_map};
 ghost use Rattle.std.specs.Prelude.{◌≡◌, ◌++◌, OnOk, codes, string_bytes};
 
 use run_journal::push_node;
-use run_watch::{Happening, Told};
+use run_watch::{Fell, Happening, Told};
 use tuple_edge::{NodeId, OutOfMemory};
 
 // Appends something of a node in an incarnation.
@@ -31,15 +31,38 @@ fn push_pair(text: &mut String, stage: u32, part: u32, words: &str) -> Result<()
     Ok(())
 }
 
+// Appends how long ago a partner fell, and how.
+fn push_fell(text: &mut String, fell: Fell, after: u64) -> Result<(), OutOfMemory>
+    ensures { OnOk result (string_bytes text.new ≡ string_bytes text.old ++ fell_text fell after) }
+{
+    match fell {
+        Fell::Never => {}
+        Fell::Failed => {
+            write!(text, ", {after} events after its partner failed")?;
+        }
+        Fell::AskedStop => {
+            write!(
+                text,
+                ", {after} events after its partner asked to be stopped"
+            )?;
+        }
+    }
+    Ok(())
+}
+
 // Appends who is named leader.
-fn push_named(text: &mut String, node: NodeId, term: u64, after: u64) -> Result<(), OutOfMemory>
-    ensures { OnOk result (string_bytes text.new ≡ string_bytes text.old ++ named_text node term after) }
+fn push_named(
+    text: &mut String,
+    node: NodeId,
+    term: u64,
+    after: u64,
+    fell: Fell,
+) -> Result<(), OutOfMemory>
+    ensures { OnOk result (string_bytes text.new ≡ string_bytes text.old ++ named_text node term after fell) }
 {
     push_node(text, node)?;
-    write!(
-        text,
-        " is named leader in term {term}, {after} events after its partner fell"
-    )?;
+    write!(text, " is named leader in term {term}")?;
+    push_fell(text, fell, after)?;
     Ok(())
 }
 
@@ -100,7 +123,12 @@ fn push_happening(text: &mut String, happening: &Happening) -> Result<(), OutOfM
             push_incarnation(text, node, "asks to be stopped", inc)
         }
         Happening::AskedBack { node } => push_asked_back(text, node),
-        Happening::Named { node, term, after } => push_named(text, node, term, after),
+        Happening::Named {
+            node,
+            term,
+            after,
+            fell,
+        } => push_named(text, node, term, after, fell),
         Happening::Leads { node, term } => push_leads(text, node, term),
         Happening::Recalled { node, inc } => push_incarnation(text, node, "is to begin", inc),
         Happening::Begun { node, inc } => push_incarnation(text, node, "begins", inc),

@@ -54,16 +54,16 @@ fn has_asked(told: &[Told], replica: NodeId) -> bool
         .any(|happened| is_stop_asked(replica, &happened.happening))
 }
 
-// Whether it was ever asked back.
-fn is_asked_back(told: &[Told], replica: NodeId) -> bool
+/// Whether a replica was ever asked back.
+pub fn is_asked_back(told: &[Told], replica: NodeId) -> bool
     ensures { result ≡ was_told (is_back_asked replica) told.now }
 {
     told.iter()
         .any(|happened| is_back_asked(replica, &happened.happening))
 }
 
-// Whether what an order asks of its replica happened.
-fn has_fired(told: &[Told], order: &Order) -> bool
+/// Whether what an order asks of its replica happened.
+pub fn has_fired(told: &[Told], order: &Order) -> bool
     ensures { result ≡ has_fired order.now told.now }
 {
     if order.kill {
@@ -73,7 +73,8 @@ fn has_fired(told: &[Told], order: &Order) -> bool
     }
 }
 
-fn order_word(kill: bool) -> &'static str
+/// Whether an order is to fail or to stop, in a word.
+pub fn order_word(kill: bool) -> &'static str
     ensures { result.now ≡ order_word kill }
 {
     if kill { "kill" } else { "stop" }

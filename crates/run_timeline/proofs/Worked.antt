@@ -21,5 +21,9 @@ worked_timelines = record {
   lost_at_b = refl;
   lost_at_no_other = refl;
   each_two = refl;
+  drawn = refl;
+  not_drawn = refl;
+  title_done = refl;
+  title_lost = refl;
   scale = refl;
 }

@@ -1,5 +1,5 @@
 -- Parts of a timeline worked by hand: six events in two columns, in the second of which the leader fails.
-use Rattle.std.specs.Prelude.{◌≡◌, ℕ, List, [], ◌∷◌, codes, map}
+use Rattle.std.specs.Prelude.{◌≡◌, ℕ, true, false, List, [], ◌∷◌, codes, map}
 use Rattle.std.specs.List.{flat_map}
 use Rattle.tuple_edge.specs.declared.node.NodeId.{NodeId}
 use Rattle.tuple_edge.specs.declared.node.NodeId.TheVariants as node
@@ -11,7 +11,10 @@ use Rattle.lane_chart.specs.Text.{letter_at}
 use Rattle.run_timeline.specs.Cells.{makes_of, replica_cells, rising_cells, rows_of}
 use Rattle.run_timeline.specs.Marks.{column_of, marks_of}
 use Rattle.run_timeline.specs.Ticks.{ticks_of}
+use Rattle.run_timeline.specs.Timeline.{is_drawn, title_of}
+use Rattle.run_end.specs.declared.ends.RunEnd.TheVariants.{Done, Lost}
 use Rattle.run_watch.specs.FrameView.{FrameView}
+use Rattle.run_watch.specs.declared.happening.Fell.TheVariants as fell
 use Rattle.run_watch.specs.declared.happening.Happening.{Happening}
 use Rattle.run_watch.specs.declared.happening.Happening.TheVariants as happening
 use Rattle.run_watch.specs.declared.happening.Told.{Told}
@@ -48,7 +51,7 @@ told_at_five h = record { place = 5; line = 6; made = 3; emitted = 0; happening 
 -- a happening of each kind at replica A or its pair, in the order of the key
 abbrev pub each_kind : List Happening
 each_kind =
-    happening.Lost 1 0 ∷ happening.Failed replica_a 1 ∷ happening.Named replica_a 2 3 ∷ happening.Leads replica_a 2 ∷ happening.Regained 1 0
+    happening.Lost 1 0 ∷ happening.Failed replica_a 1 ∷ happening.Named replica_a 2 3 fell.Failed ∷ happening.Leads replica_a 2 ∷ happening.Regained 1 0
     ∷ happening.AskedStop replica_a 1 ∷ happening.Stopped replica_a 1 ∷ happening.AskedBack replica_a
     ∷ happening.Recalled replica_a 2 ∷ happening.Begun replica_a 2 ∷ happening.Moved replica_a 2 7 ∷ happening.CaughtUp replica_a 2 7 1 ∷ []
 
@@ -98,5 +101,11 @@ pub record WorkedTimelines : Type 0 where
       ∷ codes "!XNLOASBRGMM"
       ∷ codes "!XNLOASBRGMC"
       ∷ []
+  -- where only lanes are drawn in which something happened, the other pair's aren't
+  pub drawn : is_drawn true two_told replica_a ≡ true
+  pub not_drawn : is_drawn true two_told replica_c ≡ false
+  -- a run that has merged all is done, one with a lost pair says so, and what that costs
+  pub title_done : title_of two_frames Done 1 ≡ codes "6 events, 3 makes, 1 rows, done"
+  pub title_lost : title_of two_frames (Lost 1 0) 5 ≡ codes "6 events, 3 makes, 1 rows, pair 1.0 is lost: 1 rows, 5 with all"
   -- the scale has its beginning and its end
   pub scale : ticks_of two_frames ≡ record { column = 0; span = 2; number = 0 } ∷ record { column = 2; span = 0; number = 6 } ∷ []

@@ -3,12 +3,13 @@ ghost use Rattle.lane_chart.specs.ChartView.{lane_shown};
 ghost use Rattle.run_journal.specs.Text.{node_name};
 ghost use Rattle.run_timeline.specs.Cells.{makes_of, rows_of};
 ghost use Rattle.run_timeline.specs.Nodes.{replicas_of};
-ghost use Rattle.run_timeline.specs.Timeline.{end_lane, lanes_of, replica_lane, replica_lanes};
+ghost use Rattle.run_timeline.specs.Timeline.{end_lane, has_told, is_drawn, lanes_of, one_lane, replica_lane, replica_lanes};
 ghost use Rattle.std.specs.Prelude.{◌≡◌, [], ◌∷◌, ◌++◌, IfOk, OnOk, codes, map, string_bytes};
 
 use crate::cells::{makes_of, replica_cells, rising_cells, rows_of};
 use crate::marks::marks_of;
 use crate::nodes::replicas_of;
+use crate::signs::stands_in;
 use lane_chart::Lane;
 use plan_reader::Plan;
 use run_journal::push_node;
@@ -56,7 +57,22 @@ fn replica_lane(
     Ok(Lane { name, cells, marks })
 }
 
-// Appends the lane of a replica.
+// Whether something that is told stands in the lane of a node.
+fn has_told(told: &[Told], node: NodeId) -> bool
+    ensures { result ≡ has_told told.now node }
+{
+    told.iter()
+        .any(|happened| stands_in(node, happened.happening))
+}
+
+// Whether the lane of a replica is drawn.
+fn is_drawn(only: bool, told: &[Told], node: NodeId) -> bool
+    ensures { result ≡ is_drawn only told.now node }
+{
+    !only || has_told(told, node)
+}
+
+// Appends the lane of a replica, where it is drawn.
 fn push_replica_lane(
     lanes: &mut Vec<Lane>,
     alloc: Global,
@@ -64,9 +80,13 @@ fn push_replica_lane(
     told: &[Told],
     place: usize,
     node: NodeId,
+    only: bool,
 ) -> Result<(), OutOfMemory>
-    ensures { OnOk result (map lane_shown lanes.new.items ≡ map lane_shown lanes.old.items ++ replica_lane frames.now told.now place node ∷ []) }
+    ensures { OnOk result (map lane_shown lanes.new.items ≡ map lane_shown lanes.old.items ++ one_lane only frames.now told.now place node) }
 {
+    if !is_drawn(only, told, node) {
+        return Ok(());
+    }
     let lane = replica_lane(alloc, frames, told, place, node)?;
     lanes.push(lane)?;
     Ok(())
@@ -79,11 +99,12 @@ fn push_replica_lanes(
     frames: &[Frame],
     told: &[Told],
     nodes: &[NodeId],
+    only: bool,
 ) -> Result<(), OutOfMemory>
-    ensures { OnOk result (map lane_shown lanes.new.items ≡ map lane_shown lanes.old.items ++ replica_lanes frames.now told.now nodes.now) }
+    ensures { OnOk result (map lane_shown lanes.new.items ≡ map lane_shown lanes.old.items ++ replica_lanes only frames.now told.now nodes.now) }
 {
     for (place, node) in nodes.iter().enumerate() {
-        push_replica_lane(lanes, alloc, frames, told, place, *node)?;
+        push_replica_lane(lanes, alloc, frames, told, place, *node, only)?;
     }
     Ok(())
 }
@@ -123,11 +144,12 @@ fn push_plan_lanes(
     plan: &Plan,
     frames: &[Frame],
     told: &[Told],
+    only: bool,
 ) -> Result<(), OutOfMemory>
-    ensures { OnOk result (map lane_shown lanes.new.items ≡ map lane_shown lanes.old.items ++ replica_lanes frames.now told.now (replicas_of plan.now)) }
+    ensures { OnOk result (map lane_shown lanes.new.items ≡ map lane_shown lanes.old.items ++ replica_lanes only frames.now told.now (replicas_of plan.now)) }
 {
     let nodes = replicas_of(alloc, plan)?;
-    push_replica_lanes(lanes, alloc, frames, told, &nodes)
+    push_replica_lanes(lanes, alloc, frames, told, &nodes, only)
 }
 
 // Appends all lanes, from ingress to egress.
@@ -137,11 +159,12 @@ fn push_lanes(
     plan: &Plan,
     frames: &[Frame],
     told: &[Told],
+    only: bool,
 ) -> Result<(), OutOfMemory>
-    ensures { OnOk result (map lane_shown lanes.new.items ≡ map lane_shown lanes.old.items ++ lanes_of plan.now frames.now told.now) }
+    ensures { OnOk result (map lane_shown lanes.new.items ≡ map lane_shown lanes.old.items ++ lanes_of only plan.now frames.now told.now) }
 {
     push_ingress_lane(lanes, alloc, frames)?;
-    push_plan_lanes(lanes, alloc, plan, frames, told)?;
+    push_plan_lanes(lanes, alloc, plan, frames, told, only)?;
     push_egress_lane(lanes, alloc, frames)
 }
 
@@ -151,10 +174,11 @@ pub(crate) fn lanes_of(
     plan: &Plan,
     frames: &[Frame],
     told: &[Told],
+    only: bool,
 ) -> Result<Vec<Lane>, OutOfMemory>
-    ensures { IfOk result (λ lanes. map lane_shown lanes.items ≡ lanes_of plan.now frames.now told.now) }
+    ensures { IfOk result (λ lanes. map lane_shown lanes.items ≡ lanes_of only plan.now frames.now told.now) }
 {
     let mut lanes = Vec::new(alloc);
-    push_lanes(&mut lanes, alloc, plan, frames, told)?;
+    push_lanes(&mut lanes, alloc, plan, frames, told, only)?;
     Ok(lanes)
 }

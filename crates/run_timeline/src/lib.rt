@@ -17,4 +17,5 @@ mod ticks;
 mod timeline;
 
 pub use law::{ranks_are_places, worked_timelines};
+pub use signs::name_of;
 pub use timeline::chart_of;

@@ -85,8 +85,8 @@ pub(crate) fn letter_of(happening: Happening) -> &'static str
     }
 }
 
-// The name of a kind of happening.
-pub(crate) fn name_of(happening: Happening) -> &'static str
+/// The name of a kind of happening.
+pub fn name_of(happening: Happening) -> &'static str
     ensures { result.now ≡ name_of happening }
 {
     match happening {

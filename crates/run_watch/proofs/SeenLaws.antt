@@ -17,6 +17,7 @@ use Rattle.flux_core.proofs.Following.{along_none, followed_all}
 use Rattle.run_watch.specs.Seen.{HasHalted, HasSeen, HasStopped}
 use Rattle.run_watch.specs.TraceView.{TraceView}
 use Rattle.run_watch.specs.Watching.{fallen, fallen_along, told_along, told_by}
+use Rattle.run_watch.specs.declared.trace.Fall.{Fall}
 use Rattle.run_watch.specs.declared.watching.WatchError.{WatchError}
 use Rattle.run_watch.specs.declared.watching.WatchError.TheVariants as error
 
@@ -26,18 +27,18 @@ pub events_joined : (xs ys : List Lined) → events_of (xs ++ ys) ≡ events_of 
 events_joined [] ys = refl
 events_joined (x ∷ xs) ys = λ j. x.event ∷ events_joined xs ys j
 
-fallen_joined : (place : ℕ) (falls : NodeId → ℕ) (xs ys : List Lined) → fallen_along place falls (xs ++ ys) ≡ fallen_along (place + length xs) (fallen_along place falls xs) ys
+fallen_joined : (place : ℕ) (falls : NodeId → Fall) (xs ys : List Lined) → fallen_along place falls (xs ++ ys) ≡ fallen_along (place + length xs) (fallen_along place falls xs) ys
 fallen_joined place falls [] ys = ap (λ k. fallen_along k falls ys) {x = place} {y = place + 0} (omega arith)
 fallen_joined place falls (x ∷ xs) ys =
     fallen_joined (place + 1) (fallen (place + 1) x.event falls) xs ys
     ∙ ap (λ k. fallen_along k (fallen_along (place + 1) (fallen (place + 1) x.event falls) xs) ys) {x = place + 1 + length xs} {y = place + length (x ∷ xs)} (omega arith)
 
 module _ (plan : PlanView) (inputs : List Input) where
-  told_none : (place : ℕ) (falls : NodeId → ℕ) (ys : List Lined) (why : Refusal) → told_along plan inputs place falls ys (Err why) ≡ []
+  told_none : (place : ℕ) (falls : NodeId → Fall) (ys : List Lined) (why : Refusal) → told_along plan inputs place falls ys (Err why) ≡ []
   told_none place falls [] why = refl
   told_none place falls (y ∷ ys) why = refl
 
-  pub told_joined : (place : ℕ) (falls : NodeId → ℕ) (xs ys : List Lined) (r : Result State Refusal) → told_along plan inputs place falls (xs ++ ys) r
+  pub told_joined : (place : ℕ) (falls : NodeId → Fall) (xs ys : List Lined) (r : Result State Refusal) → told_along plan inputs place falls (xs ++ ys) r
       ≡ told_along plan inputs place falls xs r ++ told_along plan inputs (place + length xs) (fallen_along place falls xs) ys (follow (flow_of plan inputs) (events_of xs) r)
   told_joined place falls [] ys r = ap (λ k. told_along plan inputs k falls ys r) {x = place} {y = place + 0} (omega arith)
   told_joined place falls (x ∷ xs) ys (Err why) = sym (told_none (place + length (x ∷ xs)) (fallen_along place falls (x ∷ xs)) ys why)

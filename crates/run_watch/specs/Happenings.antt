@@ -15,7 +15,9 @@ use Rattle.run_watch.specs.declared.glimpse.Glimpse.TheVariants as glimpse
 use Rattle.run_watch.specs.declared.glimpse.Known.{Known}
 use Rattle.run_watch.specs.declared.glimpse.Moving.{Moving}
 use Rattle.run_watch.specs.declared.happening.Happening.{Happening}
+use Rattle.run_watch.specs.declared.happening.Fell.TheVariants as fell
 use Rattle.run_watch.specs.declared.happening.Happening.TheVariants as happening
+use Rattle.run_watch.specs.declared.trace.Fall.{Fall}
 
 -- ---- at a replica
 
@@ -65,13 +67,21 @@ abbrev pub member : NodeId → Which → NodeId
 member (node.Control stage part) w = node.Replica stage part w
 member n w = n
 
--- who is named leader, at a place of the list: so many events after the partner last fell
-abbrev pub named_at : ℕ → (NodeId → ℕ) → NodeId → (term : ℕ) → Option Which → Option Happening
+-- a replica that never fell
+abbrev pub no_fall : Fall
+no_fall = record { place = 0; how = fell.Never }
+
+-- who is named leader at a place of the list, so many events after a fall of the partner
+abbrev pub named_after : ℕ → Fall → (leader : NodeId) → (term : ℕ) → Happening
+named_after place fall leader term = happening.Named leader term (place - fall.place) fall.how
+
+-- who is named leader, at a place of the list: so many events after the partner last fell, and how it did
+abbrev pub named_at : ℕ → (NodeId → Fall) → NodeId → (term : ℕ) → Option Which → Option Happening
 named_at place falls n term None = None
-named_at place falls n term (Some w) = let leader = member n w in Some (happening.Named leader term (place - falls (partner_node leader)))
+named_at place falls n term (Some w) = let leader = member n w in Some (named_after place (falls (partner_node leader)) leader term)
 
 -- a leader is named, where the controller's term rose
-abbrev pub named : ℕ → (NodeId → ℕ) → NodeId → (before after : Glimpse) → Option Happening
+abbrev pub named : ℕ → (NodeId → Fall) → NodeId → (before after : Glimpse) → Option Happening
 named place falls n (glimpse.Control term leader a b) (glimpse.Control risen next c d) = if nat_lt term risen then named_at place falls n risen next else None
 named place falls n before after = None
 
@@ -112,8 +122,8 @@ each None = []
 each (Some x) = x ∷ []
 
 -- What happens at the event of this place, where a step leads from the one state to the other: at its node, then to its pair. `falls` has
--- the place at which each replica last failed or asked to be stopped.
-abbrev pub happenings : Flow → (place : ℕ) → (falls : NodeId → ℕ) → Event → (before after : State) → List Happening
+-- where each replica fell last, and how.
+abbrev pub happenings : Flow → (place : ℕ) → (falls : NodeId → Fall) → Event → (before after : State) → List Happening
 happenings f place falls e s t =
     let n = at_node e in
     let x = glimpse_of f s n in

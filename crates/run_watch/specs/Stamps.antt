@@ -12,13 +12,14 @@ use Rattle.run_watch.specs.declared.glimpse.Glimpse.{Glimpse}
 use Rattle.run_watch.specs.declared.happening.Happening.{Happening}
 use Rattle.run_watch.specs.declared.happening.Told.{Told}
 use Rattle.run_watch.specs.declared.trace.At.{At}
+use Rattle.run_watch.specs.declared.trace.Fall.{Fall}
 
 -- a happening, told where the run is
 abbrev pub stamped : At → Happening → Told
 stamped at h = record { place = at.place; line = at.line; made = at.made; emitted = at.emitted; happening = h }
 
 -- what happens at an event, by what is seen of its node before and after it, and by what is known of its pair
-abbrev pub seen_happenings : (place : ℕ) → (falls : NodeId → ℕ) → Event → NodeId → (before after : Glimpse) → (pair : Option Happening) → List Happening
+abbrev pub seen_happenings : (place : ℕ) → (falls : NodeId → Fall) → Event → NodeId → (before after : Glimpse) → (pair : Option Happening) → List Happening
 seen_happenings place falls e n before after pair =
     each (happened e before after) ++ each (named place falls n before after) ++ each (recalled n A before after) ++ each (recalled n B before after) ++ each pair
 

@@ -12,30 +12,32 @@ use Rattle.pair_machine.specs.Machine.{State, egress_in, ingress_in, step}
 use Rattle.pair_machine.specs.Messages.{Refusal}
 use Rattle.pair_machine.specs.Numbers.{is_node}
 use Rattle.run_journal.specs.declared.lined.Lined.{Lined}
-use Rattle.run_watch.specs.Happenings.{happenings}
+use Rattle.run_watch.specs.Happenings.{happenings, no_fall}
+use Rattle.run_watch.specs.declared.happening.Fell.TheVariants as fell
 use Rattle.run_watch.specs.declared.happening.Happening.{Happening}
 use Rattle.run_watch.specs.declared.happening.Told.{Told}
+use Rattle.run_watch.specs.declared.trace.Fall.{Fall}
 
 -- ---- where replicas fell
 
--- a replica fell here
-abbrev pub fell_at : ℕ → NodeId → (NodeId → ℕ) → NodeId → ℕ
-fell_at place n falls m = if is_node n m then place else falls m
+-- a replica fell so
+abbrev pub fell_at : Fall → NodeId → (NodeId → Fall) → NodeId → Fall
+fell_at fall n falls m = if is_node n m then fall else falls m
 
--- where each replica last fell, after the event of a place: one that fails or asks to be stopped falls there
-abbrev pub fallen : ℕ → Event → (NodeId → ℕ) → NodeId → ℕ
-fallen place (event.Kill n) falls = fell_at place n falls
-fallen place (event.AskStop n) falls = fell_at place n falls
+-- where each replica fell last, and how, after the event of a place: one that fails or asks to be stopped falls there
+abbrev pub fallen : ℕ → Event → (NodeId → Fall) → NodeId → Fall
+fallen place (event.Kill n) falls = fell_at (record { place = place; how = fell.Failed }) n falls
+fallen place (event.AskStop n) falls = fell_at (record { place = place; how = fell.AskedStop }) n falls
 fallen place e falls = falls
 
 -- the same after the events of a list, of which the first has the next place
-abbrev pub fallen_along : ℕ → (NodeId → ℕ) → List Lined → NodeId → ℕ
+abbrev pub fallen_along : ℕ → (NodeId → Fall) → List Lined → NodeId → Fall
 fallen_along place falls [] = falls
 fallen_along place falls (l ∷ ls) = fallen_along (place + 1) (fallen (place + 1) l.event falls) ls
 
--- where each replica last fell before a list's first event: nowhere
-abbrev pub nowhere : NodeId → ℕ
-nowhere n = 0
+-- where each replica fell last before a list's first event: nowhere
+abbrev pub nowhere : NodeId → Fall
+nowhere n = no_fall
 
 -- ---- what is told
 
@@ -53,12 +55,12 @@ module _ (plan : PlanView) (inputs : List Input) where
   told_at place line t h = record { place = place; line = line; made = made_in t; emitted = emitted_in t; happening = h }
 
   -- what is told at an event, where it is a step
-  abbrev pub told_by : (place : ℕ) → (NodeId → ℕ) → Lined → State → Result State Refusal → List Told
+  abbrev pub told_by : (place : ℕ) → (NodeId → Fall) → Lined → State → Result State Refusal → List Told
   told_by place falls l s (Ok t) = map (told_at place l.line t) (happenings (flow_of plan inputs) place falls l.event s t)
   told_by place falls l s (Err why) = []
 
   -- what is told along a list, event by event, of which the first has the next place; it ends at the first event that is no step
-  abbrev pub told_along : (place : ℕ) → (NodeId → ℕ) → List Lined → Result State Refusal → List Told
+  abbrev pub told_along : (place : ℕ) → (NodeId → Fall) → List Lined → Result State Refusal → List Told
   told_along place falls [] r = []
   told_along place falls (l ∷ ls) (Ok s) =
       told_by (place + 1) falls l s (step (flow_of plan inputs) s l.event)

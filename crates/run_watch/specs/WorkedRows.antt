@@ -5,19 +5,20 @@ use Rattle.tuple_edge.specs.declared.node.NodeId.TheVariants as node
 use Rattle.tuple_edge.specs.declared.node.Which.TheVariants.{A, B}
 use Rattle.tuple_edge.specs.declared.status.Status.TheVariants as status
 use Rattle.run_watch.specs.Columns.{cut}
-use Rattle.run_watch.specs.Happenings.{happened, loss, named, recalled, taken, worked}
+use Rattle.run_watch.specs.Happenings.{happened, loss, named, no_fall, recalled, taken, worked}
 use Rattle.run_watch.specs.declared.glimpse.Glimpse.TheVariants as glimpse
+use Rattle.run_watch.specs.declared.happening.Fell.TheVariants as fell
 use Rattle.run_watch.specs.declared.happening.Happening.TheVariants as happening
 
 -- what happens at these events, by what is seen of their nodes; and what these lists are cut into
 pub record WorkedRows : Type 0 where
   -- the leader of pair 1.0 fails
   pub failed : happened (event.Kill (node.Replica 1 0 A)) (glimpse.Running 1 true 1 None) (glimpse.Gone 1) ≡ Some (happening.Failed (node.Replica 1 0 A) 1)
-  -- at event 12 its controller names its partner; it fell at event 5
-  pub named_then : named 12 (λ n. 5) (node.Control 1 0) (glimpse.Control 1 (Some A) (record { status = status.Up; inc = 1 }) (record { status = status.Up; inc = 1 }))
-      (glimpse.Control 2 (Some B) (record { status = status.Down; inc = 1 }) (record { status = status.Up; inc = 1 })) ≡ Some (happening.Named (node.Replica 1 0 B) 2 7)
+  -- at event 12 its controller names its partner; it failed at event 5
+  pub named_then : named 12 (λ n. record { place = 5; how = fell.Failed }) (node.Control 1 0) (glimpse.Control 1 (Some A) (record { status = status.Up; inc = 1 }) (record { status = status.Up; inc = 1 }))
+      (glimpse.Control 2 (Some B) (record { status = status.Down; inc = 1 }) (record { status = status.Up; inc = 1 })) ≡ Some (happening.Named (node.Replica 1 0 B) 2 7 fell.Failed)
   -- no leader is named where the term stays
-  pub not_named : named 12 (λ n. 5) (node.Control 1 0) (glimpse.Control 1 (Some A) (record { status = status.Up; inc = 1 }) (record { status = status.Up; inc = 1 }))
+  pub not_named : named 12 (λ n. no_fall) (node.Control 1 0) (glimpse.Control 1 (Some A) (record { status = status.Up; inc = 1 }) (record { status = status.Up; inc = 1 }))
       (glimpse.Control 1 (Some A) (record { status = status.Up; inc = 1 }) (record { status = status.Down; inc = 1 })) ≡ None
   -- the partner hears that it leads
   pub leads : taken (node.Replica 1 0 B) (glimpse.Running 1 false 0 None) (glimpse.Running 1 true 2 None) ≡ Some (happening.Leads (node.Replica 1 0 B) 2)

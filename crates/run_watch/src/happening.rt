@@ -1,6 +1,17 @@
 // What is told of a run.
 use tuple_edge::NodeId;
 
+/// How a replica fell that leads no more.
+#[derive(Clone, Copy, Debug, PartialEq, Eq)]
+pub enum Fell {
+    /// It didn't.
+    Never,
+    /// It failed.
+    Failed,
+    /// It asked to be stopped.
+    AskedStop,
+}
+
 /// Something that happened to a replica or a pair, at one event.
 #[derive(Clone, Copy)]
 pub enum Happening {
@@ -23,12 +34,13 @@ pub enum Happening {
     AskedBack {
         node: NodeId,
     },
-    /// The controller named a replica leader, in this term: so many events after its partner last failed or asked to
-    /// be stopped.
+    /// The controller named a replica leader, in this term: so many events after its partner fell last, which did so
+    /// in this way.
     Named {
         node: NodeId,
         term: u64,
         after: u64,
+        fell: Fell,
     },
     /// A replica leads from here on: it heard that it was named.
     Leads {

@@ -21,9 +21,9 @@ mod watching;
 pub use frame::Frame;
 #[doc(hidden)]
 pub use glimpse::{Glimpse, Known, Moving};
-pub use happening::{Happening, Told};
+pub use happening::{Fell, Happening, Told};
 pub use law::{last_frames_are_of_the_end, worked_rows};
 pub use mode::Mode;
 #[doc(hidden)]
-pub use trace::{At, Trace};
+pub use trace::{At, Fall, Trace};
 pub use watching::{WatchError, Watched, watch};

@@ -6,7 +6,8 @@ ghost use Rattle.run_watch.specs.declared.glimpse.Moving.{Moving};
 ghost use Rattle.std.specs.Prelude.{◌≡◌, ℕ, Bool, Option};
 
 use crate::glimpse::{Glimpse, Known, Moving};
-use crate::happening::Happening;
+use crate::happening::{Fell, Happening};
+use crate::trace::Fall;
 use std::collections::BTreeMap;
 use tuple_edge::{Event, NodeId, Which};
 
@@ -146,17 +147,20 @@ fn member(node: NodeId, which: Which) -> NodeId
     }
 }
 
-// At which place a replica last failed or asked to be stopped; 0 where it never did.
-fn fall_of(falls: &BTreeMap<NodeId, u64>, node: NodeId) -> u64
+// Where a replica fell last, and how.
+fn fall_of(falls: &BTreeMap<NodeId, Fall>, node: NodeId) -> Fall
     ensures { result ≡ fall_in falls.now node }
 {
-    falls.get(&node).copied().unwrap_or(0)
+    falls.get(&node).copied().unwrap_or(Fall {
+        place: 0,
+        how: Fell::Never,
+    })
 }
 
 // Who is named, so many events after the partner fell.
 fn named_at(
     place: u64,
-    falls: &BTreeMap<NodeId, u64>,
+    falls: &BTreeMap<NodeId, Fall>,
     node: NodeId,
     term: u64,
     leader: Option<Which>,
@@ -164,18 +168,19 @@ fn named_at(
     ensures { result ≡ named_at place (fall_in falls.now) node term leader }
 {
     let leader = member(node, leader?);
-    let fell = fall_of(falls, leader.partner());
+    let fall = fall_of(falls, leader.partner());
     Some(Happening::Named {
         node: leader,
         term,
-        after: place.saturating_sub(fell),
+        after: place.saturating_sub(fall.place),
+        fell: fall.how,
     })
 }
 
 // A leader is named.
 pub(crate) fn named(
     place: u64,
-    falls: &BTreeMap<NodeId, u64>,
+    falls: &BTreeMap<NodeId, Fall>,
     node: NodeId,
     before: &Glimpse,
     after: &Glimpse,

@@ -6,7 +6,7 @@ ghost use Rattle.run_watch.specs.Watching.{fallen, fell_at, nowhere};
 ghost use Rattle.std.specs.Prelude.{◌≡◌, ◌<◌, ◌+◌, ◌++◌, ◌^◌, [], OnOk, map};
 
 use crate::glimpse::Glimpse;
-use crate::happening::{Happening, Told};
+use crate::happening::{Fell, Happening, Told};
 use crate::telling::{happened, named, recalled};
 use std::alloc::Global;
 use std::collections::BTreeMap;
@@ -21,11 +21,18 @@ pub struct At {
     pub emitted: u64,
 }
 
+/// Where a replica fell last, and how; one that never did is as if it had before the first event.
+#[derive(Clone, Copy)]
+pub struct Fall {
+    pub place: u64,
+    pub how: Fell,
+}
+
 /// What was told so far, where each replica last fell, and how many events there were.
 #[derive(Drop)]
 pub struct Trace {
     told: Vec<Told>,
-    falls: BTreeMap<NodeId, u64>,
+    falls: BTreeMap<NodeId, Fall>,
     place: u64,
 }
 
@@ -97,13 +104,13 @@ impl Trace {
         tell(&mut self.told, at, loss)
     }
 
-    // A replica falls at a place.
-    fn fall(&mut self, node: NodeId, place: u64) -> Result<(), OutOfMemory>
+    // A replica falls.
+    fn fall(&mut self, node: NodeId, fall: Fall) -> Result<(), OutOfMemory>
         ensures told { self.new.told.items ≡ self.old.told.items }
-        ensures falls { OnOk result (fall_in self.new.falls ≡ fell_at place node (fall_in self.old.falls)) }
+        ensures falls { OnOk result (fall_in self.new.falls ≡ fell_at fall node (fall_in self.old.falls)) }
         ensures place { self.new.place ≡ self.old.place }
     {
-        self.falls.insert(node, place)?;
+        self.falls.insert(node, fall)?;
         Ok(())
     }
 
@@ -117,7 +124,20 @@ impl Trace {
         let place = self.place + 1;
         self.place = place;
         match *event {
-            Event::Kill { node } | Event::AskStop { node } => self.fall(node, place),
+            Event::Kill { node } => self.fall(
+                node,
+                Fall {
+                    place,
+                    how: Fell::Failed,
+                },
+            ),
+            Event::AskStop { node } => self.fall(
+                node,
+                Fall {
+                    place,
+                    how: Fell::AskedStop,
+                },
+            ),
             Event::Take { .. }
             | Event::Work { .. }
             | Event::Make

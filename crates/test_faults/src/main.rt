@@ -1,17 +1,20 @@
 //! The program `test_faults FILE`: each line of the file is a case, a kind of input and its bytes, and it writes what is
 //! said of the bytes. What has to come stands in the file `stdout`.
 //!
-//! A case is `plan`, `trades`, `cash` or `script`, a space and the bytes, in which `\n` is LF, `\r` is CR, `\t` is a
+//! A case is `plan`, `trades`, `cash` or `script`, or `all-trades`, `all-cash` or `sift`, a space and the bytes, in which `\n` is LF, `\r` is CR, `\t` is a
 //! tab, `\m` the mark EF BB BF and `\\` a backslash. A script is for a plan of one stage in two partitions, and of
 //! movements three have room.
 #![tactic(auto)]
 
 use flux_outside::{Files, Got, StdFiles};
-use input_faults::{cash_fault, plan_fault, script_fault, trades_fault};
+use input_faults::{
+    all_cash_faults, all_trades_faults, cash_fault, plan_fault, script_fault, trades_fault,
+};
 use plan_reader::{Plan, read_plan};
 use std::alloc::Global;
 use std::env;
 use std::process::ExitCode;
+use trade_sift::sift_trades;
 use tuple_edge::OutOfMemory;
 
 /// The plan for which scripts are.
@@ -87,8 +90,42 @@ fn fault_of(
         b"plan" => plan_fault(alloc, "plan.txt", bytes),
         b"trades" => trades_fault(alloc, "trades.csv", bytes),
         b"cash" => cash_fault(alloc, "cash.csv", bytes, ROOM),
+        b"all-trades" => all_trades_faults(alloc, "trades.csv", bytes),
+        b"all-cash" => all_cash_faults(alloc, "cash.csv", bytes, ROOM),
+        b"sift" => parts_of(alloc, bytes),
         _ => script_fault(alloc, "script.txt", bytes, plan),
     }
+}
+
+// Both parts of a file of trades, or why it is refused.
+fn parts_of(alloc: Global, bytes: &[u8]) -> Result<Option<String>, OutOfMemory> {
+    match sift_trades(alloc, bytes) {
+        Ok(sifted) => {
+            let (kept, rejects) = sifted.into_texts();
+            let mut said = String::new(alloc);
+            said.push_str("kept:\n")?;
+            push_text(&mut said, &kept)?;
+            said.push_str("rejects:\n")?;
+            push_text(&mut said, &rejects)?;
+            Ok(Some(said))
+        }
+        Err(error) => {
+            let said = format!(in alloc; "refused: {error}")?;
+            Ok(Some(said))
+        }
+    }
+}
+
+// Appends bytes that are ASCII.
+fn push_text(said: &mut String, bytes: &[u8]) -> Result<(), OutOfMemory> {
+    for byte in bytes {
+        if *byte < 128 {
+            said.push(char::from(*byte))?;
+        } else {
+            said.push('?')?;
+        }
+    }
+    Ok(())
 }
 
 // The bytes of a case.

@@ -1,6 +1,7 @@
 use Rattle.std.proofs.Common.{◌∙◌, Err, ap, map, option_map, refl, string_bytes, sym}
 use Rattle.command_course.specs.declared.stop.Stop.TheVariants as stop
 use Rattle.command_course.proofs.Courses.{reads_nothing}
+use Rattle.live_top.specs.Lines.{name}
 use Rattle.live_top.specs.Words.{course_over, files_in}
 use Rattle.live_top.proofs.AsRun.{asks_for, asks_nothing, asks_something}
 use Rattle.live_top.proofs.Inputs.{own_reads, own_stops}
@@ -50,4 +51,4 @@ returns-in-None-clause-reads g c = reads_nothing (g.F.Files.told c.args.files.no
 
 pub returns-in-Err-clause-reads : goal.returns-in-Err-clause-reads
 returns-in-Err-clause-reads g c =
-    own_reads Given (g.F.Files.told c.args.files.now) (g.F.Files.told c.given_at.new.files) c.in-Err.stop c.own_stop.result c.own_stop.ensures c.in-Err.ensures.reads
+    own_reads name Given (g.F.Files.told c.args.files.now) (g.F.Files.told c.given_at.new.files) c.in-Err.stop c.own_stop.result c.own_stop.ensures c.in-Err.ensures.reads

@@ -5,7 +5,7 @@ use Rattle.look_command.proofs.Judged.{ok_answer}
 use Rattle.look_command.proofs.faults.judged.Goals as goal
 
 pub returns-in-Ok : goal.returns-in-Ok
-returns-in-Ok c = ok_answer c.planned.result _ _ (ap (λ r. judged (tried_of r) (given_of c.args.said.now)) (sym c.in-Ok.is)) c.planned.ensures
+returns-in-Ok c = ok_answer c.planned.result _ _ (ap (λ r. judged c.args.json (tried_of r) (given_of c.args.said.now)) (sym c.in-Ok.is)) c.planned.ensures
 
 pub returns-in-Err : goal.returns-in-Err
-returns-in-Err c = ok_answer c.faulty.result _ _ (ap (λ r. judged (tried_of r) (given_of c.args.said.now)) (sym c.in-Err.is)) c.faulty.ensures
+returns-in-Err c = ok_answer c.faulty.result _ _ (ap (λ r. judged c.args.json (tried_of r) (given_of c.args.said.now)) (sym c.in-Err.is)) c.faulty.ensures

@@ -8,14 +8,14 @@ use Rattle.look_command.proofs.story.story_text.Goals as goal
 pub returns-in-Ok-clause-gives : goal.returns-in-Ok-clause-gives
 returns-in-Ok-clause-gives g c =
     ok_gives answer_of (g.F.Files.told c.args.files.now) (g.F.Files.told c.feed_at.new.files) (g.F.Files.told c.fed_story.new.files)
-    (with_feed c.args.plan.now c.args.trades.now (option_map (λ n. n.now) c.args.cash)) (tells_story c.args.events.now (option_map (λ n. n.now) c.args.script)) (feed_of c.in-Ok.feed) c.fed_story.result
+    (with_feed c.args.plan.now c.args.trades.now (option_map (λ n. n.now) c.args.cash)) (tells_story c.args.events.now (option_map (λ n. n.now) c.args.script) c.args.json) (feed_of c.in-Ok.feed) c.fed_story.result
     c.in-Ok.ensures.reads.contents c.in-Ok.ensures.gives c.fed_story.ensures.gives
 
 pub returns-in-Ok-clause-stops : goal.returns-in-Ok-clause-stops
 returns-in-Ok-clause-stops g c =
     err_stops (g.F.Files.told c.args.files.now) (g.F.Files.told c.feed_at.new.files) (g.F.Files.told c.fed_story.new.files)
-    (with_feed c.args.plan.now c.args.trades.now (option_map (λ n. n.now) c.args.cash)) (tells_story c.args.events.now (option_map (λ n. n.now) c.args.script)) (feed_of c.in-Ok.feed) c.fed_story.result
+    (with_feed c.args.plan.now c.args.trades.now (option_map (λ n. n.now) c.args.cash)) (tells_story c.args.events.now (option_map (λ n. n.now) c.args.script) c.args.json) (feed_of c.in-Ok.feed) c.fed_story.result
     c.in-Ok.ensures.reads.contents c.in-Ok.ensures.gives c.fed_story.ensures.stops
 
 pub returns-in-Err-clause-stops : goal.returns-in-Err-clause-stops
-returns-in-Err-clause-stops g c = λ next. c.in-Err.ensures.stops (λ feed. tells_story c.args.events.now (option_map (λ n. n.now) c.args.script) feed next)
+returns-in-Err-clause-stops g c = λ next. c.in-Err.ensures.stops (λ feed. tells_story c.args.events.now (option_map (λ n. n.now) c.args.script) c.args.json feed next)

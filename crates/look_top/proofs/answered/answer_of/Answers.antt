@@ -17,3 +17,15 @@ returns-in-Timeline-clause-gives g c = rw c.in-Timeline.is c.timeline_text.ensur
 
 pub returns-in-Timeline-clause-stops : goal.returns-in-Timeline-clause-stops
 returns-in-Timeline-clause-stops g c = rw c.in-Timeline.is c.timeline_text.ensures.stops
+
+pub returns-in-Sift-clause-gives : goal.returns-in-Sift-clause-gives
+returns-in-Sift-clause-gives g c = rw c.in-Sift.is c.sift_report.ensures.gives
+
+pub returns-in-Sift-clause-stops : goal.returns-in-Sift-clause-stops
+returns-in-Sift-clause-stops g c = rw c.in-Sift.is c.sift_report.ensures.stops
+
+pub returns-in-Sql-clause-gives : goal.returns-in-Sql-clause-gives
+returns-in-Sql-clause-gives g c = rw c.in-Sql.is c.sql_report.ensures.gives
+
+pub returns-in-Sql-clause-stops : goal.returns-in-Sql-clause-stops
+returns-in-Sql-clause-stops g c = rw c.in-Sql.is c.sql_report.ensures.stops

@@ -1,16 +1,17 @@
 use Rattle.std.proofs.Common.{◌∙◌, Err, ap, map, option_map, refl, string_bytes, sym}
 use Rattle.command_course.specs.declared.stop.Stop.TheVariants as stop
 use Rattle.command_course.proofs.Courses.{reads_nothing}
-use Rattle.look_command.specs.Courses.{way_of}
 use Rattle.look_course.specs.declared.answer.Answer.{Answer}
 use Rattle.look_words.specs.Forms.{request_of}
+use Rattle.look_top.specs.Asked.{way_of}
+use Rattle.look_top.specs.Lines.{name}
 use Rattle.look_top.proofs.Answering.{asked_none, asked_of, asks_something, own_reads, own_stops}
 use Rattle.look_top.proofs.answered.answered.Goals as goal
 
 pub returns-in-Ok-clause-comes : goal.returns-in-Ok-clause-comes
 returns-in-Ok-clause-comes g c =
     record {
-      way = way_of (request_of c.in-Some.command);
+      course = way_of (request_of c.in-Some.command);
       is_asked = asked_of (map string_bytes c.args.words.now) (request_of c.in-Some.command) (sym c.read_words.ensures ∙ ap (option_map request_of) c.in-Some.is);
       fact = c.in-Ok.ensures.gives;
     }
@@ -44,4 +45,4 @@ returns-in-None-clause-reads g c = reads_nothing (g.F.Files.told c.args.files.no
 
 pub returns-in-Err-clause-reads : goal.returns-in-Err-clause-reads
 returns-in-Err-clause-reads g c =
-    own_reads Answer (g.F.Files.told c.args.files.now) (g.F.Files.told c.answer_of.new.files) c.in-Err.stop c.own_stop.result c.own_stop.ensures c.in-Err.ensures.reads
+    own_reads name Answer (g.F.Files.told c.args.files.now) (g.F.Files.told c.answer_of.new.files) c.in-Err.stop c.own_stop.result c.own_stop.ensures c.in-Err.ensures.reads

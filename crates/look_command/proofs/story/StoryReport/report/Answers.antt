@@ -15,7 +15,7 @@ returns-in-Ok-clause-text c =
     let told_is = c.in-Ok.ensures.told opening c.requires.opens (plan_opens_sound c.args.core.now.plan (inputs_of c.args.core.now) limits) in
     if_ok-map c.told.result _ _
     (λ text all s stands. told_story feed.plan feed.inputs c.args.core.now c.watch.new.core c.requires.plan c.requires.inputs c.args.events.now c.in-Ok.watched.told.items told_is
-    c.watch.ensures.plan c.watch.ensures.inputs c.args.self.now.script.now text.items s (all s stands)) c.told.ensures.text
+    c.watch.ensures.plan c.watch.ensures.inputs c.args.self.now.json c.args.self.now.script.now c.args.self.now.all text.items s (all s stands)) c.told.ensures.text
 
 pub returns-in-Ok-clause-followed : goal.returns-in-Ok-clause-followed
 returns-in-Ok-clause-followed c = on_ok c.told.result _ c.in-Ok.ensures.followed

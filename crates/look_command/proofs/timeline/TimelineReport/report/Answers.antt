@@ -18,7 +18,8 @@ returns-in-Ok-clause-text c =
     let frames_are = c.in-Ok.ensures.frames opening c.requires.opens sound in
     if_ok-map c.told.result _ _
     (λ text is s stands. drawn_run feed.plan feed.inputs c.args.core.now c.watch.new.core c.requires.plan c.requires.inputs c.args.events.now c.in-Ok.watched.told.items told_is
-    c.args.self.now.svg c.columns.result (columns_for c.args.self.now.svg) c.in-Ok.watched.frames.items text.items c.columns.ensures.columns frames_are is) c.told.ensures.text
+    c.watch.ensures.plan c.watch.ensures.inputs c.args.self.now.how c.args.self.now.only c.args.self.now.all c.columns.result (columns_for c.args.self.now.how) c.in-Ok.watched.frames.items text.items s
+    c.columns.ensures.columns frames_are (is s stands)) c.told.ensures.text
 
 pub returns-in-Ok-clause-followed : goal.returns-in-Ok-clause-followed
 returns-in-Ok-clause-followed c = on_ok c.told.result _ c.in-Ok.ensures.followed

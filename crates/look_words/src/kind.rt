@@ -1,0 +1,87 @@
+// The options that each command has.
+ghost use Rattle.look_words.specs.Options.{check_option, option_kind, sift_option, story_option, timeline_option};
+ghost use Rattle.std.specs.Prelude.{◌≡◌};
+
+/// An option that has a value.
+#[derive(Clone, Copy)]
+pub(crate) enum Valued {
+    Cash,
+    Script,
+    Rejects,
+}
+
+/// An option that has none.
+#[derive(Clone, Copy)]
+pub(crate) enum Flag {
+    Svg,
+    Json,
+    Only,
+}
+
+/// What an option is.
+#[derive(Clone, Copy)]
+pub(crate) enum OptionKind {
+    WithValue(Valued),
+    Alone(Flag),
+}
+
+#[tactic(auto, unfolding(crate::specs::Options::check_option))]
+fn check_option(name: &str) -> Option<OptionKind>
+    ensures { result ≡ check_option name.now }
+{
+    match name {
+        "cash" => Some(OptionKind::WithValue(Valued::Cash)),
+        "script" => Some(OptionKind::WithValue(Valued::Script)),
+        "json" => Some(OptionKind::Alone(Flag::Json)),
+        _ => None,
+    }
+}
+
+#[tactic(auto, unfolding(crate::specs::Options::story_option))]
+fn story_option(name: &str) -> Option<OptionKind>
+    ensures { result ≡ story_option name.now }
+{
+    match name {
+        "cash" => Some(OptionKind::WithValue(Valued::Cash)),
+        "script" => Some(OptionKind::WithValue(Valued::Script)),
+        "json" => Some(OptionKind::Alone(Flag::Json)),
+        _ => None,
+    }
+}
+
+#[tactic(auto, unfolding(crate::specs::Options::timeline_option))]
+fn timeline_option(name: &str) -> Option<OptionKind>
+    ensures { result ≡ timeline_option name.now }
+{
+    match name {
+        "cash" => Some(OptionKind::WithValue(Valued::Cash)),
+        "svg" => Some(OptionKind::Alone(Flag::Svg)),
+        "json" => Some(OptionKind::Alone(Flag::Json)),
+        "only" => Some(OptionKind::Alone(Flag::Only)),
+        _ => None,
+    }
+}
+
+#[tactic(auto, unfolding(crate::specs::Options::sift_option))]
+fn sift_option(name: &str) -> Option<OptionKind>
+    ensures { result ≡ sift_option name.now }
+{
+    match name {
+        "rejects" => Some(OptionKind::WithValue(Valued::Rejects)),
+        _ => None,
+    }
+}
+
+/// What an option of this name is of a command of that one, if it has such an option.
+#[tactic(auto, unfolding(crate::specs::Options::option_kind))]
+pub(crate) fn option_kind(command: &str, name: &str) -> Option<OptionKind>
+    ensures { result ≡ option_kind command.now name.now }
+{
+    match command {
+        "check" => check_option(name),
+        "story" => story_option(name),
+        "timeline" => timeline_option(name),
+        "sift" => sift_option(name),
+        _ => None,
+    }
+}

@@ -1,0 +1,11 @@
+use Rattle.std.proofs.Common.{ℕ, List, ◌++◌, ◌∙◌, ap}
+use Rattle.csv.specs.Records.{fields_of}
+use Rattle.csv.specs.Writing.{default_writer, row_text}
+use Rattle.record_faults.proofs.Judges.{alone_cash}
+use Rattle.record_faults.proofs.cash.CashJudge.alone.Goals as goal
+
+pub returns : goal.returns
+returns c = λ columns stands is.
+    let fields = fields_of c.args.fields.now in
+    let text_is = c.deref-2.ensures.value ∙ c.in_ok-text.ensures ∙ ap (λ (front : List ℕ). front ++ row_text default_writer fields) c.deref.ensures.value in
+    alone_cash c.args.self.now columns fields c.deref-2.result.now c.in_ok-fault.fault stands is text_is c.in_ok-fault.ensures.short c.in_ok-fault.ensures.fault

@@ -1,0 +1,25 @@
+//! Why each record of a file of trades or of cash movements is refused, if it is.
+//!
+//! `trade_faults` and `cash_faults` judge one record after the other, each behind those before it that are accepted; the
+//! first fault is the one by which `read_trades` and `read_cash` refuse the file. `push_row` writes a record as
+//! csv writes it, and a law says that the header and the accepted records make a file of just their rows. It stands on
+//! `trade_text` for what a record says, and on csv for what a record is.
+#![tactic(auto)]
+
+mod cash;
+mod each;
+mod file;
+mod header;
+mod law;
+mod symbols;
+mod trades;
+mod written;
+
+pub use cash::cash_faults;
+pub use file::open_file;
+pub use header::{
+    is_column_at, next_record, open_records, place_in, starts_with_mark, without_mark,
+};
+pub use law::{accepted_are_accepted, first_is_the_refusal};
+pub use trades::trade_faults;
+pub use written::{guarded, push_row};

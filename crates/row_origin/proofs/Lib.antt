@@ -1,0 +1,5 @@
+pub mod Output
+pub mod Placing
+pub mod Stages
+pub mod Sums
+pub mod WorkedRows

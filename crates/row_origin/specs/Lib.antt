@@ -1,0 +1,5 @@
+pub mod Laws
+pub mod Marks
+pub mod Origins
+pub mod Stages
+pub mod WorkedRows
