@@ -32,11 +32,11 @@ MEMORY=4
 # .ci/docs-name-what-is-there checks.
 FIRST_BUILD="52 minutes on four processors, the second half of it beside other work"
 HOW_LONG="from nothing that took $FIRST_BUILD"
-[ "$name" = flux ] || HOW_LONG="where flux is built, and the toolchain keeps what it passed, that took half a minute; from nothing it takes some more than flux, which took $FIRST_BUILD"
+[ "$name" = flux ] || HOW_LONG="where flux is built, and the toolchain keeps what it passed, that took a few minutes; from nothing it takes some more than flux, which took $FIRST_BUILD"
 # As the program says it; .ci/run compares them.
 usage='flux: usage: eval PLAN TRADES [--cash C] | run PLAN TRADES [options] | replay PLAN TRADES EVENTS [--cash C] | make START COUNT | trial PLAN START COUNT [options] | trio PLAN TRADES EVENTS | move PLAN TRADES MOVES'
 [ "$name" != flux_live ] || usage='flux_live: usage: PLAN TRADES [SCRIPT]'
-[ "$name" != flux_look ] || usage='flux_look: usage: check PLAN [TRADES] [--cash C] [--script S] [--json] | story PLAN TRADES EVENTS [--cash C] [--script S] [--json] | timeline PLAN TRADES EVENTS [--cash C] [--svg | --json] [--only] | sift TRADES --rejects R | sql PLAN'
+[ "$name" != flux_look ] || usage='flux_look: usage: check PLAN [TRADES] [--cash C] [--script S] [--all] [--json] | story PLAN TRADES EVENTS [--cash C] [--script S] [--json] | timeline PLAN TRADES EVENTS [--cash C] [--svg | --json] [--only] | rehearse PLAN TRADES SCRIPT [--cash C] [--threads N] [--turns T] [--svg FILE] | why PLAN TRADES N [--cash C] [--all] | trace PLAN TRADES LINE [--cash C] | sift TRADES --rejects R | sql PLAN'
 
 # What `[options]` of the usage line stands for.
 run_options='[--cash C] [--script S] [--threads N] [--turns T] [--journal J]'
@@ -253,13 +253,18 @@ help_look() {
   cat <<'TEXT'
 flux_look: what a plan will do, and what a run did, in words and pictures for people
 
-  flux_look check PLAN [TRADES] [--cash C] [--script S] [--json]
+  flux_look check PLAN [TRADES] [--cash C] [--script S] [--all] [--json]
                                                              says what a plan does and warns; of each input
                                                              that has a fault it says where and what
   flux_look story PLAN TRADES EVENTS [--cash C] [--script S] [--json]
                                                              tells what happened in a run, a line each
   flux_look timeline PLAN TRADES EVENTS [--cash C] [--svg | --json] [--only]
                                                              draws it, as text, as SVG or as JSON
+  flux_look rehearse PLAN TRADES SCRIPT [--cash C] [--threads N] [--turns T] [--svg FILE]
+                                                             runs a plan under a failure script, and tells
+                                                             what became of each order
+  flux_look why PLAN TRADES N [--cash C] [--all]             tells how row N of the output came about
+  flux_look trace PLAN TRADES LINE [--cash C]                tells what became of the trade in that line
   flux_look sift TRADES --rejects R                          writes the records of trades that are accepted,
                                                              and saves the others to R, with why
   flux_look sql PLAN                                         writes the plan as one SQL query
@@ -272,24 +277,26 @@ Try it, in this repository:
 
   ./flux_look check examples/failures/large.txt examples/failures/blotter.csv --script examples/failures/script.txt
 
-The exit status is 0 where the whole text was written, 1 where check warns, 2 for words that have no form, 3
-for an input that has a fault or an event that is refused, 4 for a file that can't be read, 5 for an output
-that took not all or rejects that were not saved, 8 for want of memory, and 70 where the program could not be
-built.
+The exit status is 0 where the whole text was written, 1 where check warns or an order of a rehearsal was not
+obeyed, 2 for words that have no form, 3 for an input that has a fault or an event that is refused, 4 for a
+file that can't be read, 5 for an output that took not all or a file that was not saved, 6 where a rehearsal
+lost a pair, 8 for want of memory, and 70 where the program could not be built.
 TEXT
 }
 
 help_check() {
   cat <<'TEXT'
-flux_look check PLAN [TRADES] [--cash C] [--script S] [--json]
+flux_look check PLAN [TRADES] [--cash C] [--script S] [--all] [--json]
 
 Says in plain sentences what a plan does, stage by stage, and warns of what is hardly meant. Where a file has
-a fault, it says the first fault of each file, and nothing else.
+a fault, it says the first fault of each file, and nothing else; with --all each record of trades and of cash
+movements that has one.
 
   PLAN        the file with the plan, of at most 65,536 bytes
   TRADES      the file with the trades, CSV of at most 16,777,216 bytes and 100,000 trades
   --cash C    the file with the cash movements, for a plan of version 2
   --script S  the file with the failure script, of at most 65,536 bytes; it is read where the plan has no fault
+  --all       says every record that has a fault, up to the thousandth of a file, and how many there are
   --json      writes it as JSON, one object a line
 
 An option stands anywhere behind check, once, as --cash C or as --cash=C. The exit status is 0 where nothing
@@ -344,6 +351,80 @@ An event that is no step of the nodes is refused as by flux replay, with its lin
 Try it, in this repository:
 
   ./flux_look timeline examples/replay/total.txt examples/replay/trades.csv examples/replay/comeback.txt
+TEXT
+}
+
+help_rehearse() {
+  cat <<'TEXT'
+flux_look rehearse PLAN TRADES SCRIPT [--cash C] [--threads N] [--turns T] [--svg FILE]
+
+Runs a plan under a failure script as flux run does, and tells, in place of the rows, what became of each order
+of the script: where it was obeyed, or that it never was and whether its count was reached; then how each
+takeover and each catch-up went, and how the run ended.
+
+  PLAN          the file with the plan, of at most 65,536 bytes
+  TRADES        the file with the trades, CSV of at most 16,777,216 bytes and 100,000 trades
+  SCRIPT        the file with the failure script, of at most 65,536 bytes
+  --cash C      the file with the cash movements, for a plan of version 2; without the option there are none
+  --threads N   how many threads work, 1 to 16; 4 without the option
+  --turns T     how many turns each thread does at most, 0 to 10000000; 200000 without the option. What is
+                left then is done on the caller's thread, where no order is obeyed
+  --svg FILE    the file to which the picture of the run is saved, as SVG; one that is there is replaced. It
+                can't be an input, nor the file that the text goes to
+
+An option stands anywhere behind rehearse, once, as --threads 2 or as --threads=2. The exit status is 0 where
+every order was obeyed, and its way back where it says one, 1 where one was not, and 6 where a pair was lost,
+which only a script that isn't safe can do: flux run --help says which that is. On more than one thread each
+run has events of its own, so that what is told may differ.
+
+Try it, in this repository:
+
+  ./flux_look rehearse examples/failures/large.txt examples/failures/blotter.csv examples/failures/script.txt --threads 1
+TEXT
+}
+
+help_why() {
+  cat <<'TEXT'
+flux_look why PLAN TRADES N [--cash C] [--all]
+
+Tells how row N of the output came about: the row, and stage by stage from the last to the first the rows on
+which it rests and how many of them count; at the first stage these are trades and movements, each with its
+line in its file.
+
+  PLAN        the file with the plan, of at most 65,536 bytes
+  TRADES      the file with the trades, CSV of at most 16,777,216 bytes and 100,000 trades
+  N           the number of the row among those that flux eval writes, from 1
+  --cash C    the file with the cash movements, for a plan of version 2; without the option there are none
+  --all       tells all rows of a stage, and not only the first three and the last three
+
+An option stands anywhere behind why, once, as --cash C or as --cash=C. A number that no row has is refused,
+with how many rows there are.
+
+Try it, in this repository:
+
+  ./flux_look why examples/desk/minutes.txt examples/desk/day.csv 7
+TEXT
+}
+
+help_trace() {
+  cat <<'TEXT'
+flux_look trace PLAN TRADES LINE [--cash C]
+
+Tells what became of the trade in a line of its file: stage by stage which rows rest on it, to which partition
+they go and behind how many rows of their key they are added, and which rows of the output rest on it. Of more
+than six rows it tells the first three and the last three.
+
+  PLAN        the file with the plan, of at most 65,536 bytes
+  TRADES      the file with the trades, CSV of at most 16,777,216 bytes and 100,000 trades
+  LINE        the line in which the trade's record begins; the header is mostly line 1
+  --cash C    the file with the cash movements, for a plan of version 2; without the option there are none
+
+An option stands anywhere behind trace, once, as --cash C or as --cash=C. A line in which no trade stands is
+refused, with how many lines the file has.
+
+Try it, in this repository:
+
+  ./flux_look trace examples/desk/minutes.txt examples/desk/day.csv 3
 TEXT
 }
 
@@ -574,15 +655,19 @@ end_with_2() {
   exit 2
 }
 
-# Ends with 2 where a journal, or the rejects of `sift`, would be saved to one of the input files, or to the file that standard output goes to.
+# Ends with 2 where a journal, the rejects of `sift` or the picture of `rehearse` would be saved to one of the input files, or to the file that
+# standard output goes to.
 check_saved() {
   local option=--journal what="the journal is" text="the rows go" saved inputs=("${values[--cash]-}" "${values[--script]-}") at
-  [ "$name" != flux_look ] || option=--rejects what="the rejects are" text="the records that are kept go"
+  case $name,${command-} in
+    flux_look,sift) option=--rejects what="the rejects are" text="the records that are kept go" ;;
+    flux_look,*) option=--svg what="the picture is" text="the text goes" ;;
+  esac
   saved=${values[$option]-}
   [ -n "$saved" ] || return 0
   for at in "${!plain[@]}"; do
     # START and COUNT are no files.
-    case ${wanted[at]-} in PLAN | TRADES) inputs+=("${plain[at]}") ;; esac
+    case ${wanted[at]-} in PLAN | TRADES | SCRIPT) inputs+=("${plain[at]}") ;; esac
   done
   for at in "${inputs[@]}"; do
     [ ! "$saved" -ef "$at" ] || { echo "$name: $saved: $what one of the inputs" >&2; end_with_2; }
@@ -593,7 +678,7 @@ check_saved() {
 # Says, behind a refusal of an input, how to see where in it the fault is.
 tell_check() {
   local script=${values[--script]-${plain[2]-}} words
-  case $name,$command in flux,eval | flux,run | flux_live,-) ;; *) return 0 ;; esac
+  case $name,$command in flux,eval | flux,run | flux_live,- | flux_look,rehearse) ;; *) return 0 ;; esac
   words=(./flux_look check "${plain[@]:0:2}" ${values[--cash]+--cash "${values[--cash]}"} ${script:+--script "$script"})
   printf -v words '%q ' "${words[@]}"
   echo "$name: ${words% } says where, and what may stand there" >&2

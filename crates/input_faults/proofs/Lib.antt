@@ -5,6 +5,7 @@ pub mod LeadsOn
 pub mod Orders
 pub mod Places
 pub mod Ranges
+pub mod RecordLinesFacts
 pub mod ScanFacts
 pub mod ShownFacts
 pub mod SpotFacts

@@ -4,6 +4,7 @@ pub mod Numbers
 pub mod Places
 pub mod Ranges
 pub mod RecordFaults
+pub mod RecordLines
 pub mod Records
 pub mod Scans
 pub mod Shown

@@ -1,6 +1,6 @@
 // The records of a file and their fields, where they stand in its bytes.
-ghost use Rattle.std.specs.Prelude.{◌≡◌, ◌≤◌, length};
-ghost use Rattle.input_faults.specs.Records.{at_start, before, behind_field, behind_fields, behind_record, column_behind, drop_ends, field_len, fields_in, is_end_byte, line_behind, record_of, word_in, word_start};
+ghost use Rattle.std.specs.Prelude.{◌≡◌, ◌≤◌, ◌<◌, ◌+◌, ◌^◌, length};
+ghost use Rattle.input_faults.specs.Records.{at_start, before, behind_field, behind_fields, behind_record, column_behind, drop_ends, field_len, fields_in, is_end_byte, line_behind, lines_ended, record_of, word_in, word_start};
 ghost use Rattle.input_faults.specs.Scans.{left_of, state_of};
 
 use crate::scan::Stand;
@@ -14,7 +14,7 @@ fn is_end(byte: u8) -> bool
 }
 
 // What is left behind the record with which a text goes on.
-fn behind_record(stand: Stand, text: &[u8]) -> (Stand, &[u8])
+pub(crate) fn behind_record(stand: Stand, text: &[u8]) -> (Stand, &[u8])
     ensures { left_of result.0 result.1.now ≡ behind_record (left_of stand text.now) }
 {
     let mut stand = stand;
@@ -31,7 +31,7 @@ fn behind_record(stand: Stand, text: &[u8]) -> (Stand, &[u8])
 }
 
 // A text from its first byte on that ends no line.
-fn without_ends(text: &[u8]) -> &[u8]
+pub(crate) fn without_ends(text: &[u8]) -> &[u8]
     ensures { result.now ≡ drop_ends text.now }
 {
     let mut rest = text;
@@ -141,13 +141,15 @@ pub(crate) fn field_at(row: &[u8], before: u64) -> (&[u8], &[u8])
     (word, rest)
 }
 
-// The line of the byte behind these bytes.
+// The line of the byte behind these bytes, of which the first one stands in this line.
 #[tactic(auto, unfolding(crate::specs::Records::lines_ended))]
-pub(crate) fn line_behind(front: &[u8]) -> u64
-    ensures { result ≡ line_behind front.now }
+pub(crate) fn line_from(line: u64, bytes: &[u8]) -> u64
+    requires { line + length bytes.now < 2 ^ 64 }
+    ensures value { result ≡ line + lines_ended bytes.now }
+    ensures room { result ≤ line + length bytes.now }
 {
-    let mut line = 1u64;
-    let mut rest = front;
+    let mut line = line;
+    let mut rest = bytes;
     while let Some((byte, more)) = rest.split_first() {
         if *byte == b'\n' || (*byte == b'\r' && more.first() != Some(&b'\n')) {
             line += 1;
@@ -155,6 +157,13 @@ pub(crate) fn line_behind(front: &[u8]) -> u64
         rest = more;
     }
     line
+}
+
+// The line of the byte behind these bytes.
+pub(crate) fn line_behind(front: &[u8]) -> u64
+    ensures { result ≡ line_behind front.now }
+{
+    line_from(1, front)
 }
 
 // The column of the byte behind these bytes.
@@ -168,13 +177,4 @@ pub(crate) fn column_behind(front: &[u8]) -> u64
         rest = more;
     }
     column
-}
-
-/// The line in which the record of this number begins, in a text without a mark at its front.
-pub fn record_line(text: &[u8], number: u64) -> u64
-    ensures { result ≡ line_behind (before (record_of number text.now) text.now) }
-{
-    let rest = record_of(text, number);
-    let (front, _) = text.split_at(text.len().saturating_sub(rest.len()));
-    line_behind(front)
 }

@@ -69,8 +69,8 @@ fn closing(word: &[u8]) -> &'static str
     }
 }
 
-// Appends a word as it is shown, between double quotes.
-pub(crate) fn push_shown(text: &mut String, word: &[u8]) -> Result<(), AllocError>
+/// Appends a word as it is shown, between double quotes.
+pub fn push_shown(text: &mut String, word: &[u8]) -> Result<(), AllocError>
     ensures { OnOk result (string_bytes text.new ≡ string_bytes text.old ++ shown word.now) }
 {
     text.push_str("\"")?;

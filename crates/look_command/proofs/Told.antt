@@ -1,6 +1,6 @@
 -- Of a file that is read its fault is told, and nothing else changes.
 use Rattle.std.proofs.Common.{ℕ, ◌≡◌, ◌<◌, ◌∙◌, Bool, true, false, List, ◌++◌, length, ap, sym, subst, Option, Some, None, Ok, Err, option_map, string_bytes, arith}
-use Rattle.std.specs.Prelude.{IfOk, Result, String, codes, if◌then◌else◌, nat_lt}
+use Rattle.std.specs.Prelude.{IfErr, IfOk, Result, String, codes, if◌then◌else◌, nat_lt}
 use Rattle.std.specs.declared.alloc.Global.{Global}
 use Rattle.std.proofs.lemmas.Bool.Decides.{nat_tests}
 use Rattle.tuple_edge.specs.declared.memory.OutOfMemory.{OutOfMemory}
@@ -8,7 +8,31 @@ use Rattle.command_course.specs.Course.{Reading}
 use Rattle.command_course.specs.Steps.{IsRefusedBy, StopsOn}
 use Rattle.command_course.specs.declared.stop.Stop.{Stop}
 use Rattle.command_course.specs.declared.stop.Stop.TheVariants as stop
-use Rattle.look_command.specs.Kinds.{IsTold, IsToldUnlessLong, better, told_from}
+use Rattle.trade_text.specs.TradesView.{TradesView}
+use Rattle.trade_check.specs.Given.{GivenView, given}
+use Rattle.look_command.specs.Kinds.{IsTold, IsToldUnlessLong, better, told_from, with_file}
+
+-- the same of a file of trades, with its name and its bytes
+pub file_stops : (name bytes : List ℕ) (reading : Reading TradesView) (why : Stop) → StopsOn reading why → StopsOn (with_file name bytes reading) why
+file_stops name bytes reading stop.Usage stops = stops
+file_stops name bytes reading (stop.Refused line) stops = ap (with_file name bytes) stops
+file_stops name bytes reading (stop.CannotRead line) stops = stops
+file_stops name bytes reading stop.CannotWrite stops = stops
+file_stops name bytes reading (stop.PairLost stage part line) stops = stops
+file_stops name bytes reading stop.OutOfMemory stops = stops
+
+module _ (name bytes : List ℕ) (reading : Reading TradesView) (trades : TradesView) where
+  pub file_gives : (result : Result GivenView Stop) → reading ≡ Ok trades → IfOk result (λ it. it ≡ given name bytes trades) → IfOk result (λ it. with_file name bytes reading ≡ Ok it)
+  file_gives (Ok it) is same = ap (with_file name bytes) is ∙ ap Ok (sym same)
+  file_gives (Err why) is same = tt
+
+  pub file_keeps : (result : Result GivenView Stop) → trades.merged ≡ false → IfOk result (λ it. it ≡ given name bytes trades) → IfOk result (λ it. it.trades.merged ≡ false)
+  file_keeps (Ok it) is same = ap (λ (g : GivenView). g.trades.merged) same ∙ is
+  file_keeps (Err why) is same = tt
+
+  pub file_short : (result : Result GivenView Stop) → IfErr result (λ why. why ≡ stop.OutOfMemory) → IfErr result (λ why. StopsOn (with_file name bytes reading) why)
+  file_short (Ok it) want = tt
+  file_short (Err why) want = subst (StopsOn (with_file name bytes reading)) (sym want) tt
 
 module _ {A : Type 0} (most : ℕ) (fault : List ℕ → List ℕ → Option (List ℕ)) (reading : List ℕ → List ℕ → Reading A) (name bytes : List ℕ) where
   pub gives_told : (value : A) → reading name bytes ≡ Ok value → told_from most fault reading name bytes ≡ Ok value

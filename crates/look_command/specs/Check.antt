@@ -7,18 +7,18 @@ use Rattle.plan_reader.specs.PlanView.{PlanView}
 use Rattle.pair_machine.specs.declared.order.Order.{Order}
 use Rattle.failure_script.specs.Limits.{max_script_bytes}
 use Rattle.trade_text.specs.Limits.{max_input_bytes, max_inputs}
-use Rattle.trade_text.specs.TradesView.{TradesView}
 use Rattle.command_course.specs.Course.{Reading, Way}
 use Rattle.command_course.specs.Inputs.{cash_from, plan_from, trades_from}
 use Rattle.command_course.specs.Lines.{not_in_plan_line}
 use Rattle.run_command.specs.Scripts.{script_from}
 use Rattle.look_json.specs.CheckJson.{check_json}
-use Rattle.plan_check.specs.Text.{check_text}
-use Rattle.plan_check.specs.Warnings.{warnings}
+use Rattle.trade_check.specs.Given.{GivenView}
+use Rattle.trade_check.specs.Text.{check_text, warning_count}
 use Rattle.look_course.specs.Answers.{AnswerView, answer}
 use Rattle.look_course.specs.Trying.{Named, named_of, tried_of, tries, tries_named}
-use Rattle.look_command.specs.Kinds.{told_from}
+use Rattle.look_command.specs.Kinds.{told_from, with_file}
 use Rattle.look_command.specs.declared.faults.Said.{Said}
+use Rattle.input_faults.specs.AllFaults.{all_cash_faults, all_trades_faults}
 use Rattle.input_faults.specs.RecordFaults.{cash_fault, trades_fault}
 use Rattle.input_faults.specs.WordFaults.{plan_fault, script_fault}
 use Rattle.look_course.specs.declared.answer.Ending.{Ending}
@@ -30,13 +30,23 @@ use Rattle.look_course.specs.declared.answer.Ending.TheVariants.{Done, Faulty, W
 abbrev pub plan_told : List ℕ → List ℕ → Reading PlanView
 plan_told = told_from max_plan_bytes plan_fault plan_from
 
--- what the file of trades says, or its fault
-abbrev pub trades_told : List ℕ → List ℕ → Reading TradesView
-trades_told = told_from max_input_bytes trades_fault trades_from
+-- what is said of trades that are refused: of each record that is, or of the first one alone
+abbrev pub trades_faults : (all : Bool) → List ℕ → List ℕ → Option (List ℕ)
+trades_faults true = all_trades_faults
+trades_faults false = trades_fault
 
--- what the file of movements says, of which so many have room, or its fault
-abbrev pub cash_told : (room : ℕ) → List ℕ → List ℕ → Reading (List Row)
-cash_told room = told_from max_input_bytes (cash_fault room) (cash_from room)
+-- the same of movements, of which so many have room
+abbrev pub movement_faults : (all : Bool) → (room : ℕ) → List ℕ → List ℕ → Option (List ℕ)
+movement_faults true = all_cash_faults
+movement_faults false = cash_fault
+
+-- what the file of trades says, or its fault, or all its faults
+abbrev pub trades_told : (all : Bool) → List ℕ → List ℕ → Reading GivenView
+trades_told all name bytes = with_file name bytes (told_from max_input_bytes (trades_faults all) trades_from name bytes)
+
+-- the same of the file of movements, of which so many have room
+abbrev pub cash_told : (all : Bool) → (room : ℕ) → List ℕ → List ℕ → Reading (List Row)
+cash_told all room = told_from max_input_bytes (movement_faults all room) (cash_from room)
 
 -- what the script for a plan says, or its fault
 abbrev pub script_told : PlanView → List ℕ → List ℕ → Reading (List Order)
@@ -45,15 +55,15 @@ script_told plan = told_from max_script_bytes (script_fault plan) (script_from p
 -- what the files say
 pub record Given : Type 0 where
   pub plan : Reading PlanView
-  pub trades : Named TradesView
+  pub trades : Named GivenView
   pub cash : Named (List Row)
   pub script : Named (List Order)
 
 -- for how many cash movements trades leave room; trades that have a fault, or that are not given, leave all of it
-abbrev pub room_beside : Named TradesView → ℕ
+abbrev pub room_beside : Named GivenView → ℕ
 room_beside None = max_inputs
 room_beside (Some (Err line)) = max_inputs
-room_beside (Some (Ok trades)) = max_inputs - length trades.rows
+room_beside (Some (Ok g)) = max_inputs - length g.trades.rows
 
 -- whether a plan was read that has no cash movements: one of version 1
 abbrev pub is_without_cash : Reading PlanView → Bool
@@ -61,10 +71,10 @@ is_without_cash (Ok plan) = plan.version == 1
 is_without_cash (Err line) = false
 
 -- A plan of version 1 has no cash movements: their file is not read, and that it is given is the fault. Of another plan so many movements may be given.
-abbrev pub tries_cash : Reading PlanView → (room : ℕ) → Option (List ℕ) → Way (Named (List Row))
-tries_cash plan room None next = next None
-tries_cash (Err line) room (Some name) next = tries_named max_input_bytes (cash_told room) (Some name) next
-tries_cash (Ok plan) room (Some name) next = if plan.version == 1 then next (Some (Err (not_in_plan_line name))) else tries_named max_input_bytes (cash_told room) (Some name) next
+abbrev pub tries_cash : (all : Bool) → Reading PlanView → (room : ℕ) → Option (List ℕ) → Way (Named (List Row))
+tries_cash all plan room None next = next None
+tries_cash all (Err line) room (Some name) next = tries_named max_input_bytes (cash_told all room) (Some name) next
+tries_cash all (Ok plan) room (Some name) next = if plan.version == 1 then next (Some (Err (not_in_plan_line name))) else tries_named max_input_bytes (cash_told all room) (Some name) next
 
 -- a script is one for a plan: it is not read where that has a fault
 abbrev pub tries_script : Reading PlanView → Option (List ℕ) → Way (Named (List Order))
@@ -120,8 +130,8 @@ abbrev pub faulty_answer : (json : Bool) → Given → AnswerView
 faulty_answer json given = answer Faulty (check_as json true (fault_lines given))
 
 -- what is said of files that have no fault
-abbrev pub sound_answer : (json : Bool) → PlanView → Option TradesView → Option (List Order) → AnswerView
-sound_answer json plan trades script = answer (ending_after (length (warnings plan script))) (check_as json false (check_text plan trades script))
+abbrev pub sound_answer : (json : Bool) → PlanView → Option GivenView → Option (List Order) → AnswerView
+sound_answer json plan trades script = answer (ending_after (warning_count plan trades script)) (check_as json false (check_text plan trades script))
 
 -- what is said of a plan and of the files beside it
 abbrev pub judged : (json : Bool) → Reading PlanView → Given → AnswerView
@@ -135,24 +145,24 @@ judgement json given = judged json given.plan given
 -- ---- the course
 
 -- what these files say
-abbrev pub given : Reading PlanView → Named TradesView → Named (List Row) → Named (List Order) → Given
+abbrev pub given : Reading PlanView → Named GivenView → Named (List Row) → Named (List Order) → Given
 given plan trades cash script = record { plan = plan; trades = trades; cash = cash; script = script }
 
 -- the script comes last, and then all are judged
-abbrev pub checks_script : Option (List ℕ) → (json : Bool) → Reading PlanView → Named TradesView → Named (List Row) → Way AnswerView
+abbrev pub checks_script : Option (List ℕ) → (json : Bool) → Reading PlanView → Named GivenView → Named (List Row) → Way AnswerView
 checks_script script json plan trades cash next = tries_script plan script (λ orders. next (judgement json (given plan trades cash orders)))
 
 -- before the script come the movements
-abbrev pub checks_cash : (cash script : Option (List ℕ)) → (json : Bool) → Reading PlanView → Named TradesView → Way AnswerView
-checks_cash cash script json plan trades next = tries_cash plan (room_beside trades) cash (λ movements. checks_script script json plan trades movements next)
+abbrev pub checks_cash : (cash script : Option (List ℕ)) → (all json : Bool) → Reading PlanView → Named GivenView → Way AnswerView
+checks_cash cash script all json plan trades next = tries_cash all plan (room_beside trades) cash (λ movements. checks_script script json plan trades movements next)
 
 -- before the movements come the trades
-abbrev pub checks_trades : (trades cash script : Option (List ℕ)) → (json : Bool) → Reading PlanView → Way AnswerView
-checks_trades trades cash script json plan next = tries_named max_input_bytes trades_told trades (λ them. checks_cash cash script json plan them next)
+abbrev pub checks_trades : (trades cash script : Option (List ℕ)) → (all json : Bool) → Reading PlanView → Way AnswerView
+checks_trades trades cash script all json plan next = tries_named max_input_bytes (trades_told all) trades (λ them. checks_cash cash script all json plan them next)
 
 -- `check`: the plan comes first
-abbrev pub check_way : (plan : List ℕ) → (trades cash script : Option (List ℕ)) → (json : Bool) → Way AnswerView
-check_way plan trades cash script json next = tries max_plan_bytes plan_told plan (λ it. checks_trades trades cash script json it next)
+abbrev pub check_way : (plan : List ℕ) → (trades cash script : Option (List ℕ)) → (all json : Bool) → Way AnswerView
+check_way plan trades cash script all json next = tries max_plan_bytes plan_told plan (λ it. checks_trades trades cash script all json it next)
 
 -- ---- as the code holds it
 

@@ -3,6 +3,8 @@ use Rattle.std.specs.Prelude.{ℕ, ◌≡◌, Bool, true, false, List, ◌++◌,
 use Rattle.std.specs.String.{string_bytes}
 use Rattle.std.specs.declared.alloc.Global.{Global}
 use Rattle.tuple_edge.specs.declared.memory.OutOfMemory.{OutOfMemory}
+use Rattle.trade_text.specs.TradesView.{TradesView}
+use Rattle.trade_check.specs.Given.{GivenView, given}
 use Rattle.command_course.specs.Course.{Reading}
 use Rattle.command_course.specs.Steps.{IsRefusedBy}
 use Rattle.command_course.specs.declared.stop.Stop.{Stop}
@@ -17,6 +19,11 @@ better (Some text) (Err line) = Err (text ++ codes "\n")
 -- what a file says, with its fault; of one that is too long no place is told
 abbrev pub told_from : {A : Type 0} → (most : ℕ) → (List ℕ → List ℕ → Option (List ℕ)) → (List ℕ → List ℕ → Reading A) → List ℕ → List ℕ → Reading A
 told_from most fault reading name bytes = if nat_lt most (length bytes) then reading name bytes else better (fault name bytes) (reading name bytes)
+
+-- what a file of trades says, with its name and its bytes
+abbrev pub with_file : List ℕ → List ℕ → Reading TradesView → Reading GivenView
+with_file name bytes (Ok trades) = Ok (given name bytes trades)
+with_file name bytes (Err line) = Err line
 
 -- ---- as the code holds it
 

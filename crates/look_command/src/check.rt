@@ -15,10 +15,11 @@ use flux_outside::Files;
 use look_course::{Answer, tried_at, tried_if_named};
 use plan_reader::Plan;
 use std::alloc::Global;
-use trade_text::{Cash, MAX_INPUTS, Trades};
+use trade_check::GivenTrades;
+use trade_text::{Cash, MAX_INPUTS};
 
-/// What `check` says of the files that are named, as text or as JSON: what the plan does and what is hardly meant, or
-/// their faults.
+/// What `check` says of the files that are named, as text or as JSON: what the plan does and what is hardly meant; or their
+/// faults, of trades and of movements the first one or, where it is asked for, all of them.
 #[tactic(auto, using(crate::proofs::Ways::reads_on, crate::proofs::Ways::reads_stopped))]
 pub fn check_report<F: Files>(
     alloc: Global,
@@ -27,14 +28,15 @@ pub fn check_report<F: Files>(
     trades: Option<&str>,
     cash: Option<&str>,
     script: Option<&str>,
+    all: bool,
     json: bool,
 ) -> Result<Answer, Stop>
-    ensures gives { IfOk result (λ answer. GivesBy (F.told files.old) (F.told files.new) (check_way plan.now (option_map (λ n. n.now) trades.entry) (option_map (λ n. n.now) cash.entry) (option_map (λ n. n.now) script.entry) json) (answer_of answer)) }
-    ensures stops { IfErr result (λ stop. StopsBy (F.told files.old) (F.told files.new) (check_way plan.now (option_map (λ n. n.now) trades.entry) (option_map (λ n. n.now) cash.entry) (option_map (λ n. n.now) script.entry) json) stop) }
+    ensures gives { IfOk result (λ answer. GivesBy (F.told files.old) (F.told files.new) (check_way plan.now (option_map (λ n. n.now) trades.entry) (option_map (λ n. n.now) cash.entry) (option_map (λ n. n.now) script.entry) all json) (answer_of answer)) }
+    ensures stops { IfErr result (λ stop. StopsBy (F.told files.old) (F.told files.new) (check_way plan.now (option_map (λ n. n.now) trades.entry) (option_map (λ n. n.now) cash.entry) (option_map (λ n. n.now) script.entry) all json) stop) }
     ensures reads { OnlyReads (F.told files.old) (F.told files.new) result }
 {
     match tried_at(alloc, files, plan, &ToldPlan) {
-        Ok(plan) => with_trades(alloc, files, plan, trades, cash, script, json),
+        Ok(plan) => with_trades(alloc, files, plan, trades, cash, script, all, json),
         Err(stop) => Err(stop),
     }
 }
@@ -48,14 +50,15 @@ fn with_trades<F: Files>(
     trades: Option<&str>,
     cash: Option<&str>,
     script: Option<&str>,
+    all: bool,
     json: bool,
 ) -> Result<Answer, Stop>
-    ensures gives { IfOk result (λ answer. GivesBy (F.told files.old) (F.told files.new) (checks_trades (option_map (λ n. n.now) trades.entry) (option_map (λ n. n.now) cash.entry) (option_map (λ n. n.now) script.entry) json (tried_of plan)) (answer_of answer)) }
-    ensures stops { IfErr result (λ stop. StopsBy (F.told files.old) (F.told files.new) (checks_trades (option_map (λ n. n.now) trades.entry) (option_map (λ n. n.now) cash.entry) (option_map (λ n. n.now) script.entry) json (tried_of plan)) stop) }
+    ensures gives { IfOk result (λ answer. GivesBy (F.told files.old) (F.told files.new) (checks_trades (option_map (λ n. n.now) trades.entry) (option_map (λ n. n.now) cash.entry) (option_map (λ n. n.now) script.entry) all json (tried_of plan)) (answer_of answer)) }
+    ensures stops { IfErr result (λ stop. StopsBy (F.told files.old) (F.told files.new) (checks_trades (option_map (λ n. n.now) trades.entry) (option_map (λ n. n.now) cash.entry) (option_map (λ n. n.now) script.entry) all json (tried_of plan)) stop) }
     ensures reads { OnlyReads (F.told files.old) (F.told files.new) result }
 {
-    match tried_if_named(alloc, files, trades, &ToldTrades) {
-        Ok(trades) => with_cash(alloc, files, plan, trades, cash, script, json),
+    match tried_if_named(alloc, files, trades, &ToldTrades { all }) {
+        Ok(trades) => with_cash(alloc, files, plan, trades, cash, script, all, json),
         Err(stop) => Err(stop),
     }
 }
@@ -66,17 +69,18 @@ fn with_cash<F: Files>(
     alloc: Global,
     files: &mut F,
     plan: Result<Plan, String>,
-    trades: Option<Result<Trades, String>>,
+    trades: Option<Result<GivenTrades, String>>,
     cash: Option<&str>,
     script: Option<&str>,
+    all: bool,
     json: bool,
 ) -> Result<Answer, Stop>
-    ensures gives { IfOk result (λ answer. GivesBy (F.told files.old) (F.told files.new) (checks_cash (option_map (λ n. n.now) cash.entry) (option_map (λ n. n.now) script.entry) json (tried_of plan) (named_of trades)) (answer_of answer)) }
-    ensures stops { IfErr result (λ stop. StopsBy (F.told files.old) (F.told files.new) (checks_cash (option_map (λ n. n.now) cash.entry) (option_map (λ n. n.now) script.entry) json (tried_of plan) (named_of trades)) stop) }
+    ensures gives { IfOk result (λ answer. GivesBy (F.told files.old) (F.told files.new) (checks_cash (option_map (λ n. n.now) cash.entry) (option_map (λ n. n.now) script.entry) all json (tried_of plan) (named_of trades)) (answer_of answer)) }
+    ensures stops { IfErr result (λ stop. StopsBy (F.told files.old) (F.told files.new) (checks_cash (option_map (λ n. n.now) cash.entry) (option_map (λ n. n.now) script.entry) all json (tried_of plan) (named_of trades)) stop) }
     ensures reads { OnlyReads (F.told files.old) (F.told files.new) result }
 {
     let room = room_beside(&trades);
-    match tried_cash(alloc, files, &plan, room, cash) {
+    match tried_cash(alloc, files, &plan, room, cash, all) {
         Ok(cash) => with_script(alloc, files, plan, trades, cash, script, json),
         Err(stop) => Err(stop),
     }
@@ -88,7 +92,7 @@ fn with_script<F: Files>(
     alloc: Global,
     files: &mut F,
     plan: Result<Plan, String>,
-    trades: Option<Result<Trades, String>>,
+    trades: Option<Result<GivenTrades, String>>,
     cash: Option<Result<Cash, String>>,
     script: Option<&str>,
     json: bool,
@@ -122,7 +126,7 @@ fn all_judged(alloc: Global, said: &Said, json: bool) -> Result<Answer, Stop>
 }
 
 // For how many movements trades leave room.
-fn room_beside(trades: &Option<Result<Trades, String>>) -> u32
+fn room_beside(trades: &Option<Result<GivenTrades, String>>) -> u32
     ensures { result ≡ room_beside (named_of trades.now) }
 {
     match trades {
@@ -133,10 +137,10 @@ fn room_beside(trades: &Option<Result<Trades, String>>) -> u32
 }
 
 // For how many movements these trades leave room.
-fn room_of(trades: &Trades) -> u32
-    ensures { result ≡ max_inputs - length trades.now.rows }
+fn room_of(given: &GivenTrades) -> u32
+    ensures { result ≡ max_inputs - length given.now.trades.rows }
 {
-    (MAX_INPUTS - trades.rows().len()) as u32
+    (MAX_INPUTS - given.trades().rows().len()) as u32
 }
 
 // The movements, which a plan of version 1 doesn't have.
@@ -147,14 +151,15 @@ fn tried_cash<F: Files>(
     plan: &Result<Plan, String>,
     room: u32,
     cash: Option<&str>,
+    all: bool,
 ) -> Result<Option<Result<Cash, String>>, Stop>
-    ensures gives { IfOk result (λ tried. GivesBy (F.told files.old) (F.told files.new) (tries_cash (tried_of plan.now) room (option_map (λ n. n.now) cash.entry)) (named_of tried)) }
-    ensures stops { IfErr result (λ stop. StopsBy (F.told files.old) (F.told files.new) (tries_cash (tried_of plan.now) room (option_map (λ n. n.now) cash.entry)) stop) }
+    ensures gives { IfOk result (λ tried. GivesBy (F.told files.old) (F.told files.new) (tries_cash all (tried_of plan.now) room (option_map (λ n. n.now) cash.entry)) (named_of tried)) }
+    ensures stops { IfErr result (λ stop. StopsBy (F.told files.old) (F.told files.new) (tries_cash all (tried_of plan.now) room (option_map (λ n. n.now) cash.entry)) stop) }
     ensures reads { OnlyReads (F.told files.old) (F.told files.new) result }
 {
     match cash {
         None => Ok(None),
-        Some(name) => tried_movements(alloc, files, plan, room, name),
+        Some(name) => tried_movements(alloc, files, plan, room, name, all),
     }
 }
 
@@ -166,15 +171,16 @@ fn tried_movements<F: Files>(
     plan: &Result<Plan, String>,
     room: u32,
     name: &str,
+    all: bool,
 ) -> Result<Option<Result<Cash, String>>, Stop>
-    ensures gives { IfOk result (λ tried. GivesBy (F.told files.old) (F.told files.new) (tries_cash (tried_of plan.now) room (Some name.now)) (named_of tried)) }
-    ensures stops { IfErr result (λ stop. StopsBy (F.told files.old) (F.told files.new) (tries_cash (tried_of plan.now) room (Some name.now)) stop) }
+    ensures gives { IfOk result (λ tried. GivesBy (F.told files.old) (F.told files.new) (tries_cash all (tried_of plan.now) room (Some name.now)) (named_of tried)) }
+    ensures stops { IfErr result (λ stop. StopsBy (F.told files.old) (F.told files.new) (tries_cash all (tried_of plan.now) room (Some name.now)) stop) }
     ensures reads { OnlyReads (F.told files.old) (F.told files.new) result }
 {
     if is_without_cash(plan) {
         return not_in_plan(alloc, name);
     }
-    tried_if_named(alloc, files, Some(name), &ToldCash { room })
+    tried_if_named(alloc, files, Some(name), &ToldCash { room, all })
 }
 
 // Whether a plan was read that has no movements.

@@ -7,17 +7,17 @@ ghost use Rattle.std.specs.Prelude.{◌≡◌, ◌++◌, IfOk, Ok, OnOk, option_
 use failure_script::Script;
 use look_course::{Answer, Ending};
 use look_json::write_check_json;
-use plan_check::write_check;
 use plan_reader::Plan;
 use std::alloc::Global;
-use trade_text::{Cash, Trades};
+use trade_check::{GivenTrades, write_check};
+use trade_text::Cash;
 use tuple_edge::OutOfMemory;
 
 /// What files say, or the lines of their faults; those that aren't named say nothing.
 #[derive(Drop)]
 pub(crate) struct Said {
     pub(crate) plan: Result<Plan, String>,
-    pub(crate) trades: Option<Result<Trades, String>>,
+    pub(crate) trades: Option<Result<GivenTrades, String>>,
     pub(crate) cash: Option<Result<Cash, String>>,
     pub(crate) script: Option<Result<Script, String>>,
 }

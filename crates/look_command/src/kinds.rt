@@ -1,22 +1,26 @@
 // The kinds of files that `check` reads: those of `flux`, of whose faults it is told where they stand and what may stand
 // there.
-ghost use Rattle.command_course.specs.Inputs.{cash_from, plan_from, trades_from};
+ghost use Rattle.command_course.specs.Inputs.{cash_from, plan_from};
 ghost use Rattle.command_course.specs.Steps.{IsRefusedBy};
 ghost use Rattle.failure_script.specs.Limits.{max_script_bytes};
-ghost use Rattle.input_faults.specs.RecordFaults.{cash_fault, trades_fault};
 ghost use Rattle.input_faults.specs.WordFaults.{plan_fault, script_fault};
+ghost use Rattle.look_command.specs.Check.{movement_faults, trades_faults, trades_told};
 ghost use Rattle.look_command.specs.Kinds.{IsTold, IsToldUnlessLong, told_from};
 ghost use Rattle.plan_reader.specs.Limits.{max_plan_bytes};
 ghost use Rattle.run_command.specs.Scripts.{script_from};
-ghost use Rattle.std.specs.Prelude.{◌≡◌, ◌≤◌, ◌++◌, codes, false, length, nat_lt, string_bytes};
+ghost use Rattle.std.specs.Prelude.{◌≡◌, ◌≤◌, ◌++◌, IfErr, IfOk, codes, false, length, nat_lt, option_map, string_bytes};
+ghost use Rattle.trade_check.specs.Given.{given};
 ghost use Rattle.trade_text.specs.Limits.{max_input_bytes};
 
 use command_course::{CashFile, Input, PlanFile, Stop, TradesFile};
 use failure_script::{MAX_SCRIPT_BYTES, Script};
-use input_faults::{cash_fault, plan_fault, script_fault, trades_fault};
+use input_faults::{
+    all_cash_faults, all_trades_faults, cash_fault, plan_fault, script_fault, trades_fault,
+};
 use plan_reader::{MAX_PLAN_BYTES, Plan};
 use run_command::ScriptFile;
 use std::alloc::Global;
+use trade_check::GivenTrades;
 use trade_text::{Cash, MAX_INPUT_BYTES, Trades};
 use tuple_edge::OutOfMemory;
 
@@ -24,14 +28,17 @@ use tuple_edge::OutOfMemory;
 #[derive(Drop)]
 pub(crate) struct ToldPlan;
 
-/// A file with trades.
+/// A file with trades, of which each refused record is told, or the first one alone.
 #[derive(Drop)]
-pub(crate) struct ToldTrades;
+pub(crate) struct ToldTrades {
+    pub(crate) all: bool,
+}
 
-/// A file with cash movements, of which so many have room.
+/// A file with cash movements, of which so many have room, told so too.
 #[derive(Drop)]
 pub(crate) struct ToldCash {
     pub(crate) room: u32,
+    pub(crate) all: bool,
 }
 
 /// A file with a failure script for a plan.
@@ -88,6 +95,37 @@ fn is_long(bytes: &[u8], most: u64) -> bool
     bytes.len() as u64 > most
 }
 
+// What is said of trades that are refused: of each record that is, or of the first one alone.
+fn trades_faults(
+    alloc: Global,
+    name: &str,
+    bytes: &[u8],
+    all: bool,
+) -> Result<Option<String>, OutOfMemory>
+    ensures { IfOk result (λ said. option_map string_bytes said ≡ trades_faults all name.now bytes.now) }
+{
+    if all {
+        return all_trades_faults(alloc, name, bytes);
+    }
+    trades_fault(alloc, name, bytes)
+}
+
+// The same of movements, of which so many have room.
+fn movement_faults(
+    alloc: Global,
+    name: &str,
+    bytes: &[u8],
+    room: u32,
+    all: bool,
+) -> Result<Option<String>, OutOfMemory>
+    ensures { IfOk result (λ said. option_map string_bytes said ≡ movement_faults all room name.now bytes.now) }
+{
+    if all {
+        return all_cash_faults(alloc, name, bytes, room);
+    }
+    cash_fault(alloc, name, bytes, room)
+}
+
 impl Input for ToldPlan {
     type Value = Plan;
 
@@ -116,24 +154,33 @@ impl Input for ToldPlan {
     }
 }
 
+// Trades with their file, where want of memory is why the command stops.
+fn with_file(alloc: Global, name: &str, bytes: &[u8], trades: Trades) -> Result<GivenTrades, Stop>
+    ensures given { IfOk result (λ it. it ≡ given name.now bytes.now trades) }
+    ensures want { IfErr result (λ stop. stop ≡ Stop.OutOfMemory) }
+{
+    let it = GivenTrades::new(alloc, name, bytes, trades)?;
+    Ok(it)
+}
+
 impl Input for ToldTrades {
-    type Value = Trades;
+    type Value = GivenTrades;
 
     ghost most = { λ _. max_input_bytes };
 
-    ghost reading = { λ _. told_from max_input_bytes trades_fault trades_from };
+    ghost reading = { λ file. trades_told file.all };
 
-    ghost keeps = { λ _ trades. trades.merged ≡ false };
+    ghost keeps = { λ _ it. it.trades.merged ≡ false };
 
     fn most(&self) -> u64 {
         MAX_INPUT_BYTES
     }
 
-    fn value(&self, alloc: Global, name: &str, bytes: &[u8]) -> Result<Trades, Stop> {
+    fn value(&self, alloc: Global, name: &str, bytes: &[u8]) -> Result<GivenTrades, Stop> {
         match TradesFile.value(alloc, name, bytes) {
-            Ok(value) => Ok(value),
+            Ok(trades) => with_file(alloc, name, bytes, trades),
             Err(stop) => {
-                let fault = trades_fault(alloc, name, bytes);
+                let fault = trades_faults(alloc, name, bytes, self.all);
                 Err(told(stop, is_long(bytes, MAX_INPUT_BYTES), fault))
             }
         }
@@ -149,7 +196,7 @@ impl Input for ToldCash {
 
     ghost most = { λ _. max_input_bytes };
 
-    ghost reading = { λ file. told_from max_input_bytes (cash_fault file.room) (cash_from file.room) };
+    ghost reading = { λ file. told_from max_input_bytes (movement_faults file.all file.room) (cash_from file.room) };
 
     ghost keeps = { λ file movements. length movements ≤ file.room };
 
@@ -161,7 +208,7 @@ impl Input for ToldCash {
         match (CashFile { room: self.room }).value(alloc, name, bytes) {
             Ok(value) => Ok(value),
             Err(stop) => {
-                let fault = cash_fault(alloc, name, bytes, self.room);
+                let fault = movement_faults(alloc, name, bytes, self.room, self.all);
                 Err(told(stop, is_long(bytes, MAX_INPUT_BYTES), fault))
             }
         }

@@ -2,6 +2,7 @@
 //! status that `flux_look` answers.
 #![tactic(auto)]
 
+use drained_run::FreeGate;
 use flux_outside::{StdFiles, StdSink};
 use look_top::flux_look;
 use std::alloc::{AllocError, Global};
@@ -21,7 +22,9 @@ fn main(rt: HostRuntime) -> ExitCode {
     let mut files = StdFiles::new(&rt, alloc);
     let mut out = StdSink::new(rt.stdout());
     let mut err = StdSink::new(rt.stderr());
-    ExitCode::from(flux_look(alloc, &words, &mut files, &mut out, &mut err))
+    ExitCode::from(flux_look(
+        &rt, alloc, &words, &mut files, &mut out, &mut err, &FreeGate,
+    ))
 }
 
 // The words after the program's name. Words that are no text have no form, so they count as none.

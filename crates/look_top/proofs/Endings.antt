@@ -1,8 +1,8 @@
 -- How the program ends, from the answer of its words on.
-use Rattle.std.proofs.Common.{ℕ, ◌≡◌, List, refl, subst, sym, Ok, Err, inl}
+use Rattle.std.proofs.Common.{ℕ, ◌≡◌, List, [], refl, subst, sym, Ok, Err, inl}
 use Rattle.std.specs.Prelude.{IfErr, IfOk, IfSome, OnOk, Result}
 use Rattle.tuple_edge.specs.declared.event.Drained.TheVariants as drained
-use Rattle.command_course.specs.Course.{Course, StoppedShort}
+use Rattle.command_course.specs.Course.{Course, Runs, StoppedShort}
 use Rattle.command_course.specs.declared.stop.Stop.{Stop}
 use Rattle.command_course.specs.declared.stop.Stop.TheVariants as stop
 use Rattle.flux_outside.specs.Outside.{Adds, Call}
@@ -12,9 +12,10 @@ use Rattle.flux_top.proofs.LastSteps.{came_then, kept_of, short_then, unwritten_
 use Rattle.look_course.specs.Answers.{AnswerView}
 use Rattle.look_course.specs.declared.answer.Ending.{Ending}
 use Rattle.look_course.specs.declared.answer.Ending.TheVariants.{Done, Faulty, Lost, Warned}
-use Rattle.look_top.specs.Clauses.{ComesTo, ComesToAny, WritesWhole}
+use Rattle.look_top.specs.Asked.{Answers, Rehearses, Task, way_in}
+use Rattle.look_top.specs.Clauses.{CameTo, ComesTo, ComesToAny, WritesWhole}
 use Rattle.look_top.specs.Lines.{name}
-use Rattle.look_top.specs.Stops.{Answers, KeepsTo, StopsBefore, StopsTo, drained_of, written_of}
+use Rattle.look_top.specs.Stops.{Gives, KeepsTo, StopsBefore, StopsTo, TaskGives, drained_of, written_of}
 
 -- only the answer of a run that lost a pair is drained so
 lost_ending : (ending : Ending) (stage part : ℕ) → drained_of ending ≡ drained.Lost stage part → ending ≡ Lost stage part
@@ -23,13 +24,22 @@ lost_ending Warned stage part is = cc
 lost_ending Faulty stage part is = cc
 lost_ending (Lost s p) stage part is = cc
 
-module _ (before between after : FilesTold) (words : List (List ℕ)) (of : AnswerView) (answers : Answers before between words of) (same : between.contents ≡ before.contents) where
+module _ (before between after : FilesTold) (of : AnswerView) where
   -- the calls that read, and these after them
+  came_to : (task : Task) → TaskGives before between of task → (more : List Call) → Adds between.calls after.calls more → CameTo before after of.ending (written_of of) more task
+  came_to (Answers way) gives more added = λ next. came_then before between after (way next) (next of) (gives next) more added
+  came_to (Rehearses course picture) gives more added = (gives.run, came_then before between after course (Runs gives.run) gives.came more added, gives.rehearsed)
+
+  stopped_in : (task : Task) → TaskGives before between of task → Adds between.calls after.calls [] → (next : AnswerView → Course) → StoppedShort before after (way_in task next)
+  stopped_in (Answers way) gives none = λ next. short_then before between after (way next) (next of) (gives next) none
+  stopped_in (Rehearses course picture) gives none = λ next. short_then before between after course (Runs gives.run) gives.came none
+
+module _ (before between after : FilesTold) (words : List (List ℕ)) (of : AnswerView) (gives : Gives before between words of) (same : between.contents ≡ before.contents) where
   comes_of : (ending : Ending) → of.ending ≡ ending → (more : List Call) → Adds between.calls after.calls more → ComesTo before after words ending (written_of of) more
   comes_of ending is more added = subst (λ e. ComesTo before after words e (written_of of) more) is (record {
-    course = answers.course;
-    is_asked = answers.is_asked;
-    fact = λ next. came_then before between after (answers.course next) (next of) (answers.fact next) more added;
+    course = gives.course;
+    is_asked = gives.is_asked;
+    fact = came_to before between after of gives.course gives.fact more added;
   })
 
   comes_so : (more : List Call) → Adds between.calls after.calls more → ComesToAny before after words (written_of of) more
@@ -45,8 +55,8 @@ module _ (before between after : FilesTold) (words : List (List ℕ)) (of : Answ
     writes = whole_of before between after (ComesTo before after words (Lost stage part)) (written_of of) same (comes_of (Lost stage part) (lost_ending of.ending stage part stops.0)) old new stops.2;
     line_is = stops.1;
   }
-  stops_to calm old new stop.OutOfMemory stops = subst (λ w. IfSome w (λ way. (next : AnswerView → Course) → StoppedShort before after (way next))) (sym answers.is_asked)
-      (λ next. short_then before between after (answers.course next) (next of) (answers.fact next) stops.added)
+  stops_to calm old new stop.OutOfMemory stops = subst (λ t. IfSome t (λ task. (next : AnswerView → Course) → StoppedShort before after (way_in task next))) (sym gives.is_asked)
+      (stopped_in before between after of gives.course gives.fact stops.added)
 
   keeps_to : (old new : SinkTold) (why : Stop) → StopsFinish name between after old new (drained_of of.ending) (written_of of) why → KeepsTo before after words why
   keeps_to old new stop.Usage stops = absurd stops

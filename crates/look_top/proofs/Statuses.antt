@@ -1,8 +1,9 @@
 -- Which end a status tells of.
-use Rattle.std.proofs.Common.{ℕ, ◌≡◌, false, eqb, List, refl, subst, None, Ok, ⊎_elim, inl, inr}
+use Rattle.std.proofs.Common.{ℕ, ◌≡◌, false, eqb, ap, List, refl, subst, None, Ok, ⊎_elim, inl, inr}
 use Rattle.std.specs.Prelude.{◌≢◌, ◌⊎◌, Result}
 use Rattle.tuple_edge.specs.declared.event.Drained.TheVariants as drained
 use Rattle.pair_machine.specs.Drain.{partition}
+use Rattle.pair_machine.specs.Scripts.{IsSafe}
 use Rattle.command_course.specs.Steps.{IsWant}
 use Rattle.command_course.specs.declared.stop.Stop.{Stop}
 use Rattle.command_course.specs.declared.stop.Stop.TheVariants as stop
@@ -22,7 +23,7 @@ use Rattle.look_course.specs.declared.answer.Ending.TheVariants.{Done, Faulty, L
 use Rattle.look_top.specs.Clauses.{ComesToAny, FallsShort, IsComplete, IsStatus, MaySave, Rejects, SaysAt, SaysLost, SaysRefusal, SaysUnread, Settles, StaysAt, WritesNot, WritesWhole}
 use Rattle.look_top.specs.Lines.{lines}
 use Rattle.look_top.specs.Stops.{KeepsTo, StopsTo, drained_of}
-use Rattle.look_top.proofs.Completeness.{rejected_asked, rejected_unanswered, settled_asked, settled_saves, settled_status, settled_unrefused}
+use Rattle.look_top.proofs.Completeness.{LostSome, Obeyed, RanSo, Unobeyed, rejected_asked, rejected_unanswered, runs_asked, runs_ran, runs_unrefused, settled_asked, settled_saves, settled_status, settled_unrefused}
 
 -- ---- an answer that was written whole
 
@@ -127,6 +128,32 @@ pub stays_stopped : (before after : FilesTold) (words : List (List ℕ)) (why : 
 stays_stopped before after words why cause keeps saves wants = stays_stop Ending MaySave before after why cause (keeps_at before after words why keeps)
     (λ none_saved. saves (other_stop Ending why (saves_at (status_at why) none_saved))) wants
 
+-- ---- a rehearsal
+
+-- its status under a safe script
+safe_status : (ending : Ending) → RanSo (λ run. IsSafe run.script) ending → (status_of ending ≡ 0) ⊎ (status_of ending ≡ 1) ⊎ (status_of ending ≡ 8)
+safe_status ending (Obeyed is) = inl (ap status_of is)
+safe_status ending (Unobeyed is) = inr (inl (ap status_of is))
+safe_status ending (LostSome stage part is run safe unsafe) = absurd (unsafe safe)
+
+-- and under any
+ran_status : (ending : Ending) → RanSo (λ run. Unit {0}) ending → (status_of ending ≡ 0) ⊎ (status_of ending ≡ 1) ⊎ (status_of ending ≡ 6) ⊎ (status_of ending ≡ 8)
+ran_status ending (Obeyed is) = inl (ap status_of is)
+ran_status ending (Unobeyed is) = inr (inl (ap status_of is))
+ran_status ending (LostSome stage part is run kind unsafe) = inr (inr (inl (ap status_of is)))
+
+lost_done : (stage part : ℕ) → Lost stage part ≡ Done → ⊥
+lost_done stage part is = cc
+
+lost_warned : (stage part : ℕ) → Lost stage part ≡ Warned → ⊥
+lost_warned stage part is = cc
+
+-- no safe script loses a pair
+safe_unlost : (stage part : ℕ) → RanSo (λ run. IsSafe run.script) (Lost stage part) → ⊥
+safe_unlost stage part (Obeyed is) = lost_done stage part is
+safe_unlost stage part (Unobeyed is) = lost_warned stage part is
+safe_unlost stage part (LostSome s p is run safe unsafe) = unsafe safe
+
 -- ---- why words came to a stop
 
 module _ (before after : FilesTold) (words : List (List ℕ)) (old new : SinkTold) where
@@ -135,6 +162,8 @@ module _ (before after : FilesTold) (words : List (List ℕ)) (old new : SinkTol
   pub complete_answer : (ending : Ending) → drained_of ending ≡ drained.Whole → WritesWhole before after words ending old new → IsComplete (status_of ending) before after words old new
   complete_answer ending whole writes = record {
     settles = λ of settled reads saves puts. inl (settled_status before after words ending old new of settled writes);
+    runs = λ runs reads saves puts. safe_status ending (runs_ran (λ run. IsSafe run.script) before after words ending writes.ending (saves_of writes.ending.saved) runs writes.finishes.comes);
+    may_lose = λ runs reads saves puts. ran_status ending (runs_ran (λ run. Unit {0}) before after words ending writes.ending (saves_of writes.ending.saved) runs writes.finishes.comes);
     rejects = λ rejected reads. absurd (rejected_unanswered before after words ending writes.ending (saves_of writes.ending.saved) rejected writes.finishes.comes);
   }
 
@@ -148,6 +177,9 @@ module _ (before after : FilesTold) (words : List (List ℕ)) (old new : SinkTol
   settled_unwritten of settled saves puts not = ⊎_elim (λ part. puts part.rose)
       (λ fails. ⊎_elim (λ none. saves_something of settled none fails.0) (λ calm. calm fails.0.rose) saves) not
 
+  calm_unwritten : (Rose before.save_faults after.save_faults → ⊥) → (Rose old.faults new.faults → ⊥) → WritesNot before after words old new → ⊥
+  calm_unwritten saves puts not = ⊎_elim (λ part. puts part.rose) (λ fails. saves fails.0.rose) not
+
   rejected_unwritten : Rejects before.contents words → WritesNot before after words old new → ⊥
   rejected_unwritten rejected not = ⊎_elim
       (λ part. rejected_unanswered before after words part.finishes.comes.0 part.ending (saves_of part.ending.saved) rejected part.finishes.comes.1)
@@ -156,26 +188,39 @@ module _ (before after : FilesTold) (words : List (List ℕ)) (old new : SinkTol
   pub complete_stopped : (why : Stop) → StopsTo before after words old new why → HasCause before.read_faults after.read_faults why → IsComplete (status_at why) before after words old new
   complete_stopped stop.Usage stops cause = record {
     settles = λ of settled reads saves puts. absurd (settled_asked before.contents words of settled stops);
+    runs = λ runs reads saves puts. absurd (runs_asked (λ run. IsSafe run.script) before.contents words runs stops);
+    may_lose = λ runs reads saves puts. absurd (runs_asked (λ run. Unit {0}) before.contents words runs stops);
     rejects = λ rejected reads. absurd (rejected_asked before.contents words rejected stops);
   }
   complete_stopped (stop.Refused line) stops cause = record {
     settles = λ of settled reads saves puts. absurd (settled_unrefused before after words stops.line of settled stops.comes);
+    runs = λ runs reads saves puts. absurd (runs_unrefused (λ run. IsSafe run.script) before after words stops.line runs stops.comes);
+    may_lose = λ runs reads saves puts. absurd (runs_unrefused (λ run. Unit {0}) before after words stops.line runs stops.comes);
     rejects = λ rejected reads. inl refl;
   }
   complete_stopped (stop.CannotRead line) stops cause = record {
     settles = λ of settled reads saves puts. absurd (reads cause);
+    runs = λ runs reads saves puts. absurd (reads cause);
+    may_lose = λ runs reads saves puts. absurd (reads cause);
     rejects = λ rejected reads. absurd (reads cause);
   }
   complete_stopped stop.CannotWrite stops cause = record {
     settles = λ of settled reads saves puts. absurd (settled_unwritten of settled saves puts stops);
+    runs = λ runs reads saves puts. absurd (calm_unwritten saves puts stops);
+    may_lose = λ runs reads saves puts. absurd (calm_unwritten saves puts stops);
     rejects = λ rejected reads. absurd (rejected_unwritten rejected stops);
   }
   complete_stopped (stop.PairLost stage part line) stops cause = record {
     settles = λ of settled reads saves puts. inl (settled_status before after words (Lost stage part) old new of settled stops.writes);
+    runs = λ runs reads saves puts. absurd (safe_unlost stage part
+        (runs_ran (λ run. IsSafe run.script) before after words (Lost stage part) stops.writes.ending (saves_of stops.writes.ending.saved) runs stops.writes.finishes.comes));
+    may_lose = λ runs reads saves puts. inr (inr (inl refl));
     rejects = λ rejected reads. absurd (rejected_unanswered before after words (Lost stage part) stops.writes.ending (saves_of stops.writes.ending.saved) rejected stops.writes.finishes.comes);
   }
   complete_stopped stop.OutOfMemory stops cause = record {
     settles = λ of settled reads saves puts. inr refl;
+    runs = λ runs reads saves puts. inr (inr refl);
+    may_lose = λ runs reads saves puts. inr (inr (inr refl));
     rejects = λ rejected reads. inr refl;
   }
 

@@ -1,6 +1,7 @@
 -- What the clauses of `flux_look` say, as those of `flux` do, of its own lines, words and answers.
 use Rattle.std.specs.Prelude.{ℕ, ◌≡◌, ◌⊎◌, List, Option, None, Some, IfSome}
-use Rattle.command_course.specs.Course.{Came, Course, Leads, Refuses, StoppedShort}
+use Rattle.pair_machine.specs.Scripts.{IsSafe}
+use Rattle.command_course.specs.Course.{Came, Course, Leads, Refuses, Run, Runs, StoppedShort}
 use Rattle.command_course.specs.Lines.{cannot_read_line}
 use Rattle.command_course.specs.Steps.{IsUnread}
 use Rattle.flux_outside.specs.Outside.{Call, Names, Rose}
@@ -9,8 +10,9 @@ use Rattle.flux_top.specs.Programs as program
 use Rattle.look_course.specs.Answers.{AnswerView, status_of}
 use Rattle.look_course.specs.declared.answer.Ending.{Ending}
 use Rattle.look_course.specs.declared.answer.Ending.TheVariants.{Lost}
-use Rattle.look_top.specs.Asked.{AsksFor, asked}
+use Rattle.look_top.specs.Asked.{Answers, AsksFor, Rehearses, Task, asked, way_in}
 use Rattle.look_top.specs.Lines.{lines, lost_line, own_line}
+use Rattle.rehearse_command.specs.Rehearsals.{IsRehearsed}
 use Rattle.run_command.specs.Endings.{Ending as Written}
 
 -- ---- its statuses
@@ -37,9 +39,15 @@ StaysAt = program.StaysAt MaySave
 abbrev pub answer_with : Ending → Written → AnswerView
 answer_with ending written = record { text = written.text; ending = ending; saved = written.saved }
 
--- Whatever comes behind the words' answer, they came to it, by calls that read; these more calls were added after them. It is the answer that ends so.
+-- Whatever comes behind a task's answer, the task came to it, by calls that read; these more calls were added after them. It is the answer that ends so. A rehearsal
+-- came to a run, and that is the answer which tells of it.
+abbrev pub CameTo : FilesTold → FilesTold → Ending → Written → List Call → Task → Type 0
+CameTo before after ending written more (Answers way) = (next : AnswerView → Course) → program.CameThen before after more (way next) (next (answer_with ending written))
+CameTo before after ending written more (Rehearses course picture) = (run : Run) × program.CameThen before after more course (Runs run) × IsRehearsed run picture (answer_with ending written)
+
+-- the task that words ask for came there
 abbrev pub ComesTo : FilesTold → FilesTold → List (List ℕ) → Ending → Written → List Call → Type 0
-ComesTo before after words ending written more = AsksFor words (λ way. (next : AnswerView → Course) → program.CameThen before after more (way next) (next (answer_with ending written)))
+ComesTo before after words ending written more = AsksFor words (CameTo before after ending written more)
 
 -- they came to an answer, however it ends
 abbrev pub ComesToAny : FilesTold → FilesTold → List (List ℕ) → Written → List Call → Type 0
@@ -59,15 +67,15 @@ KeepsFiles before after words = program.KeepsFiles (ComesToAny before after word
 
 -- whatever comes behind the words' answer, they came to a refusal by the calls that were added
 abbrev pub ComesToRefusal : FilesTold → FilesTold → List (List ℕ) → List ℕ → Type 0
-ComesToRefusal before after words line = AsksFor words (λ way. (next : AnswerView → Course) → Came before after (way next) (Refuses line))
+ComesToRefusal before after words line = AsksFor words (λ task. (next : AnswerView → Course) → Came before after (way_in task next) (Refuses line))
 
 -- whatever comes behind the words' answer, they came to the reading of this file, which was tried last
 abbrev pub ComesToRead : FilesTold → FilesTold → List (List ℕ) → List ℕ → Type 0
-ComesToRead before after words file = AsksFor words (λ way. (next : AnswerView → Course) → IsUnread before after (way next) (cannot_read_line file))
+ComesToRead before after words file = AsksFor words (λ task. (next : AnswerView → Course) → IsUnread before after (way_in task next) (cannot_read_line file))
 
 -- the words' command stopped on its way, if they ask for one
 abbrev pub StopsShort : FilesTold → FilesTold → List (List ℕ) → Type 0
-StopsShort before after words = IfSome (asked words) (λ way. (next : AnswerView → Course) → StoppedShort before after (way next))
+StopsShort before after words = IfSome (asked words) (λ task. (next : AnswerView → Course) → StoppedShort before after (way_in task next))
 
 -- the same, and what names hold then
 abbrev pub FallsShort : FilesTold → FilesTold → List (List ℕ) → Type 0
@@ -87,16 +95,31 @@ SaysLost before after words = program.SaysLost (λ pair. ComesTo before after wo
 
 -- ---- over files that tell what they hold
 
+-- of what these names hold a task comes to this answer
+abbrev pub SettlesBy : Names → AnswerView → Task → Type 0
+SettlesBy named answer (Answers way) = (calls : List Call) × ((next : AnswerView → Course) → Leads (Some named) (way next) calls (next answer))
+SettlesBy named answer (Rehearses course picture) = ⊥
+
 -- the files tell what they hold, and of that the words come to this answer
 abbrev pub Settles : Option Names → List (List ℕ) → AnswerView → Type 0
 Settles None words answer = ⊥
-Settles (Some named) words answer = AsksFor words (λ way. (calls : List Call) × ((next : AnswerView → Course) → Leads (Some named) (way next) calls (next answer)))
+Settles (Some named) words answer = AsksFor words (SettlesBy named answer)
+
+-- of what these names hold a rehearsal comes to a run of this kind
+abbrev pub RunsBy : Names → (Run → Type 0) → Task → Type 0
+RunsBy named kind (Answers way) = ⊥
+RunsBy named kind (Rehearses course picture) = (calls : List Call) × (run : Run) × kind run × Leads (Some named) course calls (Runs run)
+
+-- the files tell what they hold, and of that the words come to the rehearsal of a run of this kind
+abbrev pub RunsSo : Option Names → List (List ℕ) → (Run → Type 0) → Type 0
+RunsSo None words kind = ⊥
+RunsSo (Some named) words kind = AsksFor words (RunsBy named kind)
 
 -- of what these names hold the words come to a refusal
 pub record RejectsBy (named : Names) (words : List (List ℕ)) : Type 0 where
   pub line : List ℕ
   pub calls : List Call
-  pub leads : AsksFor words (λ way. (next : AnswerView → Course) → Leads (Some named) (way next) calls (Refuses line))
+  pub leads : AsksFor words (λ task. (next : AnswerView → Course) → Leads (Some named) (way_in task next) calls (Refuses line))
 
 -- the files tell what they hold, and of that the words come to a refusal
 abbrev pub Rejects : Option Names → List (List ℕ) → Type 0
@@ -104,8 +127,12 @@ Rejects None words = ⊥
 Rejects (Some named) words = RejectsBy named words
 
 -- Where the files tell what they hold and no count rose, what they hold comes to its status, or it is refused, unless no memory was to be had. The count of faults
--- of saves matters only where a file is saved.
+-- of saves matters only where a file is saved. Only a rehearsal under a script that isn't safe may lose a pair.
 pub record IsComplete (status : ℕ) (before after : FilesTold) (words : List (List ℕ)) (old new : SinkTold) : Type 0 where
   pub settles : (answer : AnswerView) → Settles before.contents words answer → (Rose before.read_faults after.read_faults → ⊥)
       → (answer.saved ≡ None) ⊎ (Rose before.save_faults after.save_faults → ⊥) → (Rose old.faults new.faults → ⊥) → (status ≡ status_of answer.ending) ⊎ (status ≡ 8)
+  pub runs : RunsSo before.contents words (λ run. IsSafe run.script) → (Rose before.read_faults after.read_faults → ⊥) → (Rose before.save_faults after.save_faults → ⊥)
+      → (Rose old.faults new.faults → ⊥) → (status ≡ 0) ⊎ (status ≡ 1) ⊎ (status ≡ 8)
+  pub may_lose : RunsSo before.contents words (λ run. Unit {0}) → (Rose before.read_faults after.read_faults → ⊥) → (Rose before.save_faults after.save_faults → ⊥)
+      → (Rose old.faults new.faults → ⊥) → (status ≡ 0) ⊎ (status ≡ 1) ⊎ (status ≡ 6) ⊎ (status ≡ 8)
   pub rejects : Rejects before.contents words → (Rose before.read_faults after.read_faults → ⊥) → (status ≡ 3) ⊎ (status ≡ 8)

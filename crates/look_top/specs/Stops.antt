@@ -12,16 +12,26 @@ use Rattle.flux_outside.specs.Told.{FilesTold, SinkTold}
 use Rattle.look_course.specs.Answers.{AnswerView}
 use Rattle.look_course.specs.declared.answer.Ending.{Ending}
 use Rattle.look_course.specs.declared.answer.Ending.TheVariants.{Done, Faulty, Lost, Warned}
-use Rattle.look_top.specs.Asked.{AsksFor, asked}
+use Rattle.look_top.specs.Asked.{Answers, AsksFor, Rehearses, Task, asked}
 use Rattle.look_top.specs.Clauses.{ComesToRead, ComesToRefusal, KeepsFiles, StopsShort, WritesNot, WritesWhole}
 use Rattle.look_top.specs.Lines.{lost_line, own_line}
+use Rattle.rehearse_command.specs.Rehearsals.{CameToRehearsal}
 use Rattle.run_command.specs.Endings.{Ending as Written}
 
 -- ---- to an answer
 
--- the words' inputs were read by just the calls that were added, and what they say comes to this answer
-abbrev pub Answers : FilesTold → FilesTold → List (List ℕ) → AnswerView → Type 0
-Answers before after words answer = AsksFor words (λ way. GivesBy before after way answer)
+-- what is written of an answer, and saved before
+abbrev pub written_of : AnswerView → Written
+written_of answer = record { text = answer.text; saved = answer.saved }
+
+-- a task's inputs were read by just the calls that were added, and what they say comes to this answer; those of a rehearsal come to a run, of which it tells
+abbrev pub TaskGives : FilesTold → FilesTold → AnswerView → Task → Type 0
+TaskGives before after answer (Answers way) = GivesBy before after way answer
+TaskGives before after answer (Rehearses course picture) = CameToRehearsal before after course picture answer
+
+-- the words' task gave this answer
+abbrev pub Gives : FilesTold → FilesTold → List (List ℕ) → AnswerView → Type 0
+Gives before after words answer = AsksFor words (TaskGives before after answer)
 
 -- a line is said of a refused input
 pub record RefusesBy (before after : FilesTold) (words : List (List ℕ)) (said : List ℕ) : Type 0 where
@@ -45,10 +55,6 @@ StopsBefore before after words (stop.PairLost stage part line) = ⊥
 StopsBefore before after words stop.OutOfMemory = StopsShort before after words
 
 -- ---- behind it
-
--- what is written of an answer, and saved before
-abbrev pub written_of : AnswerView → Written
-written_of answer = record { text = answer.text; saved = answer.saved }
 
 -- whether the run that an answer tells of was whole; of another answer there is none
 abbrev pub drained_of : Ending → Drained

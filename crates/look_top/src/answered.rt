@@ -1,31 +1,38 @@
 // What words come to, before anything of it is written.
-ghost use Rattle.command_course.specs.Steps.{GivesBy, OnlyReads, StopsBy};
+ghost use Rattle.command_course.specs.Steps.{OnlyReads, StopsBy};
 ghost use Rattle.command_course.specs.declared.stop.Stop.TheVariants.{Usage};
 ghost use Rattle.flux_top.specs.Outcome.{texts};
 ghost use Rattle.look_course.specs.Answers.{answer_of};
-ghost use Rattle.look_top.specs.Asked.{asked, way_of};
-ghost use Rattle.look_top.specs.Stops.{Answers, StopsBefore};
-ghost use Rattle.look_words.specs.Forms.{request_of};
+ghost use Rattle.look_top.specs.Asked.{asked, task_of, way_in};
+ghost use Rattle.look_top.specs.Stops.{Gives, StopsBefore, TaskGives};
+ghost use Rattle.look_words.specs.Forms.{IsInRange, request_of};
 ghost use Rattle.std.specs.Prelude.{◌≡◌, Err, IfErr, IfOk, None};
 
 use crate::finished::NAME;
 use command_course::Stop;
+use drained_run::Gate;
 use flux_outside::Files;
 use flux_top::own_stop;
 use look_command::{check_report, story_text, timeline_text};
 use look_course::Answer;
 use look_words::{LookCommand, read_words};
+use rehearse_command::rehearse_report;
 use sift_command::sift_report;
 use sql_command::sql_report;
 use std::alloc::Global;
+use std::thread::Threads;
+use trace_command::trace_report;
+use why_command::{Wanted, why_report};
 
 /// What the words' command comes to, where they have a form.
-pub(crate) fn answered<F: Files>(
+pub(crate) fn answered<R: Threads + Sync, F: Files, G: Gate>(
+    rt: &R,
     alloc: Global,
     words: &[String],
     files: &mut F,
+    gate: &G,
 ) -> Result<Answer, Stop>
-    ensures comes { IfOk result (λ answer. Answers (F.told files.old) (F.told files.new) (texts words.now) (answer_of answer)) }
+    ensures gives { IfOk result (λ answer. Gives (F.told files.old) (F.told files.new) (texts words.now) (answer_of answer)) }
     ensures usage { asked (texts words.now) ≡ None → result ≡ Err Usage }
     ensures unasked { asked (texts words.now) ≡ None → files.new ≡ files.old }
     ensures stops { IfErr result (λ stop. StopsBefore (F.told files.old) (F.told files.new) (texts words.now) stop) }
@@ -33,7 +40,7 @@ pub(crate) fn answered<F: Files>(
 {
     match read_words(words) {
         None => Err(Stop::Usage),
-        Some(command) => match answer_of(alloc, files, command) {
+        Some(command) => match answer_of(rt, alloc, files, command, gate) {
             Ok(answer) => Ok(answer),
             Err(stop) => Err(own_stop(alloc, NAME, stop)),
         },
@@ -41,13 +48,16 @@ pub(crate) fn answered<F: Files>(
 }
 
 // What a command comes to.
-fn answer_of<F: Files>(
+fn answer_of<R: Threads + Sync, F: Files, G: Gate>(
+    rt: &R,
     alloc: Global,
     files: &mut F,
     command: LookCommand<'_>,
+    gate: &G,
 ) -> Result<Answer, Stop>
-    ensures gives { IfOk result (λ answer. GivesBy (F.told files.old) (F.told files.new) (way_of (request_of command.entry)) (answer_of answer)) }
-    ensures stops { IfErr result (λ stop. StopsBy (F.told files.old) (F.told files.new) (way_of (request_of command.entry)) stop) }
+    requires { IsInRange command }
+    ensures gives { IfOk result (λ answer. TaskGives (F.told files.old) (F.told files.new) (answer_of answer) (task_of (request_of command.entry))) }
+    ensures stops { IfErr result (λ stop. StopsBy (F.told files.old) (F.told files.new) (way_in (task_of (request_of command.entry))) stop) }
     ensures reads { OnlyReads (F.told files.old) (F.told files.new) result }
 {
     match command {
@@ -56,8 +66,9 @@ fn answer_of<F: Files>(
             trades,
             cash,
             script,
+            all,
             json,
-        } => check_report(alloc, files, plan, trades, cash, script, json),
+        } => check_report(alloc, files, plan, trades, cash, script, all, json),
         LookCommand::Story {
             plan,
             trades,
@@ -75,6 +86,46 @@ fn answer_of<F: Files>(
             json,
             only,
         } => timeline_text(alloc, files, plan, trades, events, cash, svg, only, json),
+        LookCommand::Rehearse {
+            plan,
+            trades,
+            script,
+            cash,
+            threads,
+            turns,
+            picture,
+        } => rehearse_report(
+            rt,
+            alloc,
+            files,
+            plan,
+            trades,
+            script,
+            cash,
+            threads,
+            u64::from(turns),
+            picture,
+            gate,
+        ),
+        LookCommand::Why {
+            plan,
+            trades,
+            number,
+            cash,
+            all,
+        } => {
+            let number = u64::from(number);
+            why_report(alloc, files, plan, trades, cash, Wanted { number, all })
+        }
+        LookCommand::Trace {
+            plan,
+            trades,
+            line,
+            cash,
+        } => {
+            let line = u64::from(line);
+            trace_report(alloc, files, plan, trades, line, cash)
+        }
         LookCommand::Sift { trades, rejects } => sift_report(alloc, files, trades, rejects),
         LookCommand::Sql { plan } => sql_report(alloc, files, plan),
     }

@@ -18,14 +18,16 @@ ghost use Rattle.tuple_edge.specs.declared.event.Drained.TheVariants as drained;
 use crate::answered::answered;
 use crate::finished::finished;
 use command_course::Stop;
+use drained_run::Gate;
 use flux_outside::{Files, Sink};
 use flux_top::say_stop;
 use look_course::Ending;
 use std::alloc::Global;
+use std::thread::Threads;
 
 /// What is said of words without a form.
 const USAGE: &str =
-    "flux_look: usage: check PLAN [TRADES] [--cash C] [--script S] [--json] | story PLAN TRADES EVENTS [--cash C] [--script S] [--json] | timeline PLAN TRADES EVENTS [--cash C] [--svg | --json] [--only] | sift TRADES --rejects R | sql PLAN\n";
+    "flux_look: usage: check PLAN [TRADES] [--cash C] [--script S] [--all] [--json] | story PLAN TRADES EVENTS [--cash C] [--script S] [--json] | timeline PLAN TRADES EVENTS [--cash C] [--svg | --json] [--only] | rehearse PLAN TRADES SCRIPT [--cash C] [--threads N] [--turns T] [--svg FILE] | why PLAN TRADES N [--cash C] [--all] | trace PLAN TRADES LINE [--cash C] | sift TRADES --rejects R | sql PLAN\n";
 
 /// What is said where a text, or a file, could not be written.
 const CANNOT_WRITE: &str = "flux_look: cannot write\n";
@@ -37,16 +39,18 @@ const OUT_OF_MEMORY: &str = "flux_look: out of memory\n";
 /// an order of a rehearsal was not obeyed, 2 where the words have no form, 3 where an input has a fault or an event is
 /// refused, 4 where a file can't be read, 5 where a file can't be saved or `out` took not all, 6 where a rehearsal lost a
 /// pair, 8 where no memory was to be had. One line goes to `err` for each status but 0 and 1, and but for the faults that
-/// `check` finds, which are its text. No call waits.
+/// `check` finds, which are its text. The gate is called at each turn of a rehearsal's workers; no call waits.
 ///
 /// The clauses of each status also say which calls of `files` were added, where they are told: one read of each input,
 /// in order, up to the last one that counts, and then the save of a file, where the answer has one.
-pub fn flux_look<F: Files, S: Sink, E: Sink>(
+pub fn flux_look<R: Threads + Sync, F: Files, S: Sink, E: Sink, G: Gate>(
+    rt: &R,
     alloc: Global,
     words: &[String],
     files: &mut F,
     out: &mut S,
     err: &mut E,
+    gate: &G,
 ) -> u8
     // 0 and 1: the text that the words ask for was written whole. At 1 it warns.
     ensures done { (result ≡ 0 → WritesWhole (F.told files.old) (F.told files.new) (texts words.now) Done (S.told out.old) (S.told out.new))
@@ -88,7 +92,7 @@ pub fn flux_look<F: Files, S: Sink, E: Sink>(
     // unless no memory was to be had.
     ensures complete { IsComplete result (F.told files.old) (F.told files.new) (texts words.now) (S.told out.old) (S.told out.new) }
 {
-    match run(alloc, words, files, out) {
+    match run(rt, alloc, words, files, out, gate) {
         Ok(ending) => status_of(ending),
         Err(stop) => said(err, &stop),
     }
@@ -115,11 +119,13 @@ fn said<E: Sink>(err: &mut E, stop: &Stop) -> u8
 }
 
 // All is read and computed before anything is saved or written.
-fn run<F: Files, S: Sink>(
+fn run<R: Threads + Sync, F: Files, S: Sink, G: Gate>(
+    rt: &R,
     alloc: Global,
     words: &[String],
     files: &mut F,
     out: &mut S,
+    gate: &G,
 ) -> Result<Ending, Stop>
     ensures written { IfOk result (λ ending. WritesWhole (F.told files.old) (F.told files.new) (texts words.now) ending (S.told out.old) (S.told out.new)) }
     ensures whole { IfOk result (λ ending. drained_of ending ≡ drained.Whole) }
@@ -133,7 +139,7 @@ fn run<F: Files, S: Sink>(
     ensures wants { StopsAtWant (F.told files.old).wants (F.told files.new).wants (IsWant result) }
     ensures quiet { IfErr result (λ stop. IsQuiet out.old out.new stop) }
 {
-    match answered(alloc, words, files) {
+    match answered(rt, alloc, words, files, gate) {
         Ok(answer) => finished(alloc, files, out, answer),
         Err(stop) => Err(stop),
     }

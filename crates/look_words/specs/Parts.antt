@@ -17,13 +17,31 @@ pub record Parts : Type 0 where
   pub cash : Option Text
   pub script : Option Text
   pub rejects : Option Text
+  pub picture : Option Text
+  pub threads : Option Text
+  pub turns : Option Text
   pub svg : Bool
   pub json : Bool
   pub only : Bool
+  pub all : Bool
 
 -- what no words give
 abbrev pub no_parts : Parts
-no_parts = record { first = None; second = None; third = None; cash = None; script = None; rejects = None; svg = false; json = false; only = false }
+no_parts = record {
+  first = None;
+  second = None;
+  third = None;
+  cash = None;
+  script = None;
+  rejects = None;
+  picture = None;
+  threads = None;
+  turns = None;
+  svg = false;
+  json = false;
+  only = false;
+  all = false;
+}
 
 -- a name stands in the first place that is free, of three
 abbrev pub in_place : Text → Parts → (first second third : Option Text) → Option Parts
@@ -45,6 +63,9 @@ abbrev pub value_given : Valued → Text → Parts → Option Parts
 value_given valued.Cash value parts = option_map (λ file. record parts { cash = Some file }) (taken parts.cash value)
 value_given valued.Script value parts = option_map (λ file. record parts { script = Some file }) (taken parts.script value)
 value_given valued.Rejects value parts = option_map (λ file. record parts { rejects = Some file }) (taken parts.rejects value)
+value_given valued.Picture value parts = option_map (λ file. record parts { picture = Some file }) (taken parts.picture value)
+value_given valued.Threads value parts = option_map (λ number. record parts { threads = Some number }) (taken parts.threads value)
+value_given valued.Turns value parts = option_map (λ number. record parts { turns = Some number }) (taken parts.turns value)
 
 -- that an option stands among the words, which is given once and has no value
 abbrev pub raised : Bool → Option Text → Option Bool
@@ -55,6 +76,7 @@ abbrev pub flag_given : Flag → Option Text → Parts → Option Parts
 flag_given flag.Svg value parts = option_map (λ up. record parts { svg = up }) (raised parts.svg value)
 flag_given flag.Json value parts = option_map (λ up. record parts { json = up }) (raised parts.json value)
 flag_given flag.Only value parts = option_map (λ up. record parts { only = up }) (raised parts.only value)
+flag_given flag.All value parts = option_map (λ up. record parts { all = up }) (raised parts.all value)
 
 -- ---- as the code holds it
 
@@ -71,9 +93,13 @@ parts_in parts = record {
   cash = text_in parts.cash;
   script = text_in parts.script;
   rejects = text_in parts.rejects;
+  picture = text_in parts.picture;
+  threads = text_in parts.threads;
+  turns = text_in parts.turns;
   svg = parts.svg;
   json = parts.json;
   only = parts.only;
+  all = parts.all;
 }
 
 -- an option that code has found: its name, and its value, if it has one

@@ -1,14 +1,15 @@
 // What words ask for.
 
-/// A command with the names of its files and its options. No name is empty or begins with `-`.
+/// A command with the names of its files, its numbers and its options. No name is empty or begins with `-`.
 #[derive(Clone, Copy)]
 pub enum LookCommand<'a> {
-    /// Says what a plan does and warns, or says the first fault of each file, in sentences or as JSON.
+    /// Says what a plan does and warns, or says the first fault of each file or all of them, in sentences or as JSON.
     Check {
         plan: &'a str,
         trades: Option<&'a str>,
         cash: Option<&'a str>,
         script: Option<&'a str>,
+        all: bool,
         json: bool,
     },
     /// Tells what happened in a run, from its events, in sentences or as JSON.
@@ -29,6 +30,31 @@ pub enum LookCommand<'a> {
         svg: bool,
         json: bool,
         only: bool,
+    },
+    /// Runs a plan under a failure script, and tells what became of each order.
+    Rehearse {
+        plan: &'a str,
+        trades: &'a str,
+        script: &'a str,
+        cash: Option<&'a str>,
+        threads: u32,
+        turns: u32,
+        picture: Option<&'a str>,
+    },
+    /// Tells how a row of the output came about, by the first and last rows on which it rests or by all.
+    Why {
+        plan: &'a str,
+        trades: &'a str,
+        number: u32,
+        cash: Option<&'a str>,
+        all: bool,
+    },
+    /// Tells what became of the trade in a line of its file.
+    Trace {
+        plan: &'a str,
+        trades: &'a str,
+        line: u32,
+        cash: Option<&'a str>,
     },
     /// Writes the records of a file of trades that are accepted, and saves the others.
     Sift {

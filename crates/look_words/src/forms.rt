@@ -1,10 +1,11 @@
 // The form of each command.
-ghost use Rattle.look_words.specs.Forms.{check_form, one, request, request_of, sift_form, sql_form, story_form, timeline_form};
+ghost use Rattle.look_words.specs.Forms.{IsInRange, check_form, one, rehearse_form, request, request_of, sift_form, sql_form, story_form, timeline_form, trace_form, why_form};
 ghost use Rattle.look_words.specs.Parts.{parts_in, text_in};
 ghost use Rattle.command_line.specs.Forms.{three};
-ghost use Rattle.std.specs.Prelude.{◌≡◌, option_map};
+ghost use Rattle.std.specs.Prelude.{◌≡◌, IfSome, option_map};
 
 use crate::LookCommand;
+use crate::numbers::{MAX_ROW_NUMBER, number_within, numbers_of};
 use crate::parts::Parts;
 
 // The name, where there is exactly one.
@@ -29,7 +30,8 @@ fn three<'a>(parts: &Parts<'a>) -> Option<(&'a str, &'a str, &'a str)>
 
 #[tactic(auto, unfolding(crate::specs::Forms::check_form))]
 fn check_of<'a>(parts: &Parts<'a>) -> Option<LookCommand<'a>>
-    ensures { option_map request_of result ≡ check_form (parts_in parts.now) }
+    ensures form { option_map request_of result ≡ check_form (parts_in parts.now) }
+    ensures within { IfSome result IsInRange }
 {
     if parts.third.is_some() {
         return None;
@@ -40,13 +42,15 @@ fn check_of<'a>(parts: &Parts<'a>) -> Option<LookCommand<'a>>
         trades: parts.second,
         cash: parts.cash,
         script: parts.script,
+        all: parts.all,
         json: parts.json,
     })
 }
 
 #[tactic(auto, unfolding(crate::specs::Forms::story_form))]
 fn story_of<'a>(parts: &Parts<'a>) -> Option<LookCommand<'a>>
-    ensures { option_map request_of result ≡ story_form (parts_in parts.now) }
+    ensures form { option_map request_of result ≡ story_form (parts_in parts.now) }
+    ensures within { IfSome result IsInRange }
 {
     let (plan, trades, events) = three(parts)?;
     Some(LookCommand::Story {
@@ -61,7 +65,8 @@ fn story_of<'a>(parts: &Parts<'a>) -> Option<LookCommand<'a>>
 
 #[tactic(auto, unfolding(crate::specs::Forms::timeline_form))]
 fn timeline_of<'a>(parts: &Parts<'a>) -> Option<LookCommand<'a>>
-    ensures { option_map request_of result ≡ timeline_form (parts_in parts.now) }
+    ensures form { option_map request_of result ≡ timeline_form (parts_in parts.now) }
+    ensures within { IfSome result IsInRange }
 {
     if parts.svg && parts.json {
         return None;
@@ -78,9 +83,59 @@ fn timeline_of<'a>(parts: &Parts<'a>) -> Option<LookCommand<'a>>
     })
 }
 
+#[tactic(auto, unfolding(crate::specs::Forms::rehearse_form))]
+fn rehearse_of<'a>(parts: &Parts<'a>) -> Option<LookCommand<'a>>
+    ensures form { option_map request_of result ≡ rehearse_form (parts_in parts.now) }
+    ensures within { IfSome result IsInRange }
+{
+    let (plan, trades, script) = three(parts)?;
+    let numbers = numbers_of(parts)?;
+    Some(LookCommand::Rehearse {
+        plan,
+        trades,
+        script,
+        cash: parts.cash,
+        threads: numbers.threads,
+        turns: numbers.turns,
+        picture: parts.picture,
+    })
+}
+
+#[tactic(auto, unfolding(crate::specs::Forms::why_form))]
+fn why_of<'a>(parts: &Parts<'a>) -> Option<LookCommand<'a>>
+    ensures form { option_map request_of result ≡ why_form (parts_in parts.now) }
+    ensures within { IfSome result IsInRange }
+{
+    let (plan, trades, number) = three(parts)?;
+    let number = number_within(0, MAX_ROW_NUMBER, number)?;
+    Some(LookCommand::Why {
+        plan,
+        trades,
+        number,
+        cash: parts.cash,
+        all: parts.all,
+    })
+}
+
+#[tactic(auto, unfolding(crate::specs::Forms::trace_form))]
+fn trace_of<'a>(parts: &Parts<'a>) -> Option<LookCommand<'a>>
+    ensures form { option_map request_of result ≡ trace_form (parts_in parts.now) }
+    ensures within { IfSome result IsInRange }
+{
+    let (plan, trades, line) = three(parts)?;
+    let line = number_within(0, MAX_ROW_NUMBER, line)?;
+    Some(LookCommand::Trace {
+        plan,
+        trades,
+        line,
+        cash: parts.cash,
+    })
+}
+
 #[tactic(auto, unfolding(crate::specs::Forms::sift_form))]
 fn sift_of<'a>(parts: &Parts<'a>) -> Option<LookCommand<'a>>
-    ensures { option_map request_of result ≡ sift_form (parts_in parts.now) }
+    ensures form { option_map request_of result ≡ sift_form (parts_in parts.now) }
+    ensures within { IfSome result IsInRange }
 {
     let trades = one(parts)?;
     let rejects = parts.rejects?;
@@ -89,7 +144,8 @@ fn sift_of<'a>(parts: &Parts<'a>) -> Option<LookCommand<'a>>
 
 #[tactic(auto, unfolding(crate::specs::Forms::sql_form))]
 fn sql_of<'a>(parts: &Parts<'a>) -> Option<LookCommand<'a>>
-    ensures { option_map request_of result ≡ sql_form (parts_in parts.now) }
+    ensures form { option_map request_of result ≡ sql_form (parts_in parts.now) }
+    ensures within { IfSome result IsInRange }
 {
     let plan = one(parts)?;
     Some(LookCommand::Sql { plan })
@@ -98,12 +154,16 @@ fn sql_of<'a>(parts: &Parts<'a>) -> Option<LookCommand<'a>>
 /// What a command of this name asks for with these parts.
 #[tactic(auto, unfolding(crate::specs::Forms::request))]
 pub(crate) fn request<'a>(command: &str, parts: &Parts<'a>) -> Option<LookCommand<'a>>
-    ensures { option_map request_of result ≡ request command.now (parts_in parts.now) }
+    ensures form { option_map request_of result ≡ request command.now (parts_in parts.now) }
+    ensures within { IfSome result IsInRange }
 {
     match command {
         "check" => check_of(parts),
         "story" => story_of(parts),
         "timeline" => timeline_of(parts),
+        "rehearse" => rehearse_of(parts),
+        "why" => why_of(parts),
+        "trace" => trace_of(parts),
         "sift" => sift_of(parts),
         "sql" => sql_of(parts),
         _ => None,

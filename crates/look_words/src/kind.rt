@@ -1,13 +1,16 @@
 // The options that each command has.
-ghost use Rattle.look_words.specs.Options.{check_option, option_kind, sift_option, story_option, timeline_option};
+ghost use Rattle.look_words.specs.Options.{check_option, option_kind, rehearse_option, sift_option, story_option, timeline_option, trace_option, why_option};
 ghost use Rattle.std.specs.Prelude.{◌≡◌};
 
-/// An option that has a value.
+/// An option that has a value: a file, or a number.
 #[derive(Clone, Copy)]
 pub(crate) enum Valued {
     Cash,
     Script,
     Rejects,
+    Picture,
+    Threads,
+    Turns,
 }
 
 /// An option that has none.
@@ -16,6 +19,7 @@ pub(crate) enum Flag {
     Svg,
     Json,
     Only,
+    All,
 }
 
 /// What an option is.
@@ -32,6 +36,7 @@ fn check_option(name: &str) -> Option<OptionKind>
     match name {
         "cash" => Some(OptionKind::WithValue(Valued::Cash)),
         "script" => Some(OptionKind::WithValue(Valued::Script)),
+        "all" => Some(OptionKind::Alone(Flag::All)),
         "json" => Some(OptionKind::Alone(Flag::Json)),
         _ => None,
     }
@@ -62,12 +67,46 @@ fn timeline_option(name: &str) -> Option<OptionKind>
     }
 }
 
+#[tactic(auto, unfolding(crate::specs::Options::why_option))]
+fn why_option(name: &str) -> Option<OptionKind>
+    ensures { result ≡ why_option name.now }
+{
+    match name {
+        "cash" => Some(OptionKind::WithValue(Valued::Cash)),
+        "all" => Some(OptionKind::Alone(Flag::All)),
+        _ => None,
+    }
+}
+
+#[tactic(auto, unfolding(crate::specs::Options::trace_option))]
+fn trace_option(name: &str) -> Option<OptionKind>
+    ensures { result ≡ trace_option name.now }
+{
+    match name {
+        "cash" => Some(OptionKind::WithValue(Valued::Cash)),
+        _ => None,
+    }
+}
+
 #[tactic(auto, unfolding(crate::specs::Options::sift_option))]
 fn sift_option(name: &str) -> Option<OptionKind>
     ensures { result ≡ sift_option name.now }
 {
     match name {
         "rejects" => Some(OptionKind::WithValue(Valued::Rejects)),
+        _ => None,
+    }
+}
+
+#[tactic(auto, unfolding(crate::specs::Options::rehearse_option))]
+fn rehearse_option(name: &str) -> Option<OptionKind>
+    ensures { result ≡ rehearse_option name.now }
+{
+    match name {
+        "cash" => Some(OptionKind::WithValue(Valued::Cash)),
+        "threads" => Some(OptionKind::WithValue(Valued::Threads)),
+        "turns" => Some(OptionKind::WithValue(Valued::Turns)),
+        "svg" => Some(OptionKind::WithValue(Valued::Picture)),
         _ => None,
     }
 }
@@ -81,6 +120,9 @@ pub(crate) fn option_kind(command: &str, name: &str) -> Option<OptionKind>
         "check" => check_option(name),
         "story" => story_option(name),
         "timeline" => timeline_option(name),
+        "rehearse" => rehearse_option(name),
+        "why" => why_option(name),
+        "trace" => trace_option(name),
         "sift" => sift_option(name),
         _ => None,
     }

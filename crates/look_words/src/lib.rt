@@ -7,6 +7,7 @@
 mod command;
 mod forms;
 mod kind;
+mod numbers;
 mod option;
 mod parts;
 mod read;

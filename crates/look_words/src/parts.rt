@@ -14,9 +14,13 @@ pub(crate) struct Parts<'a> {
     pub(crate) cash: Option<&'a str>,
     pub(crate) script: Option<&'a str>,
     pub(crate) rejects: Option<&'a str>,
+    pub(crate) picture: Option<&'a str>,
+    pub(crate) threads: Option<&'a str>,
+    pub(crate) turns: Option<&'a str>,
     pub(crate) svg: bool,
     pub(crate) json: bool,
     pub(crate) only: bool,
+    pub(crate) all: bool,
 }
 
 /// Whether a word may be a name or a value: it is not empty, and doesn't begin with `-`.
@@ -61,9 +65,13 @@ impl<'a> Parts<'a> {
             cash: None,
             script: None,
             rejects: None,
+            picture: None,
+            threads: None,
+            turns: None,
             svg: false,
             json: false,
             only: false,
+            all: false,
         }
     }
 
@@ -105,6 +113,18 @@ impl<'a> Parts<'a> {
                 rejects: Some(taken(self.rejects, value)?),
                 ..self
             }),
+            Valued::Picture => Some(Parts {
+                picture: Some(taken(self.picture, value)?),
+                ..self
+            }),
+            Valued::Threads => Some(Parts {
+                threads: Some(taken(self.threads, value)?),
+                ..self
+            }),
+            Valued::Turns => Some(Parts {
+                turns: Some(taken(self.turns, value)?),
+                ..self
+            }),
         }
     }
 
@@ -123,6 +143,10 @@ impl<'a> Parts<'a> {
             }),
             Flag::Only => Some(Parts {
                 only: raised(self.only, value)?,
+                ..self
+            }),
+            Flag::All => Some(Parts {
+                all: raised(self.all, value)?,
                 ..self
             }),
         }

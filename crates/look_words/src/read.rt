@@ -1,8 +1,8 @@
 // The reading of a command line.
-ghost use Rattle.look_words.specs.Forms.{form, request_of};
+ghost use Rattle.look_words.specs.Forms.{IsInRange, form, request_of};
 ghost use Rattle.look_words.specs.Parts.{parts_in};
 ghost use Rattle.look_words.specs.Reading.{after_words, given, reading_in};
-ghost use Rattle.std.specs.Prelude.{◌≡◌, map, option_map, string_bytes};
+ghost use Rattle.std.specs.Prelude.{◌≡◌, IfSome, map, option_map, string_bytes};
 
 use crate::LookCommand;
 use crate::forms::request;
@@ -33,7 +33,8 @@ fn given<'a>(command: &str, words: &'a [String]) -> Option<Parts<'a>>
 /// What the words after the program's name ask for. None where they have no form.
 #[tactic(auto, unfolding(crate::specs::Forms::form))]
 pub fn read_words(words: &[String]) -> Option<LookCommand<'_>>
-    ensures { option_map request_of result ≡ form (map string_bytes words.now) }
+    ensures form { option_map request_of result ≡ form (map string_bytes words.now) }
+    ensures within { IfSome result IsInRange }
 {
     let (command, rest) = words.split_first()?;
     request(command.as_str(), &given(command.as_str(), rest)?)

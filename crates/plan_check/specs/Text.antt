@@ -1,12 +1,7 @@
--- The text of a check.
-use Rattle.std.specs.Prelude.{ℕ, Bool, List, ◌++◌, Option, codes, flat_map, length, if◌then◌else◌}
+-- The lines of warnings.
+use Rattle.std.specs.Prelude.{ℕ, Bool, List, ◌++◌, codes, if◌then◌else◌}
 use Rattle.std.specs.Fmt.{decimal}
-use Rattle.pair_machine.specs.declared.order.Order.{Order}
-use Rattle.plan_reader.specs.PlanView.{PlanView}
 use Rattle.plan_reader.specs.Text.{column_name}
-use Rattle.trade_text.specs.TradesView.{TradesView}
-use Rattle.plan_check.specs.Sentences.{plan_sentences, script_sentences, trades_sentences}
-use Rattle.plan_check.specs.Warnings.{warnings}
 use Rattle.plan_check.specs.Words.{order_text, stage_text}
 use Rattle.plan_check.specs.declared.warning.Numbered.{Numbered}
 use Rattle.plan_check.specs.declared.warning.Warning.{Warning}
@@ -41,11 +36,3 @@ warned (warning.Alone o back items partner) =
 -- the line of a warning
 abbrev pub warning_line : Warning → List ℕ
 warning_line w = codes "Warning: " ++ warned w ++ codes ".\n"
-
--- the lines of warnings, and how many there are
-abbrev pub warnings_text : List Warning → List ℕ
-warnings_text found = flat_map warning_line found ++ codes "Warnings: " ++ decimal (length found) ++ codes ".\n"
-
--- the text of a check: the sentences on all that is given, and the warnings
-abbrev pub check_text : PlanView → Option TradesView → Option (List Order) → List ℕ
-check_text plan trades script = plan_sentences plan ++ trades_sentences trades ++ script_sentences script ++ warnings_text (warnings plan script)

@@ -22,9 +22,13 @@ mod warning;
 mod warning_text;
 mod words;
 
-pub use check::{Checked, write_check};
+pub use check::{push_sentences, push_warnings};
 pub use law::{
     ends_stay_together, keys_stay_together, quiet_plans_deal_none, unsafe_scripts_are_told,
     worked_rows,
 };
 pub use limits::LONG_MARK;
+pub use order::is_window;
+pub use orders::push_script;
+pub use warning::Numbered;
+pub use words::{push_order, push_stage};

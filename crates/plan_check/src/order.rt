@@ -8,8 +8,8 @@ use op_spec::{By, OpSpec};
 use plan_reader::Stage;
 use tuple_edge::Column;
 
-// Whether an operator is a `window`.
-pub(crate) fn is_window(op: &OpSpec) -> bool
+/// Whether an operator is a `window`.
+pub fn is_window(op: &OpSpec) -> bool
     ensures { result ≡ is_window op.now }
 {
     matches!(op, OpSpec::Window { .. })

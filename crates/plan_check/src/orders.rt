@@ -76,8 +76,8 @@ fn push_given(text: &mut String, orders: &[Order]) -> Result<(), OutOfMemory>
     Ok(())
 }
 
-// Appends what a script asks for, where there is one.
-pub(crate) fn push_script(text: &mut String, script: Option<&Script>) -> Result<(), OutOfMemory>
+/// Appends what a script asks for, where there is one.
+pub fn push_script(text: &mut String, script: Option<&Script>) -> Result<(), OutOfMemory>
     ensures { OnOk result (string_bytes text.new ≡ string_bytes text.old ++ script_sentences (option_map (λ s. s.now) script.entry)) }
 {
     match script {

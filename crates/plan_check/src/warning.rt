@@ -4,9 +4,9 @@ use plan_reader::Stage;
 
 /// A stage with its number, from 1.
 #[derive(Clone, Copy)]
-pub(crate) struct Numbered {
-    pub(crate) number: usize,
-    pub(crate) stage: Stage,
+pub struct Numbered {
+    pub number: usize,
+    pub stage: Stage,
 }
 
 /// What is hardly meant about a plan or a script.

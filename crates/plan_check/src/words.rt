@@ -106,8 +106,8 @@ fn push_op(text: &mut String, op: &OpSpec) -> Result<(), OutOfMemory>
     Ok(())
 }
 
-// Appends a stage's number and its operator.
-pub(crate) fn push_stage(text: &mut String, stage: &Numbered) -> Result<(), OutOfMemory>
+/// Appends a stage's number and its operator.
+pub fn push_stage(text: &mut String, stage: &Numbered) -> Result<(), OutOfMemory>
     ensures { OnOk result (string_bytes text.new ≡ string_bytes text.old ++ stage_text stage.now) }
 {
     let number = stage.number;
@@ -133,8 +133,8 @@ fn push_back(text: &mut String, back: Option<u64>) -> Result<(), OutOfMemory>
     Ok(())
 }
 
-// Appends the words of an order.
-pub(crate) fn push_order(text: &mut String, order: &Order) -> Result<(), OutOfMemory>
+/// Appends the words of an order.
+pub fn push_order(text: &mut String, order: &Order) -> Result<(), OutOfMemory>
     ensures { OnOk result (string_bytes text.new ≡ string_bytes text.old ++ order_text order.now) }
 {
     let kind = kill_text(order.kill);

@@ -16,4 +16,5 @@ mod query;
 mod routed;
 
 pub use law::worked_texts;
+pub use line::push_stage;
 pub use query::write_sql;

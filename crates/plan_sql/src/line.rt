@@ -85,8 +85,8 @@ fn push_op(text: &mut String, op: &OpSpec) -> Result<(), OutOfMemory>
     Ok(())
 }
 
-// Appends the line of a stage with its number.
-pub(crate) fn push_stage(text: &mut String, number: usize, stage: &Stage) -> Result<(), OutOfMemory>
+/// Appends the line of a stage with its number.
+pub fn push_stage(text: &mut String, number: usize, stage: &Stage) -> Result<(), OutOfMemory>
     ensures { OnOk result (string_bytes text.new ≡ string_bytes text.old ++ line_text (stage_words number stage.now)) }
 {
     let parts = stage.parts;

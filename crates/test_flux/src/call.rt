@@ -103,7 +103,7 @@ pub(crate) fn call<R: Threads + Sync>(
     let mut err = sinks.err.make(alloc)?;
     let status = match program {
         Program::Flux => flux(rt, alloc, &words, files, &mut out, &mut err, gate),
-        Program::Look => flux_look(alloc, &words, files, &mut out, &mut err),
+        Program::Look => flux_look(rt, alloc, &words, files, &mut out, &mut err, gate),
     };
     Ok(Called { status, out, err })
 }

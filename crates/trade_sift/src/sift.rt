@@ -13,7 +13,7 @@ ghost use Rattle.trade_text.specs.Refusals.{IsRefusalOf};
 
 use crate::rejects::{reject_row, rejects_header};
 use csv::{ByteRecord, Reader};
-use input_faults::record_line;
+use input_faults::RecordLines;
 use record_faults::{guarded, next_record, open_file, push_row, trade_faults, without_mark};
 use std::alloc::Global;
 use std::marker::Model;
@@ -72,15 +72,16 @@ struct Texts {
 fn push_reject(
     alloc: Global,
     rejects: &mut Vec<u8>,
-    text: &[u8],
+    lines: &mut RecordLines<'_>,
     names: usize,
     number: u64,
     fields: &ByteRecord,
     error: TradeError,
 ) -> Result<(), OutOfMemory>
-    ensures { OnOk result (rejects.new.items ≡ rejects.old.items ++ row_text default_writer (reject_row (line_of text.now number) names (fields_of fields.now) error)) }
+    ensures rejects { OnOk result (rejects.new.items ≡ rejects.old.items ++ row_text default_writer (reject_row (line_of lines.old number) names (fields_of fields.now) error)) }
+    ensures text { lines.new ≡ lines.old }
 {
-    let line = record_line(text, number);
+    let line = lines.line(number);
     let row = reject_row(alloc, line, names, fields, error)?;
     push_row(alloc, rejects, &row)
 }
@@ -89,21 +90,22 @@ fn push_reject(
 fn push_record(
     alloc: Global,
     texts: &mut Texts,
-    text: &[u8],
+    lines: &mut RecordLines<'_>,
     names: usize,
     number: u64,
     fields: &ByteRecord,
     fault: Option<TradeError>,
 ) -> Result<(), OutOfMemory>
     ensures kept { OnOk result (texts.new.kept.items ≡ texts.old.kept.items ++ rows_text (accepted (fault ∷ []) (fields_of fields.now ∷ []))) }
-    ensures rejects { OnOk result (texts.new.rejects.items ≡ texts.old.rejects.items ++ rows_text (reject_rows text.now names number (fault ∷ []) (fields_of fields.now ∷ []))) }
+    ensures rejects { OnOk result (texts.new.rejects.items ≡ texts.old.rejects.items ++ rows_text (reject_rows lines.old names number (fault ∷ []) (fields_of fields.now ∷ []))) }
+    ensures text { lines.new ≡ lines.old }
 {
     match fault {
         None => push_row(alloc, &mut texts.kept, fields),
         Some(error) => push_reject(
             alloc,
             &mut texts.rejects,
-            text,
+            lines,
             names,
             number,
             fields,
@@ -124,7 +126,7 @@ fn fault_at(faults: &[Option<TradeError>], place: usize) -> Option<TradeError>
 fn push_records(
     alloc: Global,
     texts: &mut Texts,
-    text: &[u8],
+    lines: &mut RecordLines<'_>,
     names: usize,
     reader: &mut Reader<&[u8]>,
     faults: &[Option<TradeError>],
@@ -132,7 +134,7 @@ fn push_records(
     ensures kept { OnOk result ((state : State) (left : List ℕ) → HasLeft reader.old state left → ends_at_end state ≡ false
         → texts.new.kept.items ≡ texts.old.kept.items ++ rows_text (accepted faults.now (records_left state left))) }
     ensures rejects { OnOk result ((state : State) (left : List ℕ) → HasLeft reader.old state left → ends_at_end state ≡ false
-        → texts.new.rejects.items ≡ texts.old.rejects.items ++ rows_text (reject_rows text.now names 2 faults.now (records_left state left))) }
+        → texts.new.rejects.items ≡ texts.old.rejects.items ++ rows_text (reject_rows lines.old names 2 faults.now (records_left state left))) }
 {
     let mut fields = ByteRecord::new(alloc);
     // The header is record 1.
@@ -142,7 +144,7 @@ fn push_records(
             return Ok(());
         }
         let fault = fault_at(faults, nth);
-        push_record(alloc, texts, text, names, number, &fields, fault)?;
+        push_record(alloc, texts, lines, names, number, &fields, fault)?;
         number += 1;
     }
     Ok(())
@@ -178,7 +180,7 @@ pub fn sift_trades(alloc: Global, bytes: &[u8]) -> Result<Sifted, TradeError>
     push_records(
         alloc,
         &mut texts,
-        without_mark(bytes),
+        &mut RecordLines::new(without_mark(bytes)),
         names,
         &mut reader,
         &faults,

@@ -10,22 +10,22 @@ use Rattle.look_command.specs.Check.{checks_script, room_beside, tries_cash}
 pub returns-in-Ok-clause-gives : goal.returns-in-Ok-clause-gives
 returns-in-Ok-clause-gives g c =
     let cash = option_map (λ n. n.now) c.args.cash in
-    let gives = subst (λ room. GivesBy (g.F.Files.told c.args.files.now) (g.F.Files.told c.tried_cash.new.files) (tries_cash (tried_of c.args.plan) room cash) (named_of c.in-Ok.cash))
+    let gives = subst (λ room. GivesBy (g.F.Files.told c.args.files.now) (g.F.Files.told c.tried_cash.new.files) (tries_cash c.args.all (tried_of c.args.plan) room cash) (named_of c.in-Ok.cash))
     c.room_beside-room.ensures c.in-Ok.ensures.gives in
     ok_gives answer_of (g.F.Files.told c.args.files.now) (g.F.Files.told c.tried_cash.new.files) (g.F.Files.told c.with_script.new.files)
-    (tries_cash (tried_of c.args.plan) (room_beside (named_of c.args.trades)) cash) (checks_script (option_map (λ n. n.now) c.args.script) c.args.json (tried_of c.args.plan) (named_of c.args.trades)) (named_of c.in-Ok.cash) c.with_script.result
+    (tries_cash c.args.all (tried_of c.args.plan) (room_beside (named_of c.args.trades)) cash) (checks_script (option_map (λ n. n.now) c.args.script) c.args.json (tried_of c.args.plan) (named_of c.args.trades)) (named_of c.in-Ok.cash) c.with_script.result
     c.in-Ok.ensures.reads.contents gives c.with_script.ensures.gives
 
 pub returns-in-Ok-clause-stops : goal.returns-in-Ok-clause-stops
 returns-in-Ok-clause-stops g c =
     let cash = option_map (λ n. n.now) c.args.cash in
-    let gives = subst (λ room. GivesBy (g.F.Files.told c.args.files.now) (g.F.Files.told c.tried_cash.new.files) (tries_cash (tried_of c.args.plan) room cash) (named_of c.in-Ok.cash))
+    let gives = subst (λ room. GivesBy (g.F.Files.told c.args.files.now) (g.F.Files.told c.tried_cash.new.files) (tries_cash c.args.all (tried_of c.args.plan) room cash) (named_of c.in-Ok.cash))
     c.room_beside-room.ensures c.in-Ok.ensures.gives in
     err_stops (g.F.Files.told c.args.files.now) (g.F.Files.told c.tried_cash.new.files) (g.F.Files.told c.with_script.new.files)
-    (tries_cash (tried_of c.args.plan) (room_beside (named_of c.args.trades)) cash) (checks_script (option_map (λ n. n.now) c.args.script) c.args.json (tried_of c.args.plan) (named_of c.args.trades)) (named_of c.in-Ok.cash) c.with_script.result
+    (tries_cash c.args.all (tried_of c.args.plan) (room_beside (named_of c.args.trades)) cash) (checks_script (option_map (λ n. n.now) c.args.script) c.args.json (tried_of c.args.plan) (named_of c.args.trades)) (named_of c.in-Ok.cash) c.with_script.result
     c.in-Ok.ensures.reads.contents gives c.with_script.ensures.stops
 
 pub returns-in-Err-clause-stops : goal.returns-in-Err-clause-stops
 returns-in-Err-clause-stops g c = λ next.
-    subst (λ room. StopsBy (g.F.Files.told c.args.files.now) (g.F.Files.told c.tried_cash.new.files) (tries_cash (tried_of c.args.plan) room (option_map (λ n. n.now) c.args.cash)) c.in-Err.stop)
+    subst (λ room. StopsBy (g.F.Files.told c.args.files.now) (g.F.Files.told c.tried_cash.new.files) (tries_cash c.args.all (tried_of c.args.plan) room (option_map (λ n. n.now) c.args.cash)) c.in-Err.stop)
     c.room_beside-room.ensures c.in-Err.ensures.stops (λ movements. checks_script (option_map (λ n. n.now) c.args.script) c.args.json (tried_of c.args.plan) (named_of c.args.trades) movements next)

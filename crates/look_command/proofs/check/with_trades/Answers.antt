@@ -9,15 +9,15 @@ use Rattle.look_command.specs.Check.{checks_cash, trades_told}
 pub returns-in-Ok-clause-gives : goal.returns-in-Ok-clause-gives
 returns-in-Ok-clause-gives g c =
     ok_gives answer_of (g.F.Files.told c.args.files.now) (g.F.Files.told c.tried_if_named.new.files) (g.F.Files.told c.with_cash.new.files)
-    (tries_named max_input_bytes trades_told (option_map (λ n. n.now) c.args.trades)) (checks_cash (option_map (λ n. n.now) c.args.cash) (option_map (λ n. n.now) c.args.script) c.args.json (tried_of c.args.plan)) (named_of c.in-Ok.trades) c.with_cash.result
+    (tries_named max_input_bytes (trades_told c.args.all) (option_map (λ n. n.now) c.args.trades)) (checks_cash (option_map (λ n. n.now) c.args.cash) (option_map (λ n. n.now) c.args.script) c.args.all c.args.json (tried_of c.args.plan)) (named_of c.in-Ok.trades) c.with_cash.result
     c.in-Ok.ensures.reads.contents c.in-Ok.ensures.gives c.with_cash.ensures.gives
 
 pub returns-in-Ok-clause-stops : goal.returns-in-Ok-clause-stops
 returns-in-Ok-clause-stops g c =
     err_stops (g.F.Files.told c.args.files.now) (g.F.Files.told c.tried_if_named.new.files) (g.F.Files.told c.with_cash.new.files)
-    (tries_named max_input_bytes trades_told (option_map (λ n. n.now) c.args.trades)) (checks_cash (option_map (λ n. n.now) c.args.cash) (option_map (λ n. n.now) c.args.script) c.args.json (tried_of c.args.plan)) (named_of c.in-Ok.trades) c.with_cash.result
+    (tries_named max_input_bytes (trades_told c.args.all) (option_map (λ n. n.now) c.args.trades)) (checks_cash (option_map (λ n. n.now) c.args.cash) (option_map (λ n. n.now) c.args.script) c.args.all c.args.json (tried_of c.args.plan)) (named_of c.in-Ok.trades) c.with_cash.result
     c.in-Ok.ensures.reads.contents c.in-Ok.ensures.gives c.with_cash.ensures.stops
 
 pub returns-in-Err-clause-stops : goal.returns-in-Err-clause-stops
 returns-in-Err-clause-stops g c = λ next.
-    c.in-Err.ensures.stops (λ them. checks_cash (option_map (λ n. n.now) c.args.cash) (option_map (λ n. n.now) c.args.script) c.args.json (tried_of c.args.plan) them next)
+    c.in-Err.ensures.stops (λ them. checks_cash (option_map (λ n. n.now) c.args.cash) (option_map (λ n. n.now) c.args.script) c.args.all c.args.json (tried_of c.args.plan) them next)

@@ -14,7 +14,7 @@ use Rattle.look_top.proofs.command.run.Goals as goal
 pub returns-in-Ok-clause-written : goal.returns-in-Ok-clause-written
 returns-in-Ok-clause-written g c =
     finished_whole (g.F.Files.told c.args.files.now) (g.F.Files.told c.answered.new.files) (g.F.Files.told c.finished.new.files) (map string_bytes c.args.words.now) (answer_of c.in-Ok.answer)
-    c.in-Ok.ensures.comes c.in-Ok.ensures.reads.contents (g.S.Sink.told c.args.out.now) (g.S.Sink.told c.finished.new.out) c.finished.result c.finished.ensures.whole c.finished.ensures.finished
+    c.in-Ok.ensures.gives c.in-Ok.ensures.reads.contents (g.S.Sink.told c.args.out.now) (g.S.Sink.told c.finished.new.out) c.finished.result c.finished.ensures.whole c.finished.ensures.finished
 
 pub returns-in-Ok-clause-whole : goal.returns-in-Ok-clause-whole
 returns-in-Ok-clause-whole g c = finished_ends c.in-Ok.answer.ending c.finished.result c.finished.ensures.whole
@@ -22,12 +22,12 @@ returns-in-Ok-clause-whole g c = finished_ends c.in-Ok.answer.ending c.finished.
 pub returns-in-Ok-clause-stops : goal.returns-in-Ok-clause-stops
 returns-in-Ok-clause-stops g c =
     finished_stops (g.F.Files.told c.args.files.now) (g.F.Files.told c.answered.new.files) (g.F.Files.told c.finished.new.files) (map string_bytes c.args.words.now) (answer_of c.in-Ok.answer)
-    c.in-Ok.ensures.comes c.in-Ok.ensures.reads.contents (g.S.Sink.told c.args.out.now) (g.S.Sink.told c.finished.new.out) c.finished.result c.in-Ok.ensures.reads.saves c.finished.ensures.stops
+    c.in-Ok.ensures.gives c.in-Ok.ensures.reads.contents (g.S.Sink.told c.args.out.now) (g.S.Sink.told c.finished.new.out) c.finished.result c.in-Ok.ensures.reads.saves c.finished.ensures.stops
 
 pub returns-in-Ok-clause-kept : goal.returns-in-Ok-clause-kept
 returns-in-Ok-clause-kept g c =
     finished_keeps (g.F.Files.told c.args.files.now) (g.F.Files.told c.answered.new.files) (g.F.Files.told c.finished.new.files) (map string_bytes c.args.words.now) (answer_of c.in-Ok.answer)
-    c.in-Ok.ensures.comes c.in-Ok.ensures.reads.contents (g.S.Sink.told c.args.out.now) (g.S.Sink.told c.finished.new.out) c.finished.result c.finished.ensures.stops
+    c.in-Ok.ensures.gives c.in-Ok.ensures.reads.contents (g.S.Sink.told c.args.out.now) (g.S.Sink.told c.finished.new.out) c.finished.result c.finished.ensures.stops
 
 pub returns-in-Ok-clause-cause : goal.returns-in-Ok-clause-cause
 returns-in-Ok-clause-cause g c =

@@ -11,7 +11,8 @@ use Rattle.trade_sift.proofs.sift.push_records.Given as goal
 abbrev pub invariant-loop-nth : goal.invariant-loop-nth
 invariant-loop-nth l = record {
   goes : (state : State) (left : List ℕ) → HasLeft l.fn.reader state left → ends_at_end state ≡ false
-      → GoesOn l.text l.names l.number l.texts.kept.items l.texts.rejects.items (l.fn.texts.kept.items ++ rows_text (accepted l.faults (records_left state left)))
-      (l.fn.texts.rejects.items ++ rows_text (reject_rows l.text l.names 2 l.faults (records_left state left))) (drop l.nth l.faults) l.reader;
+      → GoesOn l.fn.lines l.names l.number l.texts.kept.items l.texts.rejects.items (l.fn.texts.kept.items ++ rows_text (accepted l.faults (records_left state left)))
+      (l.fn.texts.rejects.items ++ rows_text (reject_rows l.fn.lines l.names 2 l.faults (records_left state left))) (drop l.nth l.faults) l.reader;
   few : l.number ≡ l.nth + 2;
+  text : l.lines ≡ l.fn.lines;
 }

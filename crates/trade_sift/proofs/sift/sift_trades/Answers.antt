@@ -13,7 +13,7 @@ returns-clause-parts c =
     let rows = records_left on.state on.text in
     let faults = c.in_ok-faults.faults.items in
     let kept = rw c.deref.ensures.value at (c.in_ok-push_records.ensures.kept on.state on.text on.left on.between) in
-    let rejects = rw (c.deref.ensures.value, c.without_mark.ensures, c.len-names.ensures) at (c.in_ok-push_records.ensures.rejects on.state on.text on.left on.between) in
+    let rejects = rw (c.deref.ensures.value, c.new.ensures, c.without_mark.ensures, c.len-names.ensures) at (c.in_ok-push_records.ensures.rejects on.state on.text on.left on.between) in
     let same = written bytes header rows faults c.in_ok-texts.texts.kept.items c.in_ok-texts.texts.rejects.items c.push_records.new.texts.kept.items c.push_records.new.texts.rejects.items c.in_ok-kept.kept.items
     c.in_ok-texts.ensures.kept c.in_ok-texts.ensures.rejects kept rejects (rw c.deref-2.ensures.value at c.in_ok-kept.ensures) in
     answered bytes (record { header = header; records = rows }) faults _ c.in_ok-faults.ensures.answers on.is (both_parts _ _ _ same)
@@ -26,7 +26,7 @@ returns-clause-accepted c =
     let rows = records_left on.state on.text in
     let faults = c.in_ok-faults.faults.items in
     let kept = rw c.deref.ensures.value at (c.in_ok-push_records.ensures.kept on.state on.text on.left on.between) in
-    let rejects = rw (c.deref.ensures.value, c.without_mark.ensures, c.len-names.ensures) at (c.in_ok-push_records.ensures.rejects on.state on.text on.left on.between) in
+    let rejects = rw (c.deref.ensures.value, c.new.ensures, c.without_mark.ensures, c.len-names.ensures) at (c.in_ok-push_records.ensures.rejects on.state on.text on.left on.between) in
     let same = written bytes header rows faults c.in_ok-texts.texts.kept.items c.in_ok-texts.texts.rejects.items c.push_records.new.texts.kept.items c.push_records.new.texts.rejects.items c.in_ok-kept.kept.items
     c.in_ok-texts.ensures.kept c.in_ok-texts.ensures.rejects kept rejects (rw c.deref-2.ensures.value at c.in_ok-kept.ensures) in
     subst IsAccepted (sym same.0) (kept_is_accepted bytes (record { header = header; records = rows }) faults c.in_ok-faults.ensures.answers on.is)

@@ -1,0 +1,3 @@
+pub mod Laws
+pub mod Reach
+pub mod WorkedRows

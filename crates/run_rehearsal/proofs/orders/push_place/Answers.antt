@@ -1,0 +1,5 @@
+use Rattle.std.proofs.Common.{◌∙◌, append_assoc}
+use Rattle.run_rehearsal.proofs.orders.push_place.Goals as goal
+
+pub returns : goal.returns
+returns c = c.in_ok-write-2.ensures.bytes ∙ simp (c.in_ok-write.ensures.bytes, append_assoc)

@@ -1,0 +1,4 @@
+pub mod Fates
+pub mod Merged
+pub mod RehearsalText
+pub mod WorkedRehearsal
