@@ -28,15 +28,10 @@ log=$main/out/launcher.log
 # What a build from nothing takes, in GiB, with some to spare; it was measured on four processors.
 DISK=4
 MEMORY=4
-# What the first build of flux took where it was measured. README and TUTORIAL say it in these words, as
-# .ci/docs-name-what-is-there checks.
-FIRST_BUILD="52 minutes on four processors, the second half of it beside other work"
-HOW_LONG="from nothing that took $FIRST_BUILD"
-[ "$name" = flux ] || HOW_LONG="where flux is built, and the toolchain keeps what it passed, that took a few minutes; from nothing it takes some more than flux, which took $FIRST_BUILD"
 # As the program says it; .ci/run compares them.
 usage='flux: usage: eval PLAN TRADES [--cash C] | run PLAN TRADES [options] | replay PLAN TRADES EVENTS [--cash C] | make START COUNT | trial PLAN START COUNT [options] | trio PLAN TRADES EVENTS | move PLAN TRADES MOVES'
 [ "$name" != flux_live ] || usage='flux_live: usage: PLAN TRADES [SCRIPT]'
-[ "$name" != flux_look ] || usage='flux_look: usage: check PLAN [TRADES] [--cash C] [--script S] [--all] [--json] | story PLAN TRADES EVENTS [--cash C] [--script S] [--json] | timeline PLAN TRADES EVENTS [--cash C] [--svg | --json] [--only] | rehearse PLAN TRADES SCRIPT [--cash C] [--threads N] [--turns T] [--svg FILE] | why PLAN TRADES N [--cash C] [--all] | trace PLAN TRADES LINE [--cash C] | sift TRADES --rejects R | sql PLAN'
+[ "$name" != flux_look ] || usage='flux_look: usage: check PLAN [TRADES] [--cash C] [--script S] [--all] [--json] | story PLAN TRADES EVENTS [--cash C] [--script S] [--json] | timeline PLAN TRADES EVENTS [--cash C] [--svg | --json] [--only] | rehearse PLAN TRADES SCRIPT [--cash C] [--threads N] [--turns T] [--svg FILE] | why PLAN TRADES N [--cash C] [--all] [--check] | trace PLAN TRADES LINE [--cash C] | sift TRADES --rejects R | sql PLAN'
 
 # What `[options]` of the usage line stands for.
 run_options='[--cash C] [--script S] [--threads N] [--turns T] [--journal J]'
@@ -65,11 +60,11 @@ Try it, in this repository:
 
   ./flux run examples/failures/large.txt examples/failures/blotter.csv --script examples/failures/script.txt
 
-The exit status is 0 where the whole text was written, 2 for words that have no form or a journal that is
-one of the inputs, 3 for an input or an event that is refused, 4 for a file that can't be read, 5 for an
-output that took not all or a journal that was not saved, 6 where a pair was lost, 8 for want of memory, and
-70 where the program could not be built. docs/TUTORIAL.md leads from a plan to a failure that is survived,
-and docs/FORMATS.md has the formats.
+The exit status is 0 where the whole text was written, 2 for words that have no form or a journal that would
+replace an input or the file of the rows, 3 for an input or an event that is refused, 4 for a file that can't
+be read, 5 for an output that took not all or a journal that was not saved, 6 where a pair was lost, 8 for
+want of memory, and 70 where the program could not be built. docs/TUTORIAL.md leads from a plan to a failure
+that is survived, and docs/FORMATS.md has the formats and the table of the statuses.
 TEXT
 }
 
@@ -194,8 +189,9 @@ Reads a plan and trades, and writes the rows that the plan gives for them, as CS
   PLAN        the file with the plan, of at most 65,536 bytes
   TRADES      the file with the trades, CSV of at most 16,777,216 bytes and 100,000 trades
   --cash C    the file with the cash movements, CSV of at most 16,777,216 bytes; together with the trades
-              at most 100,000. Only a plan of version 2 has any; without the option there are none. It
-              stands anywhere behind eval, once, as --cash C or as --cash=C.
+              at most 100,000. An amount that is paid in is below zero. Only a plan of version 2 has any;
+              without the option there are none. It stands anywhere behind eval, once, as --cash C or as
+              --cash=C.
 
 A name isn't empty and doesn't begin with "-".
 
@@ -263,7 +259,8 @@ flux_look: what a plan will do, and what a run did, in words and pictures for pe
   flux_look rehearse PLAN TRADES SCRIPT [--cash C] [--threads N] [--turns T] [--svg FILE]
                                                              runs a plan under a failure script, and tells
                                                              what became of each order
-  flux_look why PLAN TRADES N [--cash C] [--all]             tells how row N of the output came about
+  flux_look why PLAN TRADES N [--cash C] [--all] [--check]
+                                                             tells how row N of the output came about
   flux_look trace PLAN TRADES LINE [--cash C]                tells what became of the trade in that line
   flux_look sift TRADES --rejects R                          writes the records of trades that are accepted,
                                                              and saves the others to R, with why
@@ -271,16 +268,17 @@ flux_look: what a plan will do, and what a run did, in words and pictures for pe
   flux_look COMMAND --help                                   says more of a command; so do flux_look help COMMAND
                                                              and flux_look COMMAND -h
   flux_look --help                                           writes this; so do flux_look help and flux_look -h
-  flux_look --version                                        writes the commit; so does flux_look -V
+  flux_look --version                                        writes the version and the commit; so does flux_look -V
 
 Try it, in this repository:
 
   ./flux_look check examples/failures/large.txt examples/failures/blotter.csv --script examples/failures/script.txt
 
-The exit status is 0 where the whole text was written, 1 where check warns or an order of a rehearsal was not
-obeyed, 2 for words that have no form, 3 for an input that has a fault or an event that is refused, 4 for a
-file that can't be read, 5 for an output that took not all or a file that was not saved, 6 where a rehearsal
-lost a pair, 8 for want of memory, and 70 where the program could not be built.
+The exit status is 0 where all is well, 1 where check warns or an order of a rehearsal was not obeyed, 2 for
+words that have no form or a file to be saved that would replace another one of the call, 3 for an input that
+has a fault, or an event, a row or a line that is refused, 4 for a file that can't be read, 5 for an output
+that took not all or a file that was not saved, 6 where a rehearsal lost a pair, 8 for want of memory, and 70
+where the program could not be built. docs/FORMATS.md has the table of the statuses.
 TEXT
 }
 
@@ -288,14 +286,16 @@ help_check() {
   cat <<'TEXT'
 flux_look check PLAN [TRADES] [--cash C] [--script S] [--all] [--json]
 
-Says in plain sentences what a plan does, stage by stage, and warns of what is hardly meant. Where a file has
-a fault, it says the first fault of each file, and nothing else; with --all each record of trades and of cash
-movements that has one.
+Says in plain sentences what a plan does, stage by stage, and warns of what is hardly meant: in the plan, in the
+trades, in the script, and, where both are given, of orders to whose counts no replica comes in time. Where a
+file has a fault, it says the first fault of each file, and nothing else; with --all each record of trades and of
+cash movements that has one.
 
   PLAN        the file with the plan, of at most 65,536 bytes
   TRADES      the file with the trades, CSV of at most 16,777,216 bytes and 100,000 trades
   --cash C    the file with the cash movements, for a plan of version 2
-  --script S  the file with the failure script, of at most 65,536 bytes; it is read where the plan has no fault
+  --script S  the file with the failure script, of at most 65,536 bytes; it is read where the plan has no fault.
+              Its counts are looked at beside the trades, for a plan of version 2 only with --cash
   --all       says every record that has a fault, up to the thousandth of a file, and how many there are
   --json      writes it as JSON, one object a line
 
@@ -304,7 +304,7 @@ is warned of, 1 where something is, and 3 where a file has a fault.
 
 Try it, in this repository:
 
-  ./flux_look check examples/failures/large.txt --script examples/failures/script.txt
+  ./flux_look check examples/failures/large.txt examples/failures/blotter.csv --script examples/look/counts_script.txt
 TEXT
 }
 
@@ -385,7 +385,7 @@ TEXT
 
 help_why() {
   cat <<'TEXT'
-flux_look why PLAN TRADES N [--cash C] [--all]
+flux_look why PLAN TRADES N [--cash C] [--all] [--check]
 
 Tells how row N of the output came about: the row, and stage by stage from the last to the first the rows on
 which it rests and how many of them count; at the first stage these are trades and movements, each with its
@@ -396,13 +396,15 @@ line in its file.
   N           the number of the row among those that flux eval writes, from 1
   --cash C    the file with the cash movements, for a plan of version 2; without the option there are none
   --all       tells all rows of a stage, and not only the first three and the last three
+  --check     also evaluates the plan over the trades and movements alone on which the row rests, and says
+              whether that gives the row again. It needn't: without the others a stage may pass on other rows
 
 An option stands anywhere behind why, once, as --cash C or as --cash=C. A number that no row has is refused,
 with how many rows there are.
 
 Try it, in this repository:
 
-  ./flux_look why examples/desk/minutes.txt examples/desk/day.csv 7
+  ./flux_look why examples/desk/minutes.txt examples/desk/day.csv 7 --check
 TEXT
 }
 
@@ -646,12 +648,24 @@ answer_help() {
   esac
 }
 
+# How this program, or another one of the launcher's, is called from the caller's folder: in the repository as ./flux, else by its name where
+# that is found, else by its place.
+called() {
+  if [ "./$1" -ef "$top/$1" ]; then
+    echo "./$1"
+  elif [ "$(type -P "$1")" -ef "$top/$1" ]; then
+    echo "$1"
+  else
+    echo "$top/$1"
+  fi
+}
+
 # Ends with 2, and says what is wrong with the words, and which help to ask for: that of the command where there is one.
 end_with_2() {
   local behind=''
   ! is_command "${command-}" || behind="$command "
   [ -z "${fault-}" ] || echo "$name: $fault" >&2
-  echo "$name: see ./$name $behind--help" >&2
+  echo "$name: see $(called "$name") $behind--help" >&2
   exit 2
 }
 
@@ -679,7 +693,7 @@ check_saved() {
 tell_check() {
   local script=${values[--script]-${plain[2]-}} words
   case $name,$command in flux,eval | flux,run | flux_live,- | flux_look,rehearse) ;; *) return 0 ;; esac
-  words=(./flux_look check "${plain[@]:0:2}" ${values[--cash]+--cash "${values[--cash]}"} ${script:+--script "$script"})
+  words=("$(called flux_look)" check "${plain[@]:0:2}" ${values[--cash]+--cash "${values[--cash]}"} ${script:+--script "$script"})
   printf -v words '%q ' "${words[@]}"
   echo "$name: ${words% } says where, and what may stand there" >&2
 }
@@ -770,6 +784,19 @@ check_space() {
   [ -z "$free" ] || [ "$free" -ge "$MEMORY" ] || stop "not built: it takes $MEMORY GiB of memory, and $free are free"
 }
 
+# What the first build took where it was measured, as .ci/gate-times.md has it.
+how_long() {
+  local first behind
+  took() { sed -n "s/^- the first build of $1: //p" "$top/.ci/gate-times.md" 2>/dev/null; }
+  first=$(took flux)
+  [ -n "$first" ] || return 0
+  behind=$(took "flux_live or flux_look behind it")
+  case $name in
+    flux) echo "; from nothing that took $first" ;;
+    *) echo "; once flux is built, and where the toolchain keeps what it passed, that takes ${behind}; from nothing flux alone took $first" ;;
+  esac
+}
+
 # Says how far the build is: on a terminal in one line that stays in its place, else in a line for each crate.
 tell() {
   local front='' end=$'\n'
@@ -815,13 +842,13 @@ make_room() {
 build() {
   local from status
   said='' room=''
-  command -v rt >/dev/null 2>&1 || stop "not built: the toolchain's command rt is not on the PATH"
+  command -v rt >/dev/null 2>&1 || stop "not built: the toolchain's command rt is not on the PATH; $top/README.md says under Use what it is"
   { mkdir -p "$main/out" && : >"$log"; } 2>/dev/null || stop "not built: $main/out can't be written"
   check_space "${TMPDIR:-/tmp}"
   trap '[ -z "$said" ] || { kill "$said"; wait "$said"; } 2>/dev/null; [ -z "$room" ] || rm -rf "$room"; rm -f "$looked.$$"*' EXIT
   trap 'exit 70' INT TERM HUP
   make_room || stop "not built: there can be no folder for it in ${TMPDIR:-/tmp}"
-  echo "$name: proving and building the program; $HOW_LONG" >&2
+  echo "$name: proving and building the program$(how_long)" >&2
   echo "$name: the log is $log" >&2
   look
   from=$(sources)
@@ -853,7 +880,7 @@ case $#,$1 in
   1,--help | 1,-h | 1,help) answer_help ;;
   1,--version | 1,-V) answer version ;;
   2,--help | 2,-h | 2,help) ! is_command "$2" || answer "help_$2" ;;
-  2,completion) [ "$2" != bash ] || answer completion ;;
+  2,completion) [ "$name" = flux_live ] || [ "$2" != bash ] || answer completion ;;
 esac
 # No file can have such a name.
 if [ -n "$asks" ]; then
@@ -865,6 +892,8 @@ check_saved
 if ! is_fresh && [ "${FLUX_BUILT-}" = use ] && [ -x "$program" ]; then
   echo "$name: its sources are not those of the program that is built, which FLUX_BUILT=use runs" >&2
 elif ! is_fresh; then
+  # Nobody waits for a build to hear that the words have no form.
+  [ -z "$fault" ] || { echo "$usage" >&2; end_with_2; }
   # Of several first calls one builds, and the others wait for it.
   exec 9<"$top"
   flock -n 9 || { echo "$name: another call is building a program; waiting for it" >&2; flock 9; }

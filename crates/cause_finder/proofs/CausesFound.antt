@@ -1,28 +1,29 @@
--- The causes of answers: how many there are, what the nth one is, and the roles that several give.
-use Rattle.std.proofs.Common.{ℕ, ℤ, zero, suc, ◌≡◌, ◌<◌, ◌≤◌, ◌-◌, ◌+◌, Bool, true, false, cond, List, [], ◌∷◌, ◌++◌, Option, None, Some, length, map, drop, refl, sym, ap, ◌∙◌, subst, arith, append_assoc, set}
+-- The causes of answers: how many there are, and what the nth one is.
+use Rattle.std.proofs.Common.{ℕ, ℤ, zero, suc, ◌≡◌, ◌<◌, ◌-◌, ◌+◌, Bool, true, false, cond, List, [], ◌∷◌, ◌++◌, Option, None, Some, length, map, drop, refl, sym, ap, ◌∙◌, subst, arith}
 use Rattle.std.specs.Prelude.{IfOk, Result, Ok, Err, slice_get}
-use Rattle.std.proofs.lemmas.List.{append-nil, length-map, length-set}
+use Rattle.std.proofs.lemmas.List.{length-map}
 use Rattle.circular_buffer.specs.Buffer.{keep_last}
 use Rattle.tuple_edge.specs.Row.{column_of}
 use Rattle.tuple_edge.specs.declared.row.Column.{Column}
 use Rattle.tuple_edge.specs.declared.row.Key.{Key}
 use Rattle.tuple_edge.specs.declared.row.Row.{Row}
 use Rattle.op_spec.specs.Compares.{holds}
-use Rattle.op_spec.specs.Spec.{IsSpec}
+use Rattle.op_spec.specs.Spec.{IsSpec, is_join}
 use Rattle.op_spec.specs.declared.spec.Compare.{Compare}
 use Rattle.op_spec.specs.declared.spec.By.{By}
 use Rattle.op_spec.specs.declared.spec.OpSpec.{OpSpec}
 use Rattle.op_spec.specs.declared.spec.OpSpec.TheVariants as op
-use Rattle.stream_ops.specs.Answers.{end_answer, row_answer, window_row}
+use Rattle.stream_ops.specs.Answers.{end_answer, window_row}
 use Rattle.stream_ops.specs.Joins.{is_left}
 use Rattle.stream_ops.specs.Rows.{keys_in, rows_with}
 use Rattle.stream_ops.specs.Sums.{crosses, sums_of}
-use Rattle.row_cause.specs.Causes.{Cause, alone, end_causes, items_in, of_its_key, of_key, open_rows, partners, row_causes, rows_in, said_at_end, said_by, window_causes}
+use Rattle.row_cause.specs.Causes.{Cause, alone, end_causes, items_in, of_its_key, of_key, open_rows, partners, row_causes, rows_in, said_at_end, said_by, spoke, window_causes}
 use Rattle.row_cause.specs.Laws.{one_by_one}
 use Rattle.row_cause.specs.declared.placed.Placed.{Placed}
 use Rattle.row_cause.proofs.Alone.{rows_rest}
 use Rattle.row_cause.proofs.Ends.{ends_rest}
 use Rattle.cause_finder.specs.Found.{RestsOn, answers_of}
+use Rattle.cause_finder.specs.Trails.{keyed_by, resting}
 use Rattle.row_origin.specs.Stages.{causes_of}
 
 -- ---- how many
@@ -39,10 +40,10 @@ as_many op before speaker limits =
 
 -- ---- the nth
 
-none_some : {X : Type 0} (x : X) → None ≡ Some x → ⊥
+pub none_some : {X : Type 0} (x : X) → None ≡ Some x → ⊥
 none_some x e = cc
 
-of_some : {X : Type 0} (x y : X) → Some x ≡ Some y → x ≡ y
+pub of_some : {X : Type 0} (x y : X) → Some x ≡ Some y → x ≡ y
 of_some x y e = cc
 
 -- the nth of at most one
@@ -127,53 +128,31 @@ pub ok_then : {A E : Type 0} {P Q : A → Type 0} → (r : Result A E) → ((a :
 ok_then (Ok a) f p = f a p
 ok_then (Err e) f p = tt
 
-pub keep_found : (spec : OpSpec) (column : Column) (compare : Compare) (limit : ℤ) (B : List Placed) (r : Placed) (n : ℕ) → spec ≡ op.Keep column compare limit → RestsOn (row_causes spec B r) n []
-keep_found spec column compare limit B r n is = subst (λ (o : OpSpec). RestsOn (row_causes o B r) n []) (sym is) (keep_rests (holds compare (column_of column r.row) limit) r [] n)
+-- where a row spoke to no join, and where it spoke to one
+pub row_rests : (spec : OpSpec) (B : List Placed) (r : Placed) (n : ℕ) → is_join spec ≡ false → RestsOn (row_causes spec B r) n (resting spec (of_its_key (keyed_by spec) r B))
+row_rests (op.Keep column compare limit) B r n other = keep_rests (holds compare (column_of column r.row) limit) r [] n
+row_rests (op.Total by) B r n other = keep_rests true r (of_its_key by r B) n
+row_rests (op.Last by m) B r n other = keep_rests true r (keep_last (m - 1) (of_its_key by r B)) n
+row_rests (op.Window by width) B r n other = window_rests width (of_its_key by r B) r n
+row_rests (op.Crossing by limit) B r n other =
+    keep_rests (crosses limit (sums_of (rows_in (of_its_key by r B))).value (sums_of (rows_in (of_its_key by r B) ++ r.row ∷ [])).value) r (of_its_key by r B) n
+row_rests (op.Join by width m column compare limit) B r n other = absurd (joins other)
+  where
+    joins : true ≡ false → ⊥
+    joins e = cc
 
-pub total_found : (spec : OpSpec) (by : By) (B : List Placed) (r : Placed) (n : ℕ) (found : List Placed) → spec ≡ op.Total by → found ≡ of_its_key by r B → RestsOn (row_causes spec B r) n found
-total_found spec by B r n found is e =
-    subst (λ (o : OpSpec). RestsOn (row_causes o B r) n found) (sym is) (subst (λ (xs : List Placed). RestsOn (row_causes (op.Total by) B r) n xs) (sym e) (keep_rests true r (of_its_key by r B) n))
+pub join_found : (spec : OpSpec) (by : By) (width : ℤ) (m : ℕ) (column : Column) (compare : Compare) (limit : ℤ) (B : List Placed) (r : Placed) (n : ℕ) (one : Option Placed) → spec ≡ op.Join by width m column compare limit
+    → one ≡ slice_get (partners width m (is_left column compare limit) (of_its_key by r B) r) n → RestsOn (row_causes spec B r) n (spoke one)
+join_found spec by width m column compare limit B r n one is e =
+    subst (λ (o : OpSpec). RestsOn (row_causes o B r) n (spoke one)) (sym is)
+    (join_rests r (partners width m (is_left column compare limit) (of_its_key by r B) r) n (spoke one) (λ x at. ap spoke (e ∙ at)))
 
-pub last_found : (spec : OpSpec) (by : By) (m : ℕ) (B : List Placed) (r : Placed) (n : ℕ) (found : List Placed) → spec ≡ op.Last by m → found ≡ keep_last (m - 1) (of_its_key by r B) → RestsOn (row_causes spec B r) n found
-last_found spec by m B r n found is e =
-    subst (λ (o : OpSpec). RestsOn (row_causes o B r) n found) (sym is)
-    (subst (λ (xs : List Placed). RestsOn (row_causes (op.Last by m) B r) n xs) (sym e) (keep_rests true r (keep_last (m - 1) (of_its_key by r B)) n))
-
-pub window_found : (spec : OpSpec) (by : By) (width : ℤ) (B : List Placed) (r : Placed) (n : ℕ) (found : List Placed) → spec ≡ op.Window by width → found ≡ open_rows width (of_its_key by r B) → RestsOn (row_causes spec B r) n found
-window_found spec by width B r n found is e =
-    subst (λ (o : OpSpec). RestsOn (row_causes o B r) n found) (sym is)
-    (subst (λ (xs : List Placed). RestsOn (row_causes (op.Window by width) B r) n xs) (sym e) (window_rests width (of_its_key by r B) r n))
-
-pub crossing_found : (spec : OpSpec) (by : By) (limit : ℤ) (B : List Placed) (r : Placed) (n : ℕ) (found : List Placed) → spec ≡ op.Crossing by limit → found ≡ of_its_key by r B → RestsOn (row_causes spec B r) n found
-crossing_found spec by limit B r n found is e =
-    let rows = of_its_key by r B in
-    subst (λ (o : OpSpec). RestsOn (row_causes o B r) n found) (sym is)
-    (subst (λ (xs : List Placed). RestsOn (row_causes (op.Crossing by limit) B r) n xs) (sym e) (keep_rests (crosses limit (sums_of (rows_in rows)).value (sums_of (rows_in rows ++ r.row ∷ [])).value) r rows n))
-
-pub join_found : (spec : OpSpec) (by : By) (width : ℤ) (m : ℕ) (column : Column) (compare : Compare) (limit : ℤ) (B : List Placed) (r : Placed) (n : ℕ) (found : List Placed) → spec ≡ op.Join by width m column compare limit
-    → ((x : Placed) → slice_get (partners width m (is_left column compare limit) (of_its_key by r B) r) n ≡ Some x → found ≡ x ∷ []) → RestsOn (row_causes spec B r) n found
-join_found spec by width m column compare limit B r n found is h =
-    subst (λ (o : OpSpec). RestsOn (row_causes o B r) n found) (sym is) (join_rests r (partners width m (is_left column compare limit) (of_its_key by r B) r) n found h)
-
--- and at the end
-pub window_ended : (spec : OpSpec) (by : By) (width : ℤ) (B : List Placed) (row : Row) (k : Key) (found : List Placed) → spec ≡ op.Window by width → k.account ≡ row.account → k.symbol ≡ row.symbol → found ≡ open_rows width (of_key by k B)
-    → (n : ℕ) → slice_get (end_answer spec (items_in B)) n ≡ Some row → RestsOn (end_causes spec B) n found
-window_ended spec by width B row k found is a s e n told =
-    subst (λ (o : OpSpec). RestsOn (end_causes o B) n found) (sym is)
-    (subst (λ (xs : List Placed). RestsOn (end_causes (op.Window by width) B) n xs) (sym e)
-    (end_rests by width B (keys_in by (items_in B)) n row k a s (subst (λ (o : OpSpec). slice_get (end_answer o (items_in B)) n ≡ Some row) is told)))
-
--- no other operator answers it
-pub none_ended : (spec : OpSpec) (B : List Placed) (row : Row) (found : List Placed) → ((by : By) (width : ℤ) → spec ≡ op.Window by width → ⊥) → (n : ℕ) → slice_get (end_answer spec (items_in B)) n ≡ Some row → RestsOn (end_causes spec B) n found
-none_ended (op.Keep column compare limit) B row found other n told = absurd (none_some row told)
-none_ended (op.Total by) B row found other n told = absurd (none_some row told)
-none_ended (op.Last by m) B row found other n told = absurd (none_some row told)
-none_ended (op.Window by width) B row found other n told = absurd (other by width refl)
-none_ended (op.Crossing by limit) B row found other n told = absurd (none_some row told)
-none_ended (op.Join by width m column compare limit) B row found other n told = absurd (none_some row told)
-
--- what is found of the end's answers, where the end spoke
-pub none_spoke : (spec : OpSpec) (B : List Placed) (speaker : Option Placed) (a : Row) (n : ℕ) (found : List Placed) → speaker ≡ None
-    → ((m : ℕ) → slice_get (end_answer spec (items_in B)) m ≡ Some a → RestsOn (end_causes spec B) m found) → slice_get (answers_of spec B speaker) n ≡ Some a → RestsOn (causes_of spec B speaker) n found
-none_spoke spec B None a n found is h told = h n told
-none_spoke spec B (Some r) a n found is h told = absurd (none_some r (sym is))
+-- where the end spoke, the answer tells the key
+pub ended_rests : (spec : OpSpec) (B : List Placed) (n : ℕ) (row : Row) (k : Key) → k.account ≡ row.account → k.symbol ≡ row.symbol → slice_get (end_answer spec (items_in B)) n ≡ Some row
+    → RestsOn (end_causes spec B) n (resting spec (of_key (keyed_by spec) k B))
+ended_rests (op.Keep column compare limit) B n row k a s told = absurd (none_some row told)
+ended_rests (op.Total by) B n row k a s told = absurd (none_some row told)
+ended_rests (op.Last by m) B n row k a s told = absurd (none_some row told)
+ended_rests (op.Window by width) B n row k a s told = end_rests by width B (keys_in by (items_in B)) n row k a s told
+ended_rests (op.Crossing by limit) B n row k a s told = absurd (none_some row told)
+ended_rests (op.Join by width m column compare limit) B n row k a s told = absurd (none_some row told)

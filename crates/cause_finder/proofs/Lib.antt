@@ -1,1 +1,4 @@
 pub mod CausesFound
+pub mod Spots
+pub mod TrailRows
+pub mod TrailSteps

@@ -47,7 +47,7 @@ fn across(
 }
 
 // The last of some rows, at most so many.
-pub(crate) fn last_of(placed: &[Placed], most: usize) -> &[Placed]
+fn last_of(placed: &[Placed], most: usize) -> &[Placed]
     ensures { result.now ≡ keep_last most placed.now }
 {
     &placed[placed.len().saturating_sub(most)..]

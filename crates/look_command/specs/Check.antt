@@ -130,13 +130,13 @@ abbrev pub faulty_answer : (json : Bool) → Given → AnswerView
 faulty_answer json given = answer Faulty (check_as json true (fault_lines given))
 
 -- what is said of files that have no fault
-abbrev pub sound_answer : (json : Bool) → PlanView → Option GivenView → Option (List Order) → AnswerView
-sound_answer json plan trades script = answer (ending_after (warning_count plan trades script)) (check_as json false (check_text plan trades script))
+abbrev pub sound_answer : (json : Bool) → PlanView → Option GivenView → Option (List Row) → Option (List Order) → AnswerView
+sound_answer json plan trades cash script = answer (ending_after (warning_count plan trades cash script)) (check_as json false (check_text plan trades cash script))
 
 -- what is said of a plan and of the files beside it
 abbrev pub judged : (json : Bool) → Reading PlanView → Given → AnswerView
 judged json (Err line) given = faulty_answer json given
-judged json (Ok plan) given = if has_fault given then faulty_answer json given else sound_answer json plan (accepted given.trades) (accepted given.script)
+judged json (Ok plan) given = if has_fault given then faulty_answer json given else sound_answer json plan (accepted given.trades) (accepted given.cash) (accepted given.script)
 
 -- what is said of all files
 abbrev pub judgement : (json : Bool) → Given → AnswerView

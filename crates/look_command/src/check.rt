@@ -104,7 +104,7 @@ fn with_script<F: Files>(
     match tried_script(alloc, files, &plan, script) {
         Ok(script) => all_judged(
             alloc,
-            &Said {
+            Said {
                 plan,
                 trades,
                 cash,
@@ -117,8 +117,8 @@ fn with_script<F: Files>(
 }
 
 // What is said of the files, where want of memory is why the command stops.
-fn all_judged(alloc: Global, said: &Said, json: bool) -> Result<Answer, Stop>
-    ensures answer { IfOk result (λ answer. answer_of answer ≡ judgement json (given_of said.now)) }
+fn all_judged(alloc: Global, said: Said, json: bool) -> Result<Answer, Stop>
+    ensures answer { IfOk result (λ answer. answer_of answer ≡ judgement json (given_of said)) }
     ensures want { IfErr result (λ stop. stop ≡ Stop.OutOfMemory) }
 {
     let answer = judged(alloc, said, json)?;

@@ -121,6 +121,17 @@ fn accepted<T>(said: &Option<Result<T, String>>) -> Option<&T>
     }
 }
 
+// The same, handed on.
+fn taken(said: Option<Result<GivenTrades, String>>) -> Option<GivenTrades>
+    ensures { result ≡ accepted (named_of said) }
+{
+    match said {
+        None => None,
+        Some(Err(_)) => None,
+        Some(Ok(value)) => Some(value),
+    }
+}
+
 // How a check ends that found so many warnings.
 fn ending_after(count: u64) -> Ending
     ensures { result ≡ ending_after count }
@@ -133,10 +144,17 @@ fn ending_after(count: u64) -> Ending
 }
 
 // What is said of a plan, where no file has a fault.
-fn sound(alloc: Global, plan: &Plan, said: &Said, json: bool) -> Result<Answer, OutOfMemory>
-    ensures { IfOk result (λ it. answer_of it ≡ sound_answer json plan.now (accepted (named_of said.now.trades)) (accepted (named_of said.now.script))) }
+fn sound(
+    alloc: Global,
+    plan: &Plan,
+    trades: Option<GivenTrades>,
+    cash: Option<&Cash>,
+    script: Option<&Script>,
+    json: bool,
+) -> Result<Answer, OutOfMemory>
+    ensures { IfOk result (λ it. answer_of it ≡ sound_answer json plan.now trades (option_map (λ c. c.now) cash.entry) (option_map (λ s. s.now) script.entry)) }
 {
-    let checked = write_check(alloc, plan, accepted(&said.trades), accepted(&said.script))?;
+    let checked = write_check(alloc, plan, trades, cash, script)?;
     let ending = ending_after(checked.warnings);
     let text = written(alloc, checked.text, json, false)?;
     Ok(Answer {
@@ -146,22 +164,23 @@ fn sound(alloc: Global, plan: &Plan, said: &Said, json: bool) -> Result<Answer, 
     })
 }
 
-// What is said of files whose plan has no fault.
-fn planned(alloc: Global, plan: &Plan, said: &Said, json: bool) -> Result<Answer, OutOfMemory>
-    ensures { IfOk result (λ it. answer_of it ≡ judged json (Ok plan.now) (given_of said.now)) }
-{
-    if has_fault(said) {
-        return faulty(alloc, said, json);
-    }
-    sound(alloc, plan, said, json)
-}
-
 /// What is said of files, as text or as JSON: the faults, where one of them has any.
-pub(crate) fn judged(alloc: Global, said: &Said, json: bool) -> Result<Answer, OutOfMemory>
-    ensures { IfOk result (λ it. answer_of it ≡ judgement json (given_of said.now)) }
+pub(crate) fn judged(alloc: Global, said: Said, json: bool) -> Result<Answer, OutOfMemory>
+    ensures { IfOk result (λ it. answer_of it ≡ judgement json (given_of said)) }
 {
+    if has_fault(&said) {
+        return faulty(alloc, &said, json);
+    }
+    let trades = taken(said.trades);
+    let cash = accepted(&said.cash);
+    let script = accepted(&said.script);
     match &said.plan {
-        Ok(plan) => planned(alloc, plan, said, json),
-        Err(_) => faulty(alloc, said, json),
+        Ok(plan) => sound(alloc, plan, trades, cash, script, json),
+        // No plan without a fault is refused.
+        Err(_) => Ok(Answer {
+            text: Vec::new(alloc),
+            ending: Ending::Faulty,
+            saved: None,
+        }),
     }
 }

@@ -156,6 +156,7 @@ impl Input for ToldPlan {
 
 // Trades with their file, where want of memory is why the command stops.
 fn with_file(alloc: Global, name: &str, bytes: &[u8], trades: Trades) -> Result<GivenTrades, Stop>
+    requires alone { trades.merged ≡ false }
     ensures given { IfOk result (λ it. it ≡ given name.now bytes.now trades) }
     ensures want { IfErr result (λ stop. stop ≡ Stop.OutOfMemory) }
 {

@@ -24,7 +24,7 @@ task_of (Story plan trades events cash script json) = Answers (story_way plan tr
 task_of (Timeline plan trades events cash svg json only) = Answers (timeline_way plan trades events cash svg only json)
 task_of (Rehearse plan trades script cash threads turns picture) = Rehearses (rehearse_course plan trades script cash) picture
 task_of (Trace plan trades line cash) = Answers (trace_way plan trades line cash)
-task_of (Why plan trades number cash all) = Answers (why_way plan trades cash (record { number = number; all = all }))
+task_of (Why plan trades number cash all check) = Answers (why_way plan trades cash (record { number = number; all = all; check = check }))
 task_of (Sift trades rejects) = Answers (sift_way trades rejects)
 task_of (Sql plan) = Answers (sql_way plan)
 

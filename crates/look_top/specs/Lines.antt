@@ -18,7 +18,7 @@ lost_line = lost_line_by name
 
 -- what is said of words that have no form: the forms that there are
 abbrev pub usage_line : List ℕ
-usage_line = codes "flux_look: usage: check PLAN [TRADES] [--cash C] [--script S] [--all] [--json] | story PLAN TRADES EVENTS [--cash C] [--script S] [--json] | timeline PLAN TRADES EVENTS [--cash C] [--svg | --json] [--only] | rehearse PLAN TRADES SCRIPT [--cash C] [--threads N] [--turns T] [--svg FILE] | why PLAN TRADES N [--cash C] [--all] | trace PLAN TRADES LINE [--cash C] | sift TRADES --rejects R | sql PLAN\n"
+usage_line = codes "flux_look: usage: check PLAN [TRADES] [--cash C] [--script S] [--all] [--json] | story PLAN TRADES EVENTS [--cash C] [--script S] [--json] | timeline PLAN TRADES EVENTS [--cash C] [--svg | --json] [--only] | rehearse PLAN TRADES SCRIPT [--cash C] [--threads N] [--turns T] [--svg FILE] | why PLAN TRADES N [--cash C] [--all] [--check] | trace PLAN TRADES LINE [--cash C] | sift TRADES --rejects R | sql PLAN\n"
 
 -- what is said where a text, or a file, could not be written
 abbrev pub cannot_write_line : List ℕ

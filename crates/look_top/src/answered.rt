@@ -113,9 +113,11 @@ fn answer_of<R: Threads + Sync, F: Files, G: Gate>(
             number,
             cash,
             all,
+            check,
         } => {
             let number = u64::from(number);
-            why_report(alloc, files, plan, trades, cash, Wanted { number, all })
+            let wanted = Wanted { number, all, check };
+            why_report(alloc, files, plan, trades, cash, wanted)
         }
         LookCommand::Trace {
             plan,

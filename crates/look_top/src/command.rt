@@ -27,7 +27,7 @@ use std::thread::Threads;
 
 /// What is said of words without a form.
 const USAGE: &str =
-    "flux_look: usage: check PLAN [TRADES] [--cash C] [--script S] [--all] [--json] | story PLAN TRADES EVENTS [--cash C] [--script S] [--json] | timeline PLAN TRADES EVENTS [--cash C] [--svg | --json] [--only] | rehearse PLAN TRADES SCRIPT [--cash C] [--threads N] [--turns T] [--svg FILE] | why PLAN TRADES N [--cash C] [--all] | trace PLAN TRADES LINE [--cash C] | sift TRADES --rejects R | sql PLAN\n";
+    "flux_look: usage: check PLAN [TRADES] [--cash C] [--script S] [--all] [--json] | story PLAN TRADES EVENTS [--cash C] [--script S] [--json] | timeline PLAN TRADES EVENTS [--cash C] [--svg | --json] [--only] | rehearse PLAN TRADES SCRIPT [--cash C] [--threads N] [--turns T] [--svg FILE] | why PLAN TRADES N [--cash C] [--all] [--check] | trace PLAN TRADES LINE [--cash C] | sift TRADES --rejects R | sql PLAN\n";
 
 /// What is said where a text, or a file, could not be written.
 const CANNOT_WRITE: &str = "flux_look: cannot write\n";

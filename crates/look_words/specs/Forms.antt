@@ -15,7 +15,7 @@ pub data Request : Type 0 where
   Story : (plan trades events : Text) (cash script : Option Text) (json : Bool) → Request
   Timeline : (plan trades events : Text) (cash : Option Text) (svg json only : Bool) → Request
   Rehearse : (plan trades script : Text) (cash : Option Text) (threads turns : ℕ) (picture : Option Text) → Request
-  Why : (plan trades : Text) (number : ℕ) (cash : Option Text) (all : Bool) → Request
+  Why : (plan trades : Text) (number : ℕ) (cash : Option Text) (all check : Bool) → Request
   Trace : (plan trades : Text) (line : ℕ) (cash : Option Text) → Request
   Sift : (trades rejects : Text) → Request
   Sql : (plan : Text) → Request
@@ -62,10 +62,10 @@ rehearse_form parts =
 abbrev pub max_row_number : ℕ
 max_row_number = 4294967295
 
--- `why PLAN TRADES N [--cash C] [--all]`
+-- `why PLAN TRADES N [--cash C] [--all] [--check]`
 unfoldable pub why_form : Parts → Option Request
 why_form parts =
-    option_and_then (λ names. option_map (λ number. Why names.0 names.1 number parts.cash parts.all) (number_within 0 max_row_number names.2)) (three parts.first parts.second parts.third)
+    option_and_then (λ names. option_map (λ number. Why names.0 names.1 number parts.cash parts.all parts.check) (number_within 0 max_row_number names.2)) (three parts.first parts.second parts.third)
 
 -- `trace PLAN TRADES LINE [--cash C]`
 unfoldable pub trace_form : Parts → Option Request
@@ -111,7 +111,7 @@ request_of (command.Story plan trades events cash script json) = Story plan.now 
 request_of (command.Timeline plan trades events cash svg json only) = Timeline plan.now trades.now events.now (text_in cash) svg json only
 request_of (command.Rehearse plan trades script cash threads turns picture) =
     Rehearse plan.now trades.now script.now (text_in cash) threads turns (text_in picture)
-request_of (command.Why plan trades number cash all) = Why plan.now trades.now number (text_in cash) all
+request_of (command.Why plan trades number cash all check) = Why plan.now trades.now number (text_in cash) all check
 request_of (command.Trace plan trades line cash) = Trace plan.now trades.now line (text_in cash)
 request_of (command.Sift trades rejects) = Sift trades.now rejects.now
 request_of (command.Sql plan) = Sql plan.now
@@ -122,7 +122,7 @@ IsInRange (command.Check plan trades cash script all json) = Unit {0}
 IsInRange (command.Story plan trades events cash script json) = Unit {0}
 IsInRange (command.Timeline plan trades events cash svg json only) = Unit {0}
 IsInRange (command.Rehearse plan trades script cash threads turns picture) = (1 ≤ threads) × (threads ≤ max_threads) × (turns ≤ max_turns)
-IsInRange (command.Why plan trades number cash all) = Unit {0}
+IsInRange (command.Why plan trades number cash all check) = Unit {0}
 IsInRange (command.Trace plan trades line cash) = Unit {0}
 IsInRange (command.Sift trades rejects) = Unit {0}
 IsInRange (command.Sql plan) = Unit {0}

@@ -2,7 +2,7 @@
 use Rattle.std.specs.Prelude.{Option, Some, None, codes, if◌then◌else◌}
 use Rattle.std.specs.Str.{bytes_eq}
 use Rattle.command_line.specs.Words.{Text}
-use Rattle.look_words.specs.declared.kind.Flag.TheVariants.{All, Json, Only, Svg}
+use Rattle.look_words.specs.declared.kind.Flag.TheVariants.{All, Check, Json, Only, Svg}
 use Rattle.look_words.specs.declared.kind.OptionKind.{OptionKind}
 use Rattle.look_words.specs.declared.kind.OptionKind.TheVariants.{Alone, WithValue}
 use Rattle.look_words.specs.declared.kind.Valued.TheVariants.{Cash, Picture, Rejects, Script, Threads, Turns}
@@ -42,11 +42,12 @@ rehearse_option name =
     else if bytes_eq name (codes "svg") then Some (WithValue Picture)
     else None
 
--- `why`: `--cash C`, `--all`
+-- `why`: `--cash C`, `--all`, `--check`
 unfoldable pub why_option : Text → Option OptionKind
 why_option name =
     if bytes_eq name (codes "cash") then Some (WithValue Cash)
     else if bytes_eq name (codes "all") then Some (Alone All)
+    else if bytes_eq name (codes "check") then Some (Alone Check)
     else None
 
 -- `trace`: `--cash C`

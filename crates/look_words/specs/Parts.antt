@@ -24,6 +24,7 @@ pub record Parts : Type 0 where
   pub json : Bool
   pub only : Bool
   pub all : Bool
+  pub check : Bool
 
 -- what no words give
 abbrev pub no_parts : Parts
@@ -41,6 +42,7 @@ no_parts = record {
   json = false;
   only = false;
   all = false;
+  check = false;
 }
 
 -- a name stands in the first place that is free, of three
@@ -77,6 +79,7 @@ flag_given flag.Svg value parts = option_map (λ up. record parts { svg = up }) 
 flag_given flag.Json value parts = option_map (λ up. record parts { json = up }) (raised parts.json value)
 flag_given flag.Only value parts = option_map (λ up. record parts { only = up }) (raised parts.only value)
 flag_given flag.All value parts = option_map (λ up. record parts { all = up }) (raised parts.all value)
+flag_given flag.Check value parts = option_map (λ up. record parts { check = up }) (raised parts.check value)
 
 -- ---- as the code holds it
 
@@ -100,6 +103,7 @@ parts_in parts = record {
   json = parts.json;
   only = parts.only;
   all = parts.all;
+  check = parts.check;
 }
 
 -- an option that code has found: its name, and its value, if it has one

@@ -41,13 +41,15 @@ pub enum LookCommand<'a> {
         turns: u32,
         picture: Option<&'a str>,
     },
-    /// Tells how a row of the output came about, by the first and last rows on which it rests or by all.
+    /// Tells how a row of the output came about, by the first and last rows on which it rests or by all, and whether these
+    /// alone give it again.
     Why {
         plan: &'a str,
         trades: &'a str,
         number: u32,
         cash: Option<&'a str>,
         all: bool,
+        check: bool,
     },
     /// Tells what became of the trade in a line of its file.
     Trace {

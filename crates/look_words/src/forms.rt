@@ -114,6 +114,7 @@ fn why_of<'a>(parts: &Parts<'a>) -> Option<LookCommand<'a>>
         number,
         cash: parts.cash,
         all: parts.all,
+        check: parts.check,
     })
 }
 

@@ -20,6 +20,7 @@ pub(crate) enum Flag {
     Json,
     Only,
     All,
+    Check,
 }
 
 /// What an option is.
@@ -74,6 +75,7 @@ fn why_option(name: &str) -> Option<OptionKind>
     match name {
         "cash" => Some(OptionKind::WithValue(Valued::Cash)),
         "all" => Some(OptionKind::Alone(Flag::All)),
+        "check" => Some(OptionKind::Alone(Flag::Check)),
         _ => None,
     }
 }

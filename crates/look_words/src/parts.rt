@@ -21,6 +21,7 @@ pub(crate) struct Parts<'a> {
     pub(crate) json: bool,
     pub(crate) only: bool,
     pub(crate) all: bool,
+    pub(crate) check: bool,
 }
 
 /// Whether a word may be a name or a value: it is not empty, and doesn't begin with `-`.
@@ -72,6 +73,7 @@ impl<'a> Parts<'a> {
             json: false,
             only: false,
             all: false,
+            check: false,
         }
     }
 
@@ -147,6 +149,10 @@ impl<'a> Parts<'a> {
             }),
             Flag::All => Some(Parts {
                 all: raised(self.all, value)?,
+                ..self
+            }),
+            Flag::Check => Some(Parts {
+                check: raised(self.check, value)?,
                 ..self
             }),
         }

@@ -1,4 +1,6 @@
-pub mod Counts
+pub mod Caused
 pub mod Marking
 pub mod Passed
+pub mod Saying
 pub mod Times
+pub mod Walking

@@ -1,5 +1,5 @@
 -- Marks of rows, and the roles that several causes give.
-use Rattle.std.proofs.Common.{ℕ, ◌≡◌, ◌+◌, Bool, true, false, cond, List, [], ◌∷◌, ◌++◌, Option, None, Some, length, refl, sym, ap, ◌∙◌, arith, append_assoc, set}
+use Rattle.std.proofs.Common.{ℕ, ◌≡◌, ◌+◌, Bool, true, false, cond, List, [], ◌∷◌, ◌++◌, Option, length, refl, sym, ap, ◌∙◌, append_assoc, set}
 use Rattle.std.specs.Prelude.{flat_map, slice_index_or}
 use Rattle.std.proofs.lemmas.List.{append-nil, length-set}
 use Rattle.op_spec.specs.declared.spec.OpSpec.{OpSpec}
@@ -57,22 +57,6 @@ one_cause op c old new a b =
     ∙ ap (λ (placed : List Placed). marked placed old.counts) (sym (counted_by op c.before c.speaker) ∙ sym (append-nil (counted op c)))))
 
 -- ---- those that are asked about
-
-asked_append_by : (n : ℕ) (asked : List Bool) (x : Cause) (xs ys : List Cause) (t : Bool) → asked_from (n + 1) asked (xs ++ ys) ≡ asked_from (n + 1) asked xs ++ asked_from (n + length (x ∷ xs)) asked ys
-    → cond t (x ∷ asked_from (n + 1) asked (xs ++ ys)) (asked_from (n + 1) asked (xs ++ ys)) ≡ cond t (x ∷ asked_from (n + 1) asked xs) (asked_from (n + 1) asked xs) ++ asked_from (n + length (x ∷ xs)) asked ys
-asked_append_by n asked x xs ys true later = ap (λ (rest : List Cause). x ∷ rest) later
-asked_append_by n asked x xs ys false later = later
-
-pub asked-append : (n : ℕ) (asked : List Bool) (xs ys : List Cause) → asked_from n asked (xs ++ ys) ≡ asked_from n asked xs ++ asked_from (n + length xs) asked ys
-asked-append n asked [] ys = ap (λ (m : ℕ). asked_from m asked ys) (let e : n ≡ n + 0 = omega arith in e)
-asked-append n asked (x ∷ xs) ys =
-    asked_append_by n asked x xs ys (slice_index_or asked n false)
-    (asked-append (n + 1) asked xs ys ∙ ap (λ (m : ℕ). asked_from (n + 1) asked xs ++ asked_from m asked ys) (let e : n + 1 + length xs ≡ n + length (x ∷ xs) = omega arith in e))
-
--- the roles of answers one after the other
-pub with_asked-append : (op : OpSpec) (n : ℕ) (asked : List Bool) (xs ys : List Cause) (r : Roles)
-    → with_causes op (asked_from n asked (xs ++ ys)) r ≡ with_causes op (asked_from (n + length xs) asked ys) (with_causes op (asked_from n asked xs) r)
-with_asked-append op n asked xs ys r = ap (λ (causes : List Cause). with_causes op causes r) (asked-append n asked xs ys) ∙ with_causes-append op (asked_from n asked xs) (asked_from (n + length xs) asked ys) r
 
 -- one answer more
 pub with_one : (op : OpSpec) (n : ℕ) (asked : List Bool) (c : Cause) (causes : List Cause) (r new : Roles) (t : Bool) → slice_index_or asked n false ≡ t → new ≡ cond t (with_causes op (c ∷ []) r) r

@@ -1,2 +1,4 @@
 pub mod Counting
 pub mod Passing
+pub mod Said
+pub mod Walking

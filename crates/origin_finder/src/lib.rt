@@ -8,8 +8,11 @@
 mod marks;
 mod origins;
 mod passing;
+mod rows;
+mod said;
 mod telling;
 
 pub use marks::{RowRoles, is_marked};
 pub use origins::{StageTold, origins_of};
+pub use rows::rows_passed;
 pub use telling::counts_itself;

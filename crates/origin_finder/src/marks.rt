@@ -1,6 +1,6 @@
 // The roles of rows, as marks at their places.
 ghost use Rattle.row_origin.specs.Marks.{marked, no_roles};
-ghost use Rattle.std.specs.Prelude.{◌≡◌, ◌++◌, ◌∷◌, [], false, true, length, replicate, slice_index_or, slice_set, IfOk};
+ghost use Rattle.std.specs.Prelude.{◌≡◌, ◌∷◌, [], false, true, slice_index_or, slice_set, IfOk};
 
 use row_cause::Placed;
 use std::alloc::Global;
@@ -27,7 +27,7 @@ impl RowRoles {
     ghost use Rattle.row_origin.specs.Marks.{marked, no_roles};
     ghost use Rattle.row_cause.specs.Causes.{spoke};
     ghost use Rattle.row_origin.specs.Origins.{only};
-    ghost use Rattle.std.specs.Prelude.{◌≡◌, ◌++◌, ◌∷◌, [], IfOk, if◌then◌else◌};
+    ghost use Rattle.std.specs.Prelude.{◌≡◌, ◌∷◌, [], IfOk, if◌then◌else◌};
 
     // No roles, of so many rows.
     pub(crate) fn none(alloc: Global, rows: usize) -> Result<RowRoles, OutOfMemory>
@@ -62,12 +62,11 @@ impl RowRoles {
         &self.counts
     }
 
-    // Marks rows that count.
-    pub(crate) fn mark_counted(&mut self, placed: &[Placed])
-        ensures { self.new ≡ record { rests = marked placed.now self.old.rests; counts = marked placed.now self.old.counts } }
+    // Marks the row of a place, which counts.
+    pub(crate) fn mark_counted(&mut self, place: usize)
+        ensures { self.new ≡ record { rests = slice_set self.old.rests place true; counts = slice_set self.old.counts place true } }
     {
-        mark_all(&mut self.rests, placed);
-        mark_all(&mut self.counts, placed);
+        self.mark_place(place, true);
     }
 
     // Marks the row that spoke, if one did; it counts or doesn't.
@@ -90,15 +89,6 @@ impl RowRoles {
         if counts {
             mark(&mut self.counts, place);
         }
-    }
-}
-
-// Marks these rows, at their places.
-fn mark_all(marks: &mut [bool], placed: &[Placed])
-    ensures { marks.new ≡ marked placed.now marks.old }
-{
-    for x in placed {
-        mark(marks, x.place);
     }
 }
 

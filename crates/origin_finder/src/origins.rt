@@ -1,12 +1,15 @@
 // How a row of the output came about: what is told of each stage.
 ghost use Rattle.evaluation.specs.StageRows.{HasTime, early_replies, late_replies};
 ghost use Rattle.plan_reader.specs.PlanView.{IsStage};
-ghost use Rattle.row_origin.specs.Marks.{stage_roles};
+ghost use Rattle.origin_finder.specs.Said.{AreCaused};
 ghost use Rattle.row_origin.specs.Origins.{last_origin, only, origins, rests};
-ghost use Rattle.std.specs.Prelude.{◌≡◌, ◌≤◌, ◌++◌, ◌∷◌, [], All, IfOk, OnOk, drop, length, map, take};
+ghost use Rattle.row_origin.specs.Stages.{stage_causes};
+ghost use Rattle.std.specs.Prelude.{◌≡◌, ◌≤◌, ◌++◌, ◌∷◌, [], All, IfOk, OnOk, drop, length, take};
 
 use crate::marks::RowRoles;
 use crate::passing::{opened_states, pass_early, pass_late};
+use crate::said::Speaker;
+use crate::telling::told_roles;
 use plan_reader::{Plan, Stage};
 use std::alloc::Global;
 use std::marker::Model;
@@ -46,21 +49,20 @@ impl StageTold {
     }
 }
 
-// The rows that a stage passes on, of which so many are early ones, and the roles of those that came to it.
+// The rows that a stage passes on, of which so many are early ones, and what made its operators give each of them.
 #[derive(Drop)]
-struct Passed {
-    rows: Vec<Row>,
-    early: usize,
-    roles: RowRoles,
+pub(crate) struct Passed {
+    pub(crate) rows: Vec<Row>,
+    pub(crate) early: usize,
+    said: Vec<Speaker>,
 }
 
 // The rows that a stage passes on of those that come to it, of which so many are early ones.
-fn pass_stage(
+pub(crate) fn pass_stage(
     alloc: Global,
     stage: &Stage,
     rows: &[Row],
     early: usize,
-    asked: &[bool],
 ) -> Result<Passed, OutOfMemory>
     requires stage { IsStage stage.now }
     requires times { All HasTime rows.now }
@@ -69,35 +71,19 @@ fn pass_stage(
     ensures late { IfOk result (λ p. drop p.early p.rows.items ≡ late_replies stage.now (take early rows.now) (drop early rows.now) 0 stage.now.parts) }
     ensures few { IfOk result (λ p. p.early ≤ length p.rows.items) }
     ensures times { IfOk result (λ p. All HasTime p.rows.items) }
-    ensures roles { IfOk result (λ p. p.roles ≡ stage_roles stage.now (take early rows.now) (drop early rows.now) asked.now) }
+    ensures said { IfOk result (λ p. AreCaused stage.now rows.now p.said.items (stage_causes stage.now (take early rows.now) (drop early rows.now))) }
 {
     let mut states = opened_states(alloc, stage)?;
-    let mut roles = RowRoles::none(alloc, rows.len())?;
-    let mut out = Vec::new(alloc);
-    pass_early(
-        alloc,
-        &mut states,
-        stage,
-        &rows[..early],
-        asked,
-        &mut out,
-        &mut roles,
-    )?;
+    // Room for an answer to each row. A join may answer with more, and the lists grow.
+    let mut said = Vec::with_capacity(alloc, rows.len())?;
+    let mut out = Vec::with_capacity(alloc, rows.len())?;
+    pass_early(&mut states, stage, &rows[..early], &mut out, &mut said)?;
     let passed_early = out.len();
-    pass_late(
-        alloc,
-        &mut states,
-        stage,
-        rows,
-        early,
-        asked,
-        &mut out,
-        &mut roles,
-    )?;
+    pass_late(&mut states, stage, rows, early, &mut out, &mut said)?;
     Ok(Passed {
         rows: out,
         early: passed_early,
-        roles,
+        said,
     })
 }
 
@@ -120,14 +106,15 @@ fn tell_stages(
     let Some((stage, later)) = stages.split_first() else {
         return tell_last(alloc, rows, number, told);
     };
-    let next = pass_stage(alloc, stage, &rows, early, &[])?;
-    let asked = tell_stages(alloc, later, next.rows, next.early, number, told)?;
-    let again = pass_stage(alloc, stage, &rows, early, &asked)?;
-    let rests = copied(alloc, again.roles.rests())?;
-    told.push(StageTold {
-        rows,
-        roles: again.roles,
-    })?;
+    let Passed {
+        rows: next,
+        early: next_early,
+        said,
+    } = pass_stage(alloc, stage, &rows, early)?;
+    let asked = tell_stages(alloc, later, next, next_early, number, told)?;
+    let roles = told_roles(alloc, stage, &rows, &said, &asked)?;
+    let rests = copied(alloc, roles.rests())?;
+    told.push(StageTold { rows, roles })?;
     Ok(rests)
 }
 

@@ -1,20 +1,19 @@
-// How rows pass a stage, and what is told of those rows on which rows rest that it passes on.
+// How rows pass a stage, and what made its operators give the rows that it passes on.
 ghost use Rattle.evaluation.specs.StageRows.{HasTaken, HasTime, PartsTook, alike, early_replies, late_replies, part_replies, row_replies, rows_to};
 ghost use Rattle.op_spec.specs.Times.{IsTimely};
 ghost use Rattle.plan_reader.specs.PlanView.{IsStage};
 ghost use Rattle.row_cause.specs.Causes.{row_causes, spoken};
-ghost use Rattle.row_origin.specs.Marks.{asked_from, stage_roles, with_causes};
-ghost use Rattle.origin_finder.specs.Passing.{HasPassed};
-ghost use Rattle.row_origin.specs.Stages.{causes_of, early_causes, late_causes, part_causes, placed_from, placed_to};
-ghost use Rattle.std.specs.Prelude.{◌≡◌, ◌≤◌, ◌<◌, ◌+◌, ◌++◌, ◌∷◌, [], All, IfOk, List, None, OnOk, Some, drop, length, take};
+ghost use Rattle.origin_finder.specs.Passing.{HasPassed, causes_from};
+ghost use Rattle.origin_finder.specs.Said.{HasNoted, IsNext};
+ghost use Rattle.row_origin.specs.Stages.{causes_of, early_causes, late_causes, placed_from, placed_to};
+ghost use Rattle.std.specs.Prelude.{◌≡◌, ◌≤◌, ◌<◌, ◌+◌, ◌++◌, ◌∷◌, [], All, IfOk, List, OnOk, Some, drop, length, slice_get, take};
 ghost use Rattle.stream_ops.specs.Answers.{IsOpen, answer};
 ghost use Rattle.stream_ops.specs.State.{StandsFor};
 ghost use Rattle.tuple_edge.specs.Row.{route_of};
 ghost use Rattle.tuple_edge.specs.declared.item.Item.{Item};
 ghost use Rattle.tuple_edge.specs.declared.row.Row.{Row};
 
-use crate::marks::RowRoles;
-use crate::telling::tell;
+use crate::said::{Speaker, note};
 use plan_reader::Stage;
 use row_cause::Placed;
 use std::alloc::Global;
@@ -47,17 +46,15 @@ fn spoken(speaker: &Option<Placed>) -> Item
     }
 }
 
-// Gives an operator the next row of its partition or the end, and tells of its answers. These rows came to the stage before.
+// Gives an operator the next row of its partition or the end, and notes what it answers. These rows came to the stage before.
 fn take(
-    alloc: Global,
     state: &mut OpState,
     stage: &Stage,
     part: u32,
     rows: &[Row],
     speaker: &Option<Placed>,
-    asked: &[bool],
     out: &mut Vec<Row>,
-    roles: &mut RowRoles,
+    said: &mut Vec<Speaker>,
 ) -> Result<(), OutOfMemory>
     requires stage { IsStage stage.now }
     requires timely { IsTimely (spoken speaker.now) }
@@ -65,24 +62,22 @@ fn take(
         → out.new.items ≡ out.old.items ++ answer stage.now.op (alike (rows_to stage.now part rows.now)) (spoken speaker.now)) }
     ensures stands { OnOk result ((before : List Item) → IsOpen before → StandsFor state.old before → StandsFor state.new (before ++ spoken speaker.now ∷ [])) }
     ensures spec { state.new.spec ≡ state.old.spec }
-    ensures roles { OnOk result (HasTaken stage.now.op state.old (rows_to stage.now part rows.now)
-        → roles.new ≡ with_causes stage.now.op (asked_from (length out.old.items) asked.now (causes_of stage.now.op (placed_to stage.now part (placed_from 0 rows.now)) speaker.now)) roles.old) }
+    ensures said { OnOk result (HasTaken stage.now.op state.old (rows_to stage.now part rows.now) → (all : List Row) → IsNext stage.now part all rows.now speaker.now
+        → HasNoted stage.now all (causes_of stage.now.op (placed_to stage.now part (placed_from 0 rows.now)) speaker.now) said.old.items said.new.items) }
 {
     let had = out.len();
     state.step(spoken(speaker), out)?;
-    tell(alloc, stage, part, rows, speaker, out, had, asked, roles)
+    note(said, part, speaker, out, had)
 }
 
-// Gives a row to the partition to which it goes, and tells of its answers.
+// Gives a row to the partition to which it goes, and notes what it answers.
 fn take_early(
-    alloc: Global,
     states: &mut [OpState],
     stage: &Stage,
     rows: &[Row],
     r: &Placed,
-    asked: &[bool],
     out: &mut Vec<Row>,
-    roles: &mut RowRoles,
+    said: &mut Vec<Speaker>,
 ) -> Result<(), OutOfMemory>
     requires stage { IsStage stage.now }
     requires parts { length states.old ≡ stage.now.parts }
@@ -92,33 +87,29 @@ fn take_early(
     ensures took { OnOk result (PartsTook stage.now 0 states.old rows.now
         → PartsTook stage.now 0 states.new (rows.now ++ r.now.row ∷ [])) }
     ensures parts { length states.new ≡ length states.old }
-    ensures roles { OnOk result (PartsTook stage.now 0 states.old rows.now
-        → roles.new ≡ with_causes stage.now.op (asked_from (length out.old.items) asked.now (row_causes stage.now.op
-        (placed_to stage.now (route_of r.now.row stage.now.by stage.now.parts) (placed_from 0 rows.now)) r.now)) roles.old) }
+    ensures said { OnOk result (PartsTook stage.now 0 states.old rows.now → (all : List Row) → rows.now ≡ take r.now.place all → slice_get all r.now.place ≡ Some r.now.row
+        → HasNoted stage.now all (row_causes stage.now.op (placed_to stage.now (route_of r.now.row stage.now.by stage.now.parts) (placed_from 0 rows.now)) r.now)
+        said.old.items said.new.items) }
 {
     let part = route(&r.row, stage.by, stage.parts);
     take(
-        alloc,
         &mut states[part as usize],
         stage,
         part,
         rows,
         &Some(*r),
-        asked,
         out,
-        roles,
+        said,
     )
 }
 
 // What the operators answer to early rows, each of which goes to its partition.
 pub(crate) fn pass_early(
-    alloc: Global,
     states: &mut [OpState],
     stage: &Stage,
     rows: &[Row],
-    asked: &[bool],
     out: &mut Vec<Row>,
-    roles: &mut RowRoles,
+    said: &mut Vec<Speaker>,
 ) -> Result<(), OutOfMemory>
     requires stage { IsStage stage.now }
     requires parts { length states.old ≡ stage.now.parts }
@@ -128,88 +119,72 @@ pub(crate) fn pass_early(
     ensures answers { OnOk result (out.new.items ≡ early_replies stage.now [] rows.now) }
     ensures took { OnOk result (PartsTook stage.now 0 states.new rows.now) }
     ensures parts { OnOk result (length states.new ≡ stage.now.parts) }
-    ensures roles { OnOk result (roles.new ≡ with_causes stage.now.op (asked_from 0 asked.now (early_causes stage.now [] (placed_from 0 rows.now))) roles.old) }
+    ensures said { OnOk result ((late : List Row)
+        → HasNoted stage.now (rows.now ++ late) (early_causes stage.now [] (placed_from 0 rows.now)) said.old.items said.new.items) }
 {
     for (place, row) in rows.iter().enumerate() {
         let r = Placed { place, row: *row };
-        take_early(alloc, states, stage, &rows[..place], &r, asked, out, roles)?;
+        take_early(states, stage, &rows[..place], &r, out, said)?;
     }
     Ok(())
 }
 
 // Gives an operator those of the late rows that go to its partition, and then the end. The rows before `place` came early.
 fn finish(
-    alloc: Global,
     state: &mut OpState,
     stage: &Stage,
     part: u32,
     rows: &[Row],
     early: usize,
-    asked: &[bool],
     out: &mut Vec<Row>,
-    roles: &mut RowRoles,
+    said: &mut Vec<Speaker>,
 ) -> Result<(), OutOfMemory>
     requires stage { IsStage stage.now }
     requires times { All HasTime rows.now }
     requires early { early ≤ length rows.now }
     ensures answers { OnOk result (HasTaken stage.now.op state.old (rows_to stage.now part (take early rows.now))
         → out.new.items ≡ out.old.items ++ part_replies stage.now (take early rows.now) (drop early rows.now) part) }
-    ensures roles { OnOk result (HasTaken stage.now.op state.old (rows_to stage.now part (take early rows.now))
-        → roles.new ≡ with_causes stage.now.op (asked_from (length out.old.items) asked.now (part_causes stage.now.op
-        (placed_to stage.now part (placed_from 0 (take early rows.now))) (placed_to stage.now part (placed_from early (drop early rows.now))))) roles.old) }
+    ensures said { OnOk result (HasTaken stage.now.op state.old (rows_to stage.now part (take early rows.now))
+        → HasNoted stage.now rows.now (causes_from stage.now part rows.now early) said.old.items said.new.items) }
 {
     for place in early..rows.len() {
-        take_if(alloc, state, stage, part, rows, place, asked, out, roles)?;
+        take_if(state, stage, part, rows, place, out, said)?;
     }
-    take(alloc, state, stage, part, rows, &None, asked, out, roles)
+    take(state, stage, part, rows, &None, out, said)
 }
 
 // Gives an operator the row of this place if it goes to its partition.
 fn take_if(
-    alloc: Global,
     state: &mut OpState,
     stage: &Stage,
     part: u32,
     rows: &[Row],
     place: usize,
-    asked: &[bool],
     out: &mut Vec<Row>,
-    roles: &mut RowRoles,
+    said: &mut Vec<Speaker>,
 ) -> Result<(), OutOfMemory>
     requires stage { IsStage stage.now }
     requires times { All HasTime rows.now }
     requires there { place < length rows.now }
     ensures passed { OnOk result (HasTaken stage.now.op state.old (rows_to stage.now part (take place rows.now))
-        → HasPassed stage.now part rows.now place asked.now (record { state = state.old; out = out.old.items; roles = roles.old }) (record { state = state.new; out = out.new.items; roles = roles.new })) }
+        → HasPassed stage.now part rows.now place (record { state = state.old; out = out.old.items; said = said.old.items }) (record { state = state.new; out = out.new.items; said = said.new.items })) }
 {
     let row = rows[place];
     if route(&row, stage.by, stage.parts) != part {
         return Ok(());
     }
     let r = Placed { place, row };
-    take(
-        alloc,
-        state,
-        stage,
-        part,
-        &rows[..place],
-        &Some(r),
-        asked,
-        out,
-        roles,
-    )
+    take(state, stage, part, &rows[..place], &Some(r), out, said)
 }
 
 // What the operators answer to late rows and to the end, one partition after the other.
 pub(crate) fn pass_late(
-    alloc: Global,
     states: &mut [OpState],
     stage: &Stage,
     rows: &[Row],
     early: usize,
-    asked: &[bool],
     out: &mut Vec<Row>,
-    roles: &mut RowRoles,
+    said: &mut Vec<Speaker>,
 ) -> Result<(), OutOfMemory>
     requires stage { IsStage stage.now }
     requires parts { length states.old ≡ stage.now.parts }
@@ -217,12 +192,12 @@ pub(crate) fn pass_late(
     requires times { All HasTime rows.now }
     requires early { early ≤ length rows.now }
     ensures answers { OnOk result (out.new.items ≡ out.old.items ++ late_replies stage.now (take early rows.now) (drop early rows.now) 0 stage.now.parts) }
-    ensures roles { OnOk result (roles.new ≡ with_causes stage.now.op (asked_from (length out.old.items) asked.now (late_causes stage.now
-        (placed_from 0 (take early rows.now)) (placed_from early (drop early rows.now)) 0 stage.now.parts)) roles.old) }
+    ensures said { OnOk result (HasNoted stage.now rows.now (late_causes stage.now
+        (placed_from 0 (take early rows.now)) (placed_from early (drop early rows.now)) 0 stage.now.parts) said.old.items said.new.items) }
 {
     let mut part = 0;
     for state in states.iter_mut() {
-        finish(alloc, state, stage, part, rows, early, asked, out, roles)?;
+        finish(state, stage, part, rows, early, out, said)?;
         part += 1;
     }
     Ok(())

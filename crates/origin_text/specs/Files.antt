@@ -1,5 +1,5 @@
 -- Where the inputs of a plan stand in their files.
-use Rattle.std.specs.Prelude.{ℕ, ℤ, ◌+◌, ◌-◌, ◌==◌, ◌&&◌, Bool, List, [], ◌∷◌, ◌++◌, codes, count_by, take, Option, None, Some, if◌then◌else◌}
+use Rattle.std.specs.Prelude.{ℕ, ℤ, ◌+◌, ◌-◌, ◌==◌, ◌&&◌, Bool, List, [], ◌∷◌, ◌++◌, codes, count_by, map, take, Option, None, Some, if◌then◌else◌}
 use Rattle.std.specs.Fmt.{decimal}
 use Rattle.std.specs.Ordering.{int_eq}
 use Rattle.tuple_edge.specs.Input.{Input}
@@ -20,6 +20,10 @@ pub record FilesView : Type 0 where
   pub trades : FileView
   pub movements : FileView
   pub inputs : List Input
+
+-- the rows that come in
+abbrev pub rows_in : FilesView → List Row
+rows_in files = map (λ (x : Input). x.row) files.inputs
 
 -- the file of a source
 abbrev pub file_of : FilesView → (source : ℕ) → FileView
@@ -50,6 +54,21 @@ line_in file before time = codes "line " ++ decimal (line_at file (place_of time
 abbrev pub input_text : FilesView → (place : ℕ) → Option Input → List ℕ
 input_text files place None = []
 input_text files place (Some x) = line_in (file_of files x.source) (came_before files.inputs place x.source x.row.time) x.row.time
+
+-- ---- texts alone
+
+-- the texts of both files
+pub record Texts : Type 0 where
+  pub trades : List ℕ
+  pub movements : List ℕ
+
+-- those of these files
+abbrev pub texts_of : FilesView → Texts
+texts_of files = record { trades = files.trades.text; movements = files.movements.text }
+
+-- the text of the file of a source
+abbrev pub text_of : Texts → (source : ℕ) → List ℕ
+text_of texts source = if source == 0 then texts.trades else texts.movements
 
 -- ---- as the code holds it
 

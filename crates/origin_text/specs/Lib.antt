@@ -1,3 +1,4 @@
+pub mod Alone
 pub mod Files
 pub mod Text
 pub mod Told

@@ -1,5 +1,5 @@
 -- The text that says how a row of the output came about.
-use Rattle.std.specs.Prelude.{ℕ, ◌+◌, ◌-◌, ◌==◌, ◌||◌, Bool, true, false, List, [], ◌∷◌, ◌++◌, Option, None, Some, codes, drop, length, nat_lt, slice_get, take, if◌then◌else◌}
+use Rattle.std.specs.Prelude.{ℕ, ◌+◌, ◌-◌, ◌==◌, ◌||◌, Bool, false, List, [], ◌∷◌, ◌++◌, Option, None, Some, codes, drop, length, nat_lt, slice_get, take, if◌then◌else◌}
 use Rattle.std.specs.Fmt.{decimal, signed_decimal}
 use Rattle.std.specs.List.{flat_map}
 use Rattle.tuple_edge.specs.Row.{route_of}
@@ -11,17 +11,21 @@ use Rattle.plan_reader.specs.Text.{stage_words}
 use Rattle.plan_reader.specs.declared.stage.Stage.{Stage}
 use Rattle.trade_text.specs.Symbols.{symbol_at}
 use Rattle.row_origin.specs.Origins.{StageOrigin}
-use Rattle.origin_text.specs.Files.{FilesView, files_in, input_text}
+use Rattle.origin_text.specs.Alone.{given_again, input_marks}
+use Rattle.origin_text.specs.Files.{FilesView, files_in, input_text, rows_in}
 use Rattle.origin_text.specs.Told.{came_at_end, came_by, counting, told_rows}
+use Rattle.origin_text.specs.declared.alone.Again.{Again}
 use Rattle.origin_text.specs.declared.told.ToldRow.{ToldRow}
 use Rattle.origin_text.specs.declared.why.Question.{Question}
 
--- what is told of: the stages of a plan, the files that it is fed with, the symbols by their numbers, and whether all rows are told
+-- what is told of: the stages of a plan, the files that it is fed with, the symbols by their numbers, whether all rows are told, and whether it is told if those
+-- inputs alone give the row again on which it rests
 pub record Asked : Type 0 where
   pub stages : List Stage
   pub files : FilesView
   pub symbols : List (List ℕ)
   pub all : Bool
+  pub check : Bool
 
 -- ---- rows
 
@@ -108,6 +112,30 @@ abbrev pub stages_text : Asked → (number : ℕ) → List StageOrigin → List 
 stages_text a number [] = []
 stages_text a number (o ∷ origins) = stage_text a number (slice_get a.stages (number - 1)) o ++ stages_text a (number - 1) origins
 
+-- ---- the inputs by themselves
+
+-- what came in: trades, and movements where there are any
+abbrev pub kinds_text : FilesView → List ℕ
+kinds_text files = if length files.movements.rows == 0 then codes "trades" else codes "trades and movements"
+
+-- over how many of the inputs alone, of those that came in
+abbrev pub over_text : FilesView → (chosen : ℕ) → List ℕ
+over_text files chosen = codes "Over these " ++ kinds_text files ++ codes " alone, " ++ decimal chosen ++ codes " of the " ++ decimal (length files.inputs) ++ codes " that came in, "
+
+-- that the row is one of so many that the plan gives then, or that it isn't
+abbrev pub among_text : (given : ℕ) → (number : Option ℕ) → List ℕ
+among_text given (Some number) = codes "the plan gives this row again, as row " ++ decimal number ++ codes " of " ++ decimal given ++ codes ".\n"
+among_text given None = codes "this row isn't among the " ++ decimal given ++ codes " that the plan gives: without the others a stage passes on other rows.\n"
+
+-- whether the plan gives the row again
+abbrev pub again_line : FilesView → Again → List ℕ
+again_line files again = over_text files again.chosen ++ among_text again.given again.number
+
+-- that of the row of the output, where it is asked for and the row is there, by the marks of the inputs
+abbrev pub check_text : Asked → List Bool → Option Row → List ℕ
+check_text a marks None = []
+check_text a marks (Some r) = if a.check then again_line a.files (given_again a.stages (rows_in a.files) marks r) else []
+
 -- ---- all of it
 
 -- the row of the output, if it is there: its number, among how many, and what it is
@@ -115,13 +143,16 @@ abbrev pub head_line : List (List ℕ) → (number count : ℕ) → Option Row �
 head_line symbols number count None = []
 head_line symbols number count (Some r) = codes "Row " ++ decimal number ++ codes " of " ++ decimal count ++ codes ": " ++ row_text symbols r ++ codes "\n"
 
--- how the row at a place of the output came about, by what is told of the rows behind the last stage, and of all stages from the last to the first
+-- How the row at a place of the output came about, by what is told of the rows behind the last stage, and of all stages from the last to the first. Last it is told,
+-- where that is asked for, whether the inputs on which it rests give it again by themselves.
 abbrev pub why_text : Asked → (place : ℕ) → List StageOrigin → List ℕ
 why_text a place [] = []
-why_text a place (last ∷ origins) = head_line a.symbols (place + 1) (length last.rows) (slice_get last.rows place) ++ stages_text a (length a.stages) origins
+why_text a place (last ∷ origins) =
+    head_line a.symbols (place + 1) (length last.rows) (slice_get last.rows place) ++ stages_text a (length a.stages) origins
+    ++ check_text a (input_marks (last ∷ origins)) (slice_get last.rows place)
 
 -- ---- as the code holds it
 
 -- what code asks about
 abbrev pub asked_in : Question → Asked
-asked_in q = record { stages = q.stages.now; files = files_in q.files; symbols = q.files.inputs.now.symbols; all = q.all }
+asked_in q = record { stages = q.stages.now; files = files_in q.files; symbols = q.files.inputs.now.symbols; all = q.all; check = q.check }

@@ -1,5 +1,5 @@
 -- The rows that are told of a stage: those on which rows rest that are asked about.
-use Rattle.std.specs.Prelude.{ℕ, ◌+◌, ◌-◌, ◌==◌, ◌&&◌, not, Bool, true, false, List, [], ◌∷◌, Option, None, Some, count_by, length, slice_get, slice_index_or, option_map, if◌then◌else◌}
+use Rattle.std.specs.Prelude.{ℕ, ◌+◌, ◌-◌, ◌==◌, ◌&&◌, not, Bool, false, List, [], ◌∷◌, Option, None, count_by, length, slice_get, slice_index_or, option_map, if◌then◌else◌}
 use Rattle.tuple_edge.specs.declared.row.Row.{Row}
 use Rattle.op_spec.specs.declared.spec.OpSpec.{OpSpec}
 use Rattle.row_origin.specs.Marks.{Roles}

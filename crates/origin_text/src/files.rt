@@ -1,11 +1,11 @@
 // Where the inputs of a plan stand in their files.
-ghost use Rattle.origin_text.specs.Files.{came_before, file_in, file_of, files_in, input_text, is_of, line_at, line_in, place_of};
+ghost use Rattle.origin_text.specs.Files.{came_before, file_in, file_of, files_in, input_text, is_of, line_at, line_in, place_of, text_of, texts_of};
 ghost use Rattle.std.specs.Prelude.{◌≡◌, ◌≤◌, ◌<◌, ◌^◌, ◌+◌, ◌-◌, ◌==◌, ◌&&◌, ◌++◌, OnOk, Some, if◌then◌else◌, length, slice_get};
 ghost use Rattle.trade_text.specs.TradesView.{inputs_in};
 ghost use Rattle.tuple_edge.specs.Input.{Input};
 
+use crate::lines::InputLines;
 use crate::pieces::{push_count, push_text};
-use input_faults::record_line;
 use std::alloc::Global;
 use trade_text::Trades;
 use tuple_edge::{OutOfMemory, Row};
@@ -105,25 +105,37 @@ fn place_of(rows: &[Row], time: i64, before: usize) -> usize
     rows.len()
 }
 
-// The line of the row of a time, that of another row, that has so many of that time before it.
-fn line_of_nth(file: &InputFile<'_>, like: &Row, before: usize) -> u64
-    ensures { result ≡ line_at (file_in file.now) (place_of like.now.time before file.now.rows.now) }
+// The line of the row of a time, that of another row, that has so many of that time before it in the file of a source.
+fn line_of_nth(
+    lines: &mut InputLines<'_>,
+    source: u32,
+    file: &InputFile<'_>,
+    like: &Row,
+    before: usize,
+) -> u64
+    requires { text_of lines.old source ≡ file.now.text.now }
+    ensures line { result ≡ line_at (file_in file.now) (place_of like.now.time before file.now.rows.now) }
+    ensures same { lines.new ≡ lines.old }
 {
     let place = place_of(file.rows, like.time, before);
-    record_line(file.text, place as u64 + 2)
+    lines.line(source, place as u64 + 2)
 }
 
-// Appends the line of an input in its file, and the file's name.
+// Appends the line of an input in the file of its source, and the file's name.
 fn push_line(
     alloc: Global,
     text: &mut Vec<u8>,
+    lines: &mut InputLines<'_>,
+    source: u32,
     file: &InputFile<'_>,
     before: usize,
     row: &Row,
 ) -> Result<(), OutOfMemory>
-    ensures { OnOk result (text.new.items ≡ text.old.items ++ line_in (file_in file.now) before row.now.time) }
+    requires { text_of lines.old source ≡ file.now.text.now }
+    ensures text { OnOk result (text.new.items ≡ text.old.items ++ line_in (file_in file.now) before row.now.time) }
+    ensures same { lines.new ≡ lines.old }
 {
-    let line = line_of_nth(file, row, before);
+    let line = line_of_nth(lines, source, file, row, before);
     push_text(text, "line ")?;
     push_count(alloc, text, line)?;
     push_text(text, " of ")?;
@@ -135,16 +147,19 @@ fn push_there(
     alloc: Global,
     text: &mut Vec<u8>,
     files: &InputFiles<'_>,
+    lines: &mut InputLines<'_>,
     place: usize,
 ) -> Result<(), OutOfMemory>
-    requires { place < length files.now.inputs.now.rows }
-    ensures { OnOk result (text.new.items ≡ text.old.items ++ input_text (files_in files.now) place (slice_get (inputs_in files.now.inputs.now) place)) }
+    requires there { place < length files.now.inputs.now.rows }
+    requires texts { lines.old ≡ texts_of (files_in files.now) }
+    ensures text { OnOk result (text.new.items ≡ text.old.items ++ input_text (files_in files.now) place (slice_get (inputs_in files.now.inputs.now) place)) }
+    ensures same { lines.new ≡ lines.old }
 {
     let source = files.inputs.source(place);
     let row = files.inputs.rows()[place];
     let before = came_before(files.inputs, place, source, &row);
     let file = file_of(files, source);
-    push_line(alloc, text, &file, before, &row)
+    push_line(alloc, text, lines, source, &file, before, &row)
 }
 
 // The same if there is one.
@@ -152,12 +167,15 @@ pub(crate) fn push_input(
     alloc: Global,
     text: &mut Vec<u8>,
     files: &InputFiles<'_>,
+    lines: &mut InputLines<'_>,
     place: usize,
 ) -> Result<(), OutOfMemory>
-    ensures { OnOk result (text.new.items ≡ text.old.items ++ input_text (files_in files.now) place (slice_get (inputs_in files.now.inputs.now) place)) }
+    requires { lines.old ≡ texts_of (files_in files.now) }
+    ensures text { OnOk result (text.new.items ≡ text.old.items ++ input_text (files_in files.now) place (slice_get (inputs_in files.now.inputs.now) place)) }
+    ensures same { lines.new ≡ lines.old }
 {
     if place < files.inputs.rows().len() {
-        return push_there(alloc, text, files, place);
+        return push_there(alloc, text, files, lines, place);
     }
     Ok(())
 }

@@ -1,9 +1,10 @@
 // The lines of rows.
-ghost use Rattle.origin_text.specs.Files.{files_in};
+ghost use Rattle.origin_text.specs.Files.{files_in, texts_of};
 ghost use Rattle.origin_text.specs.Text.{asked_in, came_text, is_number, more_line, part_text, place_text, role_text, row_text, shown_lines, some_lines, told_line, told_lines};
 ghost use Rattle.std.specs.Prelude.{◌≡◌, ◌≤◌, ◌++◌, OnOk, length};
 
 use crate::files::{InputFiles, push_input};
+use crate::lines::InputLines;
 use crate::pieces::{push_amounts, push_count, push_front, push_symbol, push_text};
 use crate::told::ToldRow;
 use crate::why::Question;
@@ -65,13 +66,16 @@ fn push_place(
     alloc: Global,
     text: &mut Vec<u8>,
     files: &InputFiles<'_>,
+    lines: &mut InputLines<'_>,
     stage: usize,
     number: usize,
 ) -> Result<(), OutOfMemory>
-    ensures { OnOk result (text.new.items ≡ text.old.items ++ place_text (files_in files.now) stage number) }
+    requires { lines.old ≡ texts_of (files_in files.now) }
+    ensures text { OnOk result (text.new.items ≡ text.old.items ++ place_text (files_in files.now) stage number) }
+    ensures same { lines.new ≡ lines.old }
 {
     if stage == 1 {
-        return push_input(alloc, text, files, number.saturating_sub(1));
+        return push_input(alloc, text, files, lines, number.saturating_sub(1));
     }
     push_text(text, "row ")?;
     push_count(alloc, text, number as u64)
@@ -92,16 +96,19 @@ fn push_told(
     alloc: Global,
     text: &mut Vec<u8>,
     question: &Question<'_>,
+    lines: &mut InputLines<'_>,
     number: usize,
     stage: &Stage,
     came: Option<usize>,
     x: &ToldRow,
 ) -> Result<(), OutOfMemory>
-    requires { 1 ≤ stage.now.parts }
-    ensures { OnOk result (text.new.items ≡ text.old.items ++ told_line (asked_in question.now) number stage.now came x.now) }
+    requires parts { 1 ≤ stage.now.parts }
+    requires texts { lines.old ≡ texts_of (files_in question.now.files) }
+    ensures text { OnOk result (text.new.items ≡ text.old.items ++ told_line (asked_in question.now) number stage.now came x.now) }
+    ensures same { lines.new ≡ lines.old }
 {
     push_text(text, "  ")?;
-    push_place(alloc, text, &question.files, number, x.number)?;
+    push_place(alloc, text, &question.files, lines, number, x.number)?;
     push_part(alloc, text, stage, &x.row)?;
     push_row(alloc, text, question.files.inputs, &x.row)?;
     push_text(text, role_text(&stage.op, came, x))?;
@@ -113,16 +120,19 @@ fn push_lines(
     alloc: Global,
     text: &mut Vec<u8>,
     question: &Question<'_>,
+    lines: &mut InputLines<'_>,
     number: usize,
     stage: &Stage,
     came: Option<usize>,
     told: &[ToldRow],
 ) -> Result<(), OutOfMemory>
-    requires { 1 ≤ stage.now.parts }
-    ensures { OnOk result (text.new.items ≡ text.old.items ++ told_lines (asked_in question.now) number stage.now came told.now) }
+    requires parts { 1 ≤ stage.now.parts }
+    requires texts { lines.old ≡ texts_of (files_in question.now.files) }
+    ensures text { OnOk result (text.new.items ≡ text.old.items ++ told_lines (asked_in question.now) number stage.now came told.now) }
+    ensures same { lines.new ≡ lines.old }
 {
     for x in told {
-        push_told(alloc, text, question, number, stage, came, x)?;
+        push_told(alloc, text, question, lines, number, stage, came, x)?;
     }
     Ok(())
 }
@@ -141,6 +151,7 @@ fn push_some(
     alloc: Global,
     text: &mut Vec<u8>,
     question: &Question<'_>,
+    lines: &mut InputLines<'_>,
     number: usize,
     stage: &Stage,
     came: Option<usize>,
@@ -148,15 +159,27 @@ fn push_some(
 ) -> Result<(), OutOfMemory>
     requires parts { 1 ≤ stage.now.parts }
     requires many { 7 ≤ length told.now }
-    ensures { OnOk result (text.new.items ≡ text.old.items ++ some_lines (asked_in question.now) number stage.now came told.now) }
+    requires texts { lines.old ≡ texts_of (files_in question.now.files) }
+    ensures text { OnOk result (text.new.items ≡ text.old.items ++ some_lines (asked_in question.now) number stage.now came told.now) }
+    ensures same { lines.new ≡ lines.old }
 {
     let count = told.len();
-    push_lines(alloc, text, question, number, stage, came, &told[..3])?;
+    push_lines(
+        alloc,
+        text,
+        question,
+        lines,
+        number,
+        stage,
+        came,
+        &told[..3],
+    )?;
     push_more(alloc, text, count as u64 - 6)?;
     push_lines(
         alloc,
         text,
         question,
+        lines,
         number,
         stage,
         came,
@@ -177,8 +200,9 @@ pub(crate) fn push_shown(
     requires { 1 ≤ stage.now.parts }
     ensures { OnOk result (text.new.items ≡ text.old.items ++ shown_lines (asked_in question.now) number stage.now came told.now) }
 {
+    let mut lines = InputLines::new(&question.files);
     if question.all || told.len() < 7 {
-        return push_lines(alloc, text, question, number, stage, came, told);
+        return push_lines(alloc, text, question, &mut lines, number, stage, came, told);
     }
-    push_some(alloc, text, question, number, stage, came, told)
+    push_some(alloc, text, question, &mut lines, number, stage, came, told)
 }

@@ -1,7 +1,6 @@
 // The rows that are told of a stage.
-ghost use Rattle.origin_text.specs.Told.{came_at_end, came_by, counting, last_told, told_from, told_rows};
-ghost use Rattle.origin_finder.specs.Counting.{speaker_counts};
-ghost use Rattle.std.specs.Prelude.{◌≡◌, ◌≤◌, ◌++◌, ◌∷◌, [], IfOk, OnOk, if◌then◌else◌, length};
+ghost use Rattle.origin_text.specs.Told.{came_at_end, came_by, counting, told_rows};
+ghost use Rattle.std.specs.Prelude.{◌≡◌, ◌++◌, ◌∷◌, [], IfOk, OnOk, if◌then◌else◌};
 
 use op_spec::OpSpec;
 use origin_finder::{StageTold, counts_itself, is_marked};

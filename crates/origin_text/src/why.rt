@@ -5,6 +5,8 @@ ghost use Rattle.plan_reader.specs.Text.{stage_words};
 ghost use Rattle.std.specs.Prelude.{◌≡◌, ◌≤◌, ◌+◌, ◌-◌, ◌++◌, All, IfOk, OnOk, Some, length, slice_get};
 ghost use Rattle.text_words.specs.Text.{line_text};
 
+use crate::again::push_check;
+use crate::alone::input_marks;
 use crate::files::InputFiles;
 use crate::pieces::{push_count, push_text};
 use crate::rows::{push_row, push_shown};
@@ -17,12 +19,14 @@ use std::alloc::Global;
 use trade_text::Trades;
 use tuple_edge::{OutOfMemory, Row};
 
-/// What is asked about: the stages of a plan, the files that it is fed with, and whether all rows are told.
+/// What is asked about: the stages of a plan, the files that it is fed with, whether all rows are told, and whether it is told if
+/// those inputs alone give the row again on which it rests.
 #[derive(Clone, Copy)]
 pub struct Question<'a> {
     pub stages: &'a [Stage],
     pub files: InputFiles<'a>,
     pub all: bool,
+    pub check: bool,
 }
 
 // Appends the line of a stage.
@@ -191,7 +195,8 @@ fn push_numbered(
 }
 
 /// How the row at a place of the output came about, by what is told of the rows behind the last stage and of all stages from the last to the first:
-/// the row, and for each stage its line of the plan, on how many of the rows that came in it rests, and those rows.
+/// the row, and for each stage its line of the plan, on how many of the rows that came in it rests, and those rows. Last, where that is asked for,
+/// whether the inputs on which it rests give the row again by themselves.
 pub fn write_why(
     alloc: Global,
     question: &Question<'_>,
@@ -207,5 +212,7 @@ pub fn write_why(
     };
     push_head(alloc, &mut text, question.files.inputs, place, last.rows())?;
     push_stages(alloc, &mut text, question, origins)?;
+    let marks = input_marks(told);
+    push_check(alloc, &mut text, question, marks, last.rows(), place)?;
     Ok(text)
 }

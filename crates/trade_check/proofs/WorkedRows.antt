@@ -1,6 +1,6 @@
 -- The trades that are worked by hand.
 use Rattle.std.proofs.Common.{refl}
-use Rattle.trade_check.specs.WorkedRows.{SymbolsWorked, TimesWorked, WorkedRows}
+use Rattle.trade_check.specs.WorkedRows.{CountsWorked, SymbolsWorked, TimesWorked, WorkedRows}
 
 times_worked : TimesWorked
 times_worked = record {
@@ -20,5 +20,21 @@ times_worked = record {
 symbols_worked : SymbolsWorked
 symbols_worked = record { kept = refl; no_symbol = refl; several = refl; other_column = refl; place = refl; there = refl; lacks = refl; count = refl }
 
+counts_worked : CountsWorked
+counts_worked = record {
+  with_rows = refl;
+  without_rows = refl;
+  controller = refl;
+  no_stage = refl;
+  trades_alone = refl;
+  unknown = refl;
+  with_movements = refl;
+  in_time = refl;
+  in_last_turn = refl;
+  back_in_time = refl;
+  never_back = refl;
+  never = refl;
+}
+
 pub worked : WorkedRows
-worked = record { times = times_worked; symbols = symbols_worked }
+worked = record { times = times_worked; symbols = symbols_worked; counts = counts_worked }

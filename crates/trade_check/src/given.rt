@@ -10,6 +10,7 @@ use trade_text::Trades;
 use tuple_edge::OutOfMemory;
 
 /// Trades, with the name and the bytes of the file from which they were read, so that it can be said where in it something stands.
+/// No movements are merged with them.
 ///
 /// Contracts see these three.
 #[derive(Drop)]
@@ -20,16 +21,18 @@ pub struct GivenTrades {
 }
 
 impl Model for GivenTrades {
-    ghost use Rattle.std.specs.Prelude.{string_bytes};
+    ghost use Rattle.std.specs.Prelude.{◌≡◌, false, string_bytes};
     ghost use Rattle.trade_check.specs.Given.{GivenView};
 
     ghost Value = { GivenView };
 
     ghost view = { λ g. record { name = string_bytes g.name; bytes = g.bytes.items; trades = g.trades } };
+
+    ghost invariant = { λ g. g.trades.merged ≡ false };
 }
 
 impl GivenTrades {
-    ghost use Rattle.trade_text.specs.TradesView.{IsTrades};
+    ghost use Rattle.std.specs.Prelude.{false};
 
     /// The trades of a file of this name with these bytes.
     pub fn new(
@@ -38,6 +41,7 @@ impl GivenTrades {
         bytes: &[u8],
         trades: Trades,
     ) -> Result<GivenTrades, OutOfMemory>
+        requires { trades.merged ≡ false }
         ensures { IfOk result (λ it. it ≡ given name.now bytes.now trades) }
     {
         let mut kept = String::new(alloc);
@@ -56,6 +60,14 @@ impl GivenTrades {
         ensures trades { result.now ≡ self.now.trades }
     {
         &self.trades
+    }
+
+    // The same, once nothing is to be said of their file any more.
+    pub(crate) fn into_trades(self) -> Trades
+        ensures trades { result ≡ self.trades }
+        ensures alone { result.merged ≡ false }
+    {
+        self.trades
     }
 
     // The name of the file.

@@ -1,5 +1,5 @@
 -- What is kept of a file that was read, or why it is refused.
-use Rattle.std.proofs.Common.{ℕ, ◌≡◌, List, Ok, Err, ap}
+use Rattle.std.proofs.Common.{◌≡◌, Ok, ap}
 use Rattle.command_course.specs.Course.{Reading}
 use Rattle.command_course.specs.Steps.{StopsOn}
 use Rattle.command_course.specs.declared.stop.Stop.{Stop}

@@ -11,7 +11,7 @@ use Rattle.look_course.specs.declared.answer.Ending.TheVariants.{Done}
 use Rattle.row_origin.specs.Origins.{StageOrigin}
 use Rattle.origin_text.specs.Text.{Asked, why_text}
 use Rattle.why_command.specs.Given.{no_cash, origins_for, question}
-use Rattle.why_command.specs.Kept.{KeptCash, KeptTrades, kept_cash_from, kept_trades_from}
+use Rattle.why_command.specs.Kept.{KeptTrades, kept_cash_from, kept_trades_from}
 use Rattle.why_command.specs.declared.why.Wanted.{Wanted}
 
 -- ---- the answer
@@ -41,9 +41,9 @@ answers number a next = tells number a (origins_for (number - 1) a) next
 
 -- movements come last, where a file of them is named, and then the answer
 abbrev pub movements_way : (trades : List ℕ) → (cash : Option (List ℕ)) → Wanted → PlanView → KeptTrades → Way AnswerView
-movements_way trades None wanted plan kept next = answers wanted.number (question wanted.all plan trades kept [] no_cash) next
+movements_way trades None wanted plan kept next = answers wanted.number (question wanted plan trades kept [] no_cash) next
 movements_way trades (Some cash) wanted plan kept next =
-    reads max_input_bytes (kept_cash_from (max_inputs - length kept.trades.rows)) cash (λ movements. answers wanted.number (question wanted.all plan trades kept cash movements) next)
+    reads max_input_bytes (kept_cash_from (max_inputs - length kept.trades.rows)) cash (λ movements. answers wanted.number (question wanted plan trades kept cash movements) next)
 
 -- before them come the trades
 abbrev pub trades_way : (trades : List ℕ) → (cash : Option (List ℕ)) → Wanted → PlanView → Way AnswerView

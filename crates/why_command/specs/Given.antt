@@ -1,5 +1,5 @@
 -- What `why` is asked, and what the files say of which it is asked.
-use Rattle.std.specs.Prelude.{ℕ, Bool, List, [], map}
+use Rattle.std.specs.Prelude.{ℕ, List, [], map}
 use Rattle.csv.specs.Reading.{strip_bom}
 use Rattle.tuple_edge.specs.Input.{Input}
 use Rattle.tuple_edge.specs.declared.row.Row.{Row}
@@ -9,6 +9,7 @@ use Rattle.row_origin.specs.Origins.{StageOrigin, origins}
 use Rattle.origin_text.specs.Files.{FilesView, FileView}
 use Rattle.origin_text.specs.Text.{Asked}
 use Rattle.why_command.specs.Kept.{KeptCash, KeptTrades}
+use Rattle.why_command.specs.declared.why.Wanted.{Wanted}
 
 -- no movements
 abbrev pub no_cash : KeptCash
@@ -27,9 +28,9 @@ files version trades_name kept cash_name cash = record {
 }
 
 -- what is asked about these files
-abbrev pub question : (all : Bool) → PlanView → (trades_name : List ℕ) → KeptTrades → (cash_name : List ℕ) → KeptCash → Asked
-question all plan trades_name kept cash_name cash =
-    record { stages = plan.stages; files = files plan.version trades_name kept cash_name cash; symbols = kept.trades.symbols; all = all }
+abbrev pub question : Wanted → PlanView → (trades_name : List ℕ) → KeptTrades → (cash_name : List ℕ) → KeptCash → Asked
+question wanted plan trades_name kept cash_name cash =
+    record { stages = plan.stages; files = files plan.version trades_name kept cash_name cash; symbols = kept.trades.symbols; all = wanted.all; check = wanted.check }
 
 -- how the row at a place of the output came about, where these inputs come in
 abbrev pub origins_for : (place : ℕ) → Asked → List StageOrigin

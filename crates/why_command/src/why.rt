@@ -4,7 +4,6 @@ ghost use Rattle.command_course.specs.Steps.{GivesBy, IsRefusedBy, OnlyReads, St
 ghost use Rattle.look_course.specs.Answers.{AnswerView, answer_of};
 ghost use Rattle.origin_text.specs.Text.{asked_in};
 ghost use Rattle.replay_command.specs.Ends.{StopsIn};
-ghost use Rattle.row_origin.specs.Origins.{origins};
 ghost use Rattle.plan_reader.specs.PlanView.{IsStage};
 ghost use Rattle.std.specs.Prelude.{◌≡◌, ◌+◌, ◌-◌, ◌≤◌, [], All, IfErr, IfOk, Some, false, length, option_map};
 ghost use Rattle.trade_text.specs.Inputs.{inputs_of};
@@ -25,11 +24,13 @@ use std::alloc::Global;
 use trade_text::{Cash, MAX_INPUTS, Trades};
 use tuple_edge::{OutOfMemory, Row};
 
-/// Which row of the output is asked about, from 1, and whether all rows are told on which it rests.
+/// Which row of the output is asked about, from 1, whether all rows are told on which it rests, and whether it is told if the inputs
+/// among these give it again by themselves.
 #[derive(Clone, Copy)]
 pub struct Wanted {
     pub number: u64,
     pub all: bool,
+    pub check: bool,
 }
 
 // How many rows the last stage passes on.
@@ -145,9 +146,9 @@ fn explained<'a>(
     requires unmerged { kept.trades.merged ≡ false }
     requires few { length kept.trades.rows + length movements.now.rows ≤ max_inputs }
     ensures text { IfOk result (λ answer. (next : AnswerView → Course)
-        → answers wanted.number (question wanted.all plan.now names.entry.trades.now kept names.entry.cash.now movements.now) next ≡ next (answer_of answer)) }
+        → answers wanted.number (question wanted plan.now names.entry.trades.now kept names.entry.cash.now movements.now) next ≡ next (answer_of answer)) }
     ensures refused { IfErr result (λ stop. (next : AnswerView → Course)
-        → StopsIn (answers wanted.number (question wanted.all plan.now names.entry.trades.now kept names.entry.cash.now movements.now) next) stop) }
+        → StopsIn (answers wanted.number (question wanted plan.now names.entry.trades.now kept names.entry.cash.now movements.now) next) stop) }
 {
     let KeptTrades { trades, bytes } = kept;
     let rows = copied(alloc, trades.rows())?;
@@ -168,6 +169,7 @@ fn explained<'a>(
             inputs: &inputs,
         },
         all: wanted.all,
+        check: wanted.check,
     };
     match answered(alloc, plan, &question, wanted.number) {
         Ok(answer) => Ok(answer),
@@ -185,9 +187,9 @@ fn without_movements(
 ) -> Result<Answer, Stop>
     requires { kept.trades.merged ≡ false }
     ensures text { IfOk result (λ answer. (next : AnswerView → Course)
-        → answers wanted.number (question wanted.all plan.now trades.now kept [] no_cash) next ≡ next (answer_of answer)) }
+        → answers wanted.number (question wanted plan.now trades.now kept [] no_cash) next ≡ next (answer_of answer)) }
     ensures refused { IfErr result (λ stop. (next : AnswerView → Course)
-        → StopsIn (answers wanted.number (question wanted.all plan.now trades.now kept [] no_cash) next) stop) }
+        → StopsIn (answers wanted.number (question wanted plan.now trades.now kept [] no_cash) next) stop) }
 {
     let none = KeptCash {
         cash: Cash::empty(alloc),

@@ -7,4 +7,4 @@ use Rattle.look_command.proofs.faults.sound.Goals as goal
 pub returns : goal.returns
 returns c =
     ap (λ e. answer e c.in_ok-text.text.items) c.ending_after-ending.ensures
-    ∙ sound_is c.args.json c.args.plan.now _ _ _ _ (string_bytes c.in_ok-checked.checked.text) c.in_ok-text.text.items c.in_ok-checked.checked.warnings c.accepted.ensures c.accepted-2.ensures c.in_ok-checked.ensures.text c.in_ok-checked.ensures.warnings c.in_ok-text.ensures
+    ∙ sound_is c.args.json c.args.plan.now _ _ _ (string_bytes c.in_ok-checked.checked.text) c.in_ok-text.text.items c.in_ok-checked.checked.warnings c.in_ok-checked.ensures.text c.in_ok-checked.ensures.warnings c.in_ok-text.ensures

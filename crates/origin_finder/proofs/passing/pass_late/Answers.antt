@@ -4,9 +4,10 @@ use Rattle.tuple_edge.specs.declared.row.Row.{Row}
 use Rattle.stream_ops.specs.State.{StateView}
 use Rattle.evaluation.specs.StageRows.{HasTaken, PartsTook, late_replies, part_replies, rows_to}
 use Rattle.evaluation.proofs.Taking.{drop-set, late_next}
-use Rattle.row_origin.specs.Marks.{asked_from, with_causes}
-use Rattle.row_origin.specs.Stages.{part_causes, placed_from, placed_to}
-use Rattle.origin_finder.proofs.Counts.{late_step}
+use Rattle.row_origin.specs.Stages.{late_causes, part_causes, placed_from, placed_to}
+use Rattle.origin_finder.specs.Passing.{causes_from}
+use Rattle.origin_finder.specs.Said.{HasNoted, IsLeft}
+use Rattle.origin_finder.proofs.Saying.{goes_on}
 use Rattle.origin_finder.proofs.passing.pass_late.Goals as goal
 
 pub loop-state-preserved : goal.loop-state-preserved
@@ -31,6 +32,8 @@ loop-state-preserved c =
     let fewer : stage.parts - k ≡ suc (stage.parts - (k + 1)) = omega (arith, here, inv.parts) in
     let mine = part_replies stage early late k in
     let rest = late_replies stage early late (k + 1) (stage.parts - (k + 1)) in
+    let E = placed_from 0 early in
+    let L = placed_from c.args.early late in
     let gave : has ≡ out ++ mine = c.in_ok-finish.ensures.answers mine_took ∙ ap (λ (q : ℕ). out ++ part_replies stage early late q) inv.part in
     record {
       part = ap (λ (n : ℕ). n + 1) inv.part;
@@ -38,7 +41,18 @@ loop-state-preserved c =
       took = subst (λ (ss : List StateView). PartsTook stage (k + 1) ss early) kept split.1;
       answers = inv.answers ∙ (ap (λ (rs : List Row). out ++ rs) (late_next stage early late k (stage.parts - k) (stage.parts - (k + 1)) fewer)
           ∙ (sym (append_assoc out mine rest) ∙ ap (λ (rs : List Row). rs ++ rest) (sym gave)));
-      roles = inv.roles ∙ late_step stage early late c.args.early k (stage.parts - k) (stage.parts - (k + 1)) c.args.asked.now out has c.loop-state.roles c.finish.new.roles c.requires.stage.op fewer gave
-          (c.in_ok-finish.ensures.roles mine_took
-          ∙ ap (λ (q : ℕ). with_causes stage.op (asked_from (length out) c.args.asked.now (part_causes stage.op (placed_to stage q (placed_from 0 early)) (placed_to stage q (placed_from c.args.early late)))) c.loop-state.roles) inv.part);
+      said = goes_on stage rows (late_causes stage E L 0 stage.parts) (late_causes stage E L k (stage.parts - k)) (part_causes stage.op (placed_to stage k E) (placed_to stage k L))
+          (late_causes stage E L (k + 1) (stage.parts - (k + 1))) c.args.said.now.items c.loop-state.said.items c.finish.new.said.items (ap (late_causes stage E L k) fewer)
+          (subst (λ (q : ℕ). HasNoted stage rows (causes_from stage q rows c.args.early) c.loop-state.said.items c.finish.new.said.items) inv.part (c.in_ok-finish.ensures.said mine_took)) inv.said;
     }
+
+pub returns-clause-said : goal.returns-clause-said
+returns-clause-said c left all h =
+    let stage = c.args.stage.now in
+    let rows = c.args.rows.now in
+    let inv = c.loop-state.invariant in
+    let k = c.loop-state.state-index in
+    let E = placed_from 0 (take c.args.early rows) in
+    let L = placed_from c.args.early (drop c.args.early rows) in
+    let none_left : stage.parts - k ≡ 0 = omega (arith, inv.parts, c.loop-state-test.false) in
+    subst (λ (n : ℕ). IsLeft stage rows c.loop-state.said.items (late_causes stage E L k n ++ left) all) none_left (inv.said left all h)

@@ -1,7 +1,8 @@
-use Rattle.std.proofs.Common.{◌≡◌, ◌++◌, ◌-◌, drop, length, take}
+use Rattle.std.proofs.Common.{◌≡◌, ◌++◌, ◌-◌, List, drop, length, take}
 use Rattle.evaluation.specs.StageRows.{PartsTook, late_replies}
-use Rattle.row_origin.specs.Marks.{asked_from, with_causes}
+use Rattle.row_cause.specs.Causes.{Cause}
 use Rattle.row_origin.specs.Stages.{late_causes, placed_from}
+use Rattle.origin_finder.specs.Said.{IsLeft}
 use Rattle.origin_finder.proofs.passing.pass_late.Given as goal
 
 abbrev pub invariant-loop-state : goal.invariant-loop-state
@@ -11,6 +12,6 @@ invariant-loop-state l = record {
   took : PartsTook l.stage l.state-index (drop l.state-index l.states) (take l.early l.rows);
   answers : l.initial.out.items ++ late_replies l.stage (take l.early l.rows) (drop l.early l.rows) 0 l.stage.parts
       ≡ l.out.items ++ late_replies l.stage (take l.early l.rows) (drop l.early l.rows) l.state-index (l.stage.parts - l.state-index);
-  roles : with_causes l.stage.op (asked_from (length l.initial.out.items) l.asked (late_causes l.stage (placed_from 0 (take l.early l.rows)) (placed_from l.early (drop l.early l.rows)) 0 l.stage.parts)) l.initial.roles
-      ≡ with_causes l.stage.op (asked_from (length l.out.items) l.asked (late_causes l.stage (placed_from 0 (take l.early l.rows)) (placed_from l.early (drop l.early l.rows)) l.state-index (l.stage.parts - l.state-index))) l.roles;
+  said : (left all : List Cause) → IsLeft l.stage l.rows l.initial.said.items (late_causes l.stage (placed_from 0 (take l.early l.rows)) (placed_from l.early (drop l.early l.rows)) 0 l.stage.parts ++ left) all
+      → IsLeft l.stage l.rows l.said.items (late_causes l.stage (placed_from 0 (take l.early l.rows)) (placed_from l.early (drop l.early l.rows)) l.state-index (l.stage.parts - l.state-index) ++ left) all;
 }

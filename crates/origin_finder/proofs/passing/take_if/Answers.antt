@@ -1,5 +1,6 @@
 use Rattle.std.proofs.Common.{◌≡◌, ◌==◌, ◌∙◌, true, false, get_or, pos, refl, sym, take}
 use Rattle.std.proofs.lemmas.Bool.{eq-eqb}
+use Rattle.std.proofs.lemmas.Option.{slice_get-get_or}
 use Rattle.tuple_edge.specs.Row.{route_of}
 use Rattle.tuple_edge.specs.declared.row.Row.{Row}
 use Rattle.merge_order.proofs.Choices.{nat_not}
@@ -17,9 +18,9 @@ returns-then-route-part c =
     let stage = c.args.stage.now in
     let rows = c.args.rows.now in
     let r = get_or rows c.args.place none in
-    let p : Passing = record { state = c.args.state.now; out = c.args.out.now.items; roles = c.args.roles.now } in
+    let p : Passing = record { state = c.args.state.now; out = c.args.out.now.items; said = c.args.said.now.items } in
     let away : (route_of r stage.by stage.parts == c.args.part) ≡ false = nat_not (route_of r stage.by stage.parts) c.args.part (λ e. c.if-route-part.true (c.route.ensures.value ∙ e)) in
-    record { passed = λ had. passed_other stage c.args.part rows c.args.place none c.args.asked.now p c.requires.there away had }
+    record { passed = λ had. passed_other stage c.args.part rows c.args.place none p c.requires.there away had }
 
 pub returns : goal.returns
 returns c = record {
@@ -30,9 +31,10 @@ returns c = record {
       let k = c.args.place in
       let r = get_or rows k none in
       let X = rows_to stage q (take k rows) in
-      let p : Passing = record { state = c.args.state.now; out = c.args.out.now.items; roles = c.args.roles.now } in
-      let new : Passing = record { state = c.take.new.state; out = c.take.new.out.items; roles = c.take.new.roles } in
+      let p : Passing = record { state = c.args.state.now; out = c.args.out.now.items; said = c.args.said.now.items } in
+      let new : Passing = record { state = c.take.new.state; out = c.take.new.out.items; said = c.take.new.said.items } in
       let goes : (route_of r stage.by stage.parts == q) ≡ true = eq-eqb (route_of r stage.by stage.parts) q (sym c.route.ensures.value ∙ c.if-route-part.false) in
-      passed_here stage q rows k r none c.args.asked.now p new c.requires.stage.op c.requires.there refl goes had c.take.ensures.spec (stands (alike X) (alike_open X) had.stands) (answers had) (told had))
-      c.take.ensures.answers c.take.ensures.stands c.take.ensures.roles;
+      passed_here stage q rows k r none p new c.requires.there refl goes had c.take.ensures.spec (stands (alike X) (alike_open X) had.stands) (answers had)
+      (told had rows (refl, slice_get-get_or rows k none c.requires.there, sym c.route.ensures.value ∙ c.if-route-part.false)))
+      c.take.ensures.answers c.take.ensures.stands c.take.ensures.said;
 }

@@ -8,8 +8,8 @@ use Rattle.trade_text.proofs.Sources.{rows_paired}
 use Rattle.origin_text.specs.Files.{files_in, input_text}
 use Rattle.origin_text.proofs.files.push_input.Goals as goal
 
-pub returns : goal.returns
-returns c =
+pub returns-clause-text : goal.returns-clause-text
+returns-clause-text c =
     let start = c.args.text.now.items in
     let trades = c.args.files.now.inputs.now in
     let inputs = inputs_in trades in

@@ -11,8 +11,8 @@ use Rattle.origin_text.proofs.files.push_there.Goals as goal
 abbrev none : Row
 none = record { time = pos 0; account = pos 0; symbol = pos 0; qty = pos 0; value = pos 0 }
 
-pub returns : goal.returns
-returns c = then c.push_line.result (λ e.
+pub returns-clause-text : goal.returns-clause-text
+returns-clause-text c = then c.push_line.result (λ e.
     let start = c.args.text.now.items in
     let F = files_in c.args.files.now in
     let k = c.args.place in
@@ -20,11 +20,11 @@ returns c = then c.push_line.result (λ e.
     let rows = trades.rows in
     let source = c.source-source.result in
     let r = get_or rows k none in
-    let there : slice_get rows k ≡ Some r = slice_get-get_or rows k none c.requires in
+    let there : slice_get rows k ≡ Some r = slice_get-get_or rows k none c.requires.there in
     let x : Input = record { source = source; row = r } in
     let is : slice_get (inputs_in trades) k ≡ Some x = c.source-source.ensures.input r there in
     e
     ∙ (ap (λ (file : FileView). start ++ line_in file c.came_before-before.result (get_or c.rows.result.now k none).time) c.file_of-file.ensures
     ∙ (ap (λ (n : ℕ). start ++ line_in (file_of F source) n (get_or c.rows.result.now k none).time) c.came_before-before.ensures
     ∙ (ap (λ (rs : List Row). start ++ line_in (file_of F source) (came_before (inputs_in trades) k source (get_or rs k none).time) (get_or rs k none).time) c.rows.ensures.rows
-    ∙ ap (λ (o : Option Input). start ++ input_text F k o) (sym is))))) c.push_line.ensures
+    ∙ ap (λ (o : Option Input). start ++ input_text F k o) (sym is))))) c.push_line.ensures.text

@@ -18,8 +18,8 @@ returns-in-Ok-clause-gives g c =
     let room_is : c.room_beside-room.result ≡ max_inputs - length kept.trades.rows = c.room_beside-room.ensures.room ∙ ap (λ (t : TradesView). max_inputs - length t.rows) (sym same) in
     let gives = subst (λ (room : ℕ). Gives (g.F.Files.told c.args.files.now) (g.F.Files.told c.input_at.new.files) max_input_bytes (kept_cash_from room) names.cash.now c.in-Ok.movements) room_is c.in-Ok.ensures.gives in
     gives_here (g.F.Files.told c.args.files.now) (g.F.Files.told c.input_at.new.files) (movements_way names.trades.now (Some names.cash.now) wanted plan kept)
-    (answers wanted.number (question wanted.all plan names.trades.now kept names.cash.now c.in-Ok.movements))
-    (λ next. gives (λ movements. answers wanted.number (question wanted.all plan names.trades.now kept names.cash.now movements) next)) c.explained.result c.explained.ensures.text
+    (answers wanted.number (question wanted plan names.trades.now kept names.cash.now c.in-Ok.movements))
+    (λ next. gives (λ movements. answers wanted.number (question wanted plan names.trades.now kept names.cash.now movements) next)) c.explained.result c.explained.ensures.text
 
 pub returns-in-Ok-clause-stops : goal.returns-in-Ok-clause-stops
 returns-in-Ok-clause-stops g c =
@@ -31,13 +31,13 @@ returns-in-Ok-clause-stops g c =
     let room_is : c.room_beside-room.result ≡ max_inputs - length kept.trades.rows = c.room_beside-room.ensures.room ∙ ap (λ (t : TradesView). max_inputs - length t.rows) (sym same) in
     let gives = subst (λ (room : ℕ). Gives (g.F.Files.told c.args.files.now) (g.F.Files.told c.input_at.new.files) max_input_bytes (kept_cash_from room) names.cash.now c.in-Ok.movements) room_is c.in-Ok.ensures.gives in
     stops_here (g.F.Files.told c.args.files.now) (g.F.Files.told c.input_at.new.files) (movements_way names.trades.now (Some names.cash.now) wanted plan kept)
-    (answers wanted.number (question wanted.all plan names.trades.now kept names.cash.now c.in-Ok.movements))
-    (λ next. gives (λ movements. answers wanted.number (question wanted.all plan names.trades.now kept names.cash.now movements) next)) c.explained.result c.explained.ensures.refused
+    (answers wanted.number (question wanted plan names.trades.now kept names.cash.now c.in-Ok.movements))
+    (λ next. gives (λ movements. answers wanted.number (question wanted plan names.trades.now kept names.cash.now movements) next)) c.explained.result c.explained.ensures.refused
 
 pub returns-in-Ok-clause-reads : goal.returns-in-Ok-clause-reads
 returns-in-Ok-clause-reads g c =
     reads_answered (g.F.Files.told c.args.files.now) (g.F.Files.told c.input_at.new.files) c.in-Ok.movements
-    (answers c.args.wanted.number (question c.args.wanted.all c.args.plan.now c.args.names.trades.now c.args.kept c.args.names.cash.now c.in-Ok.movements)) c.explained.result c.in-Ok.ensures.reads c.explained.ensures.refused
+    (answers c.args.wanted.number (question c.args.wanted c.args.plan.now c.args.names.trades.now c.args.kept c.args.names.cash.now c.in-Ok.movements)) c.explained.result c.in-Ok.ensures.reads c.explained.ensures.refused
 
 pub returns-in-Err-clause-stops : goal.returns-in-Err-clause-stops
 returns-in-Err-clause-stops g c = λ next.
@@ -47,4 +47,4 @@ returns-in-Err-clause-stops g c = λ next.
     let same : kept.trades ≡ c.kept.inside.trades = first_of (cc, search rules) in
     let room_is : c.room_beside-room.result ≡ max_inputs - length kept.trades.rows = c.room_beside-room.ensures.room ∙ ap (λ (t : TradesView). max_inputs - length t.rows) (sym same) in
     subst (λ (room : ℕ). StopsAt (g.F.Files.told c.args.files.now) (g.F.Files.told c.input_at.new.files) max_input_bytes (kept_cash_from room) names.cash.now c.in-Err.stop)
-    room_is c.in-Err.ensures.stops (λ movements. answers wanted.number (question wanted.all c.args.plan.now names.trades.now kept names.cash.now movements) next)
+    room_is c.in-Err.ensures.stops (λ movements. answers wanted.number (question wanted c.args.plan.now names.trades.now kept names.cash.now movements) next)

@@ -1,6 +1,5 @@
-use Rattle.std.proofs.Common.{[], None, Ok, refl}
-use Rattle.why_command.specs.Courses.{answers, movements_way}
-use Rattle.why_command.specs.Given.{no_cash, question}
+use Rattle.std.proofs.Common.{None, Ok, refl}
+use Rattle.why_command.specs.Courses.{movements_way}
 use Rattle.why_command.proofs.Ways.{came_here, gives_here, reads_answered, reads_none, stops_here}
 use Rattle.why_command.proofs.why.with_movements.Goals as goal
 

@@ -13,7 +13,7 @@ returns-clause-text c =
     let wanted = c.args.wanted in
     let cash : KeptCash = record { rows = c.empty.result; bytes = c.new.result.items } in
     let none : cash ≡ no_cash = λ i. record { rows = c.empty.ensures i; bytes = c.new.ensures.items i } in
-    subst (λ (m : KeptCash). IfOk c.explained.result (λ answer. (next : AnswerView → Course) → answers wanted.number (question wanted.all c.args.plan.now c.args.trades.now c.args.kept [] m) next ≡ next (answer_of answer)))
+    subst (λ (m : KeptCash). IfOk c.explained.result (λ answer. (next : AnswerView → Course) → answers wanted.number (question wanted c.args.plan.now c.args.trades.now c.args.kept [] m) next ≡ next (answer_of answer)))
     none c.explained.ensures.text
 
 pub returns-clause-refused : goal.returns-clause-refused
@@ -21,5 +21,5 @@ returns-clause-refused c =
     let wanted = c.args.wanted in
     let cash : KeptCash = record { rows = c.empty.result; bytes = c.new.result.items } in
     let none : cash ≡ no_cash = λ i. record { rows = c.empty.ensures i; bytes = c.new.ensures.items i } in
-    subst (λ (m : KeptCash). IfErr c.explained.result (λ stop. (next : AnswerView → Course) → StopsIn (answers wanted.number (question wanted.all c.args.plan.now c.args.trades.now c.args.kept [] m) next) stop))
+    subst (λ (m : KeptCash). IfErr c.explained.result (λ stop. (next : AnswerView → Course) → StopsIn (answers wanted.number (question wanted c.args.plan.now c.args.trades.now c.args.kept [] m) next) stop))
     none c.explained.ensures.refused
