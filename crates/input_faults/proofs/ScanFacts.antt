@@ -7,30 +7,22 @@ use Rattle.csv.specs.declared.parser.Action.{Action}
 use Rattle.csv.specs.declared.parser.Action.TheVariants as action
 use Rattle.csv.specs.declared.parser.State.{State}
 use Rattle.csv.specs.declared.parser.State.TheVariants as state
-use Rattle.input_faults.specs.Records.{Left, behind_field, behind_fields, behind_records, drop_ends, field_len, fields_read, is_end_byte, is_field_end, left_by}
-use Rattle.input_faults.specs.Scans.{Steps, effect_of, ends_field, ends_record, left_of, state_of}
-use Rattle.input_faults.specs.declared.scan.Effect.{Effect}
-use Rattle.input_faults.specs.declared.scan.Stand.{Stand}
+use Rattle.text_words.specs.Lines.{is_end_byte}
+use Rattle.trade_text.specs.RecordStates.{action_of, csv_step, is_field_end, state_of}
+use Rattle.trade_text.specs.declared.record_state.RecordAction.{RecordAction}
+use Rattle.trade_text.specs.declared.record_state.RecordState.{RecordState}
+use Rattle.input_faults.specs.Records.{Left, behind_field, behind_fields, behind_records, drop_ends, field_len, fields_read, left_by, left_of}
 
--- ---- effects
+-- ---- steps
 
-record_ends : (a : Action) → is_end a ≡ ends_record (effect_of a)
-record_ends action.Skip = refl
-record_ends action.Copy = refl
-record_ends action.EndField = refl
-record_ends action.EndRecord = refl
+ends_as : (machine : State × Action) (next : RecordState) (does : RecordAction) → csv_step (next, does) ≡ machine → is_end machine.1 ≡ is_end (action_of does)
+ends_as machine next does steps = ap (λ (m : State × Action). is_end m.1) (sym steps)
 
-field_ends : (a : Action) → is_field_end a ≡ ends_field (effect_of a)
-field_ends action.Skip = refl
-field_ends action.Copy = refl
-field_ends action.EndField = refl
-field_ends action.EndRecord = refl
+field_ends_as : (machine : State × Action) (next : RecordState) (does : RecordAction) → csv_step (next, does) ≡ machine → is_field_end machine.1 ≡ is_field_end (action_of does)
+field_ends_as machine next does steps = ap (λ (m : State × Action). is_field_end m.1) (sym steps)
 
-pub ends_as : (a : Action) (e : Effect) → effect_of a ≡ e → is_end a ≡ ends_record e
-ends_as a e same = record_ends a ∙ ap ends_record same
-
-pub field_ends_as : (a : Action) (e : Effect) → effect_of a ≡ e → is_field_end a ≡ ends_field e
-field_ends_as a e same = field_ends a ∙ ap ends_field same
+state_as : (machine : State × Action) (next : RecordState) (does : RecordAction) → csv_step (next, does) ≡ machine → machine.0 ≡ state_of next
+state_as machine next does steps = ap (λ (m : State × Action). m.0) (sym steps)
 
 -- ---- behind a record
 
@@ -77,19 +69,19 @@ left_goes s c rest goes =
 -- ---- in the words of a scan
 
 -- a byte that ends the record, as the scan sees it
-pub scan_ends : (at next : Stand) (e : Effect) (text : List ℕ) (c : ℕ) (rest : List ℕ) → text ≡ c ∷ rest → Steps (next, e) (step default_config (state_of at) c) → ends_record e ≡ true
+pub scan_ends : (at next : RecordState) (does : RecordAction) (text : List ℕ) (c : ℕ) (rest : List ℕ) → text ≡ c ∷ rest → csv_step (next, does) ≡ step default_config (state_of at) c → is_end (action_of does) ≡ true
     → left_by (next_record default_config (state_of at) [] [] text) ≡ left_of next rest
-scan_ends at next e text c rest is steps ends =
+scan_ends at next does text c rest is steps ends =
     ap (λ t. left_by (next_record default_config (state_of at) [] [] t)) is
-    ∙ left_ends (state_of at) c rest (ends_as (step default_config (state_of at) c).1 e steps.1 ∙ ends)
-    ∙ ap (λ s. record { state = s; text = rest }) steps.0
+    ∙ left_ends (state_of at) c rest (ends_as (step default_config (state_of at) c) next does steps ∙ ends)
+    ∙ ap (λ s. record { state = s; text = rest }) (state_as (step default_config (state_of at) c) next does steps)
 
-pub scan_goes : (at next : Stand) (e : Effect) (text : List ℕ) (c : ℕ) (rest : List ℕ) → text ≡ c ∷ rest → Steps (next, e) (step default_config (state_of at) c) → ends_record e ≡ false
+pub scan_goes : (at next : RecordState) (does : RecordAction) (text : List ℕ) (c : ℕ) (rest : List ℕ) → text ≡ c ∷ rest → csv_step (next, does) ≡ step default_config (state_of at) c → is_end (action_of does) ≡ false
     → left_by (next_record default_config (state_of at) [] [] text) ≡ left_by (next_record default_config (state_of next) [] [] rest)
-scan_goes at next e text c rest is steps goes =
+scan_goes at next does text c rest is steps goes =
     ap (λ t. left_by (next_record default_config (state_of at) [] [] t)) is
-    ∙ left_goes (state_of at) c rest (ends_as (step default_config (state_of at) c).1 e steps.1 ∙ goes)
-    ∙ ap (λ s. left_by (next_record default_config s [] [] rest)) steps.0
+    ∙ left_goes (state_of at) c rest (ends_as (step default_config (state_of at) c) next does steps ∙ goes)
+    ∙ ap (λ s. left_by (next_record default_config s [] [] rest)) (state_as (step default_config (state_of at) c) next does steps)
 
 -- ---- so many records or fields
 
@@ -129,19 +121,19 @@ pub behind_field-none : (s : State) → behind_field s [] ≡ record { state = s
 unfolding behind_field
 behind_field-none s = refl
 
-pub behind_field-ends : (at next : Stand) (e : Effect) (text : List ℕ) (c : ℕ) (rest : List ℕ) → text ≡ c ∷ rest → Steps (next, e) (step default_config (state_of at) c) → ends_field e ≡ true
+pub behind_field-ends : (at next : RecordState) (does : RecordAction) (text : List ℕ) (c : ℕ) (rest : List ℕ) → text ≡ c ∷ rest → csv_step (next, does) ≡ step default_config (state_of at) c → is_field_end (action_of does) ≡ true
     → behind_field (state_of at) text ≡ left_of next rest
-behind_field-ends at next e text c rest is steps ends =
+behind_field-ends at next does text c rest is steps ends =
     ap (λ t. behind_field (state_of at) t) is
-    ∙ field_at_end (state_of at) c rest (field_ends_as (step default_config (state_of at) c).1 e steps.1 ∙ ends)
-    ∙ ap (λ s. record { state = s; text = rest }) steps.0
+    ∙ field_at_end (state_of at) c rest (field_ends_as (step default_config (state_of at) c) next does steps ∙ ends)
+    ∙ ap (λ s. record { state = s; text = rest }) (state_as (step default_config (state_of at) c) next does steps)
 
-pub behind_field-goes : (at next : Stand) (e : Effect) (text : List ℕ) (c : ℕ) (rest : List ℕ) → text ≡ c ∷ rest → Steps (next, e) (step default_config (state_of at) c) → ends_field e ≡ false
+pub behind_field-goes : (at next : RecordState) (does : RecordAction) (text : List ℕ) (c : ℕ) (rest : List ℕ) → text ≡ c ∷ rest → csv_step (next, does) ≡ step default_config (state_of at) c → is_field_end (action_of does) ≡ false
     → behind_field (state_of at) text ≡ behind_field (state_of next) rest
-behind_field-goes at next e text c rest is steps goes =
+behind_field-goes at next does text c rest is steps goes =
     ap (λ t. behind_field (state_of at) t) is
-    ∙ field_goes (state_of at) c rest (field_ends_as (step default_config (state_of at) c).1 e steps.1 ∙ goes)
-    ∙ ap (λ s. behind_field s rest) steps.0
+    ∙ field_goes (state_of at) c rest (field_ends_as (step default_config (state_of at) c) next does steps ∙ goes)
+    ∙ ap (λ s. behind_field s rest) (state_as (step default_config (state_of at) c) next does steps)
 
 len_at_end : (s : State) (c : ℕ) (rest : List ℕ) → is_field_end (step default_config s c).1 ≡ true → field_len s (c ∷ rest) ≡ 0
 unfolding field_len
@@ -155,17 +147,17 @@ pub field_len-none : (s : State) → field_len s [] ≡ 0
 unfolding field_len
 field_len-none s = refl
 
-pub field_len-ends : (at next : Stand) (e : Effect) (text : List ℕ) (c : ℕ) (rest : List ℕ) → text ≡ c ∷ rest → Steps (next, e) (step default_config (state_of at) c) → ends_field e ≡ true
+pub field_len-ends : (at next : RecordState) (does : RecordAction) (text : List ℕ) (c : ℕ) (rest : List ℕ) → text ≡ c ∷ rest → csv_step (next, does) ≡ step default_config (state_of at) c → is_field_end (action_of does) ≡ true
     → field_len (state_of at) text ≡ 0
-field_len-ends at next e text c rest is steps ends =
-    ap (λ t. field_len (state_of at) t) is ∙ len_at_end (state_of at) c rest (field_ends_as (step default_config (state_of at) c).1 e steps.1 ∙ ends)
+field_len-ends at next does text c rest is steps ends =
+    ap (λ t. field_len (state_of at) t) is ∙ len_at_end (state_of at) c rest (field_ends_as (step default_config (state_of at) c) next does steps ∙ ends)
 
-pub field_len-goes : (at next : Stand) (e : Effect) (text : List ℕ) (c : ℕ) (rest : List ℕ) → text ≡ c ∷ rest → Steps (next, e) (step default_config (state_of at) c) → ends_field e ≡ false
+pub field_len-goes : (at next : RecordState) (does : RecordAction) (text : List ℕ) (c : ℕ) (rest : List ℕ) → text ≡ c ∷ rest → csv_step (next, does) ≡ step default_config (state_of at) c → is_field_end (action_of does) ≡ false
     → field_len (state_of at) text ≡ field_len (state_of next) rest + 1
-field_len-goes at next e text c rest is steps goes =
+field_len-goes at next does text c rest is steps goes =
     ap (λ t. field_len (state_of at) t) is
-    ∙ len_goes (state_of at) c rest (field_ends_as (step default_config (state_of at) c).1 e steps.1 ∙ goes)
-    ∙ ap (λ s. field_len s rest + 1) steps.0
+    ∙ len_goes (state_of at) c rest (field_ends_as (step default_config (state_of at) c) next does steps ∙ goes)
+    ∙ ap (λ s. field_len s rest + 1) (state_as (step default_config (state_of at) c) next does steps)
 
 -- ---- how many fields a record has
 
@@ -173,10 +165,10 @@ abbrev pub counted : State → List (List ℕ) → List ℕ → List ℕ → ℕ
 counted s fields field text = length (fields_read (next_record default_config s fields field text))
 
 -- so many fields are ended, and the record has as many as it has from here on
-abbrev pub IsCounted : ℕ → Stand → List ℕ → ℕ → Type 0
+abbrev pub IsCounted : ℕ → RecordState → List ℕ → ℕ → Type 0
 IsCounted ended at rest all = (fields : List (List ℕ)) × (field : List ℕ) × (length fields ≡ ended) × (counted (state_of at) fields field rest ≡ all)
 
-pub counted_start : (text : List ℕ) (at : Stand) → state_of at ≡ state.StartRecord → IsCounted 0 at text (counted state.StartRecord [] [] text)
+pub counted_start : (text : List ℕ) (at : RecordState) → state_of at ≡ state.StartRecord → IsCounted 0 at text (counted state.StartRecord [] [] text)
 counted_start text at is = ([], [], refl, ap (λ s. counted s [] [] text) is)
 
 count_at_end : (s : State) (f : List (List ℕ)) (p : List ℕ) (c : ℕ) (rest : List ℕ) (a : Action) → (step default_config s c).1 ≡ a → is_end a ≡ true → counted s f p (c ∷ rest) ≡ length f + 1
@@ -203,41 +195,41 @@ fields_stay action.Copy f p goes = refl
 fields_stay action.EndField f p goes = absurd (false≢true (sym goes))
 fields_stay action.EndRecord f p goes = absurd (false≢true (sym goes))
 
-pub counted_ends : (ended : ℕ) (at next : Stand) (e : Effect) (text : List ℕ) (c : ℕ) (rest : List ℕ) (all : ℕ) → text ≡ c ∷ rest
-    → Steps (next, e) (step default_config (state_of at) c) → ends_record e ≡ true → IsCounted ended at text all → ended + 1 ≡ all
-counted_ends ended at next e text c rest all is steps ends (f, p, count, value) =
-    let here = count_at_end (state_of at) f p c rest (step default_config (state_of at) c).1 refl (ends_as (step default_config (state_of at) c).1 e steps.1 ∙ ends) in
+pub counted_ends : (ended : ℕ) (at next : RecordState) (does : RecordAction) (text : List ℕ) (c : ℕ) (rest : List ℕ) (all : ℕ) → text ≡ c ∷ rest
+    → csv_step (next, does) ≡ step default_config (state_of at) c → is_end (action_of does) ≡ true → IsCounted ended at text all → ended + 1 ≡ all
+counted_ends ended at next does text c rest all is steps ends (f, p, count, value) =
+    let here = count_at_end (state_of at) f p c rest (step default_config (state_of at) c).1 refl (ends_as (step default_config (state_of at) c) next does steps ∙ ends) in
     ap (λ n. n + 1) (sym count) ∙ sym here ∙ ap (counted (state_of at) f p) (sym is) ∙ value
 
-pub counted_field : (ended : ℕ) (at next : Stand) (e : Effect) (text : List ℕ) (c : ℕ) (rest : List ℕ) (all : ℕ) → text ≡ c ∷ rest
-    → Steps (next, e) (step default_config (state_of at) c) → ends_record e ≡ false → ends_field e ≡ true → IsCounted ended at text all → IsCounted (ended + 1) next rest all
-counted_field ended at next e text c rest all is steps goes ends (f, p, count, value) =
+pub counted_field : (ended : ℕ) (at next : RecordState) (does : RecordAction) (text : List ℕ) (c : ℕ) (rest : List ℕ) (all : ℕ) → text ≡ c ∷ rest
+    → csv_step (next, does) ≡ step default_config (state_of at) c → is_end (action_of does) ≡ false → is_field_end (action_of does) ≡ true → IsCounted ended at text all → IsCounted (ended + 1) next rest all
+counted_field ended at next does text c rest all is steps goes ends (f, p, count, value) =
     let a = (step default_config (state_of at) c).1 in
-    let more = count_goes (state_of at) f p c rest (ends_as a e steps.1 ∙ goes) in (
+    let more = count_goes (state_of at) f p c rest (ends_as (step default_config (state_of at) c) next does steps ∙ goes) in (
       fields_after a f p,
       field_after a c p,
-      fields_grow a f p (field_ends_as a e steps.1 ∙ ends) ∙ ap (λ n. n + 1) count,
-      ap (λ s. counted s (fields_after a f p) (field_after a c p) rest) (sym steps.0) ∙ sym more ∙ ap (counted (state_of at) f p) (sym is) ∙ value,
+      fields_grow a f p (field_ends_as (step default_config (state_of at) c) next does steps ∙ ends) ∙ ap (λ n. n + 1) count,
+      ap (λ s. counted s (fields_after a f p) (field_after a c p) rest) (sym (state_as (step default_config (state_of at) c) next does steps)) ∙ sym more ∙ ap (counted (state_of at) f p) (sym is) ∙ value,
     )
 
-pub counted_byte : (ended : ℕ) (at next : Stand) (e : Effect) (text : List ℕ) (c : ℕ) (rest : List ℕ) (all : ℕ) → text ≡ c ∷ rest
-    → Steps (next, e) (step default_config (state_of at) c) → ends_record e ≡ false → ends_field e ≡ false → IsCounted ended at text all → IsCounted ended next rest all
-counted_byte ended at next e text c rest all is steps goes stays (f, p, count, value) =
+pub counted_byte : (ended : ℕ) (at next : RecordState) (does : RecordAction) (text : List ℕ) (c : ℕ) (rest : List ℕ) (all : ℕ) → text ≡ c ∷ rest
+    → csv_step (next, does) ≡ step default_config (state_of at) c → is_end (action_of does) ≡ false → is_field_end (action_of does) ≡ false → IsCounted ended at text all → IsCounted ended next rest all
+counted_byte ended at next does text c rest all is steps goes stays (f, p, count, value) =
     let a = (step default_config (state_of at) c).1 in
-    let more = count_goes (state_of at) f p c rest (ends_as a e steps.1 ∙ goes) in (
+    let more = count_goes (state_of at) f p c rest (ends_as (step default_config (state_of at) c) next does steps ∙ goes) in (
       fields_after a f p,
       field_after a c p,
-      fields_stay a f p (field_ends_as a e steps.1 ∙ stays) ∙ count,
-      ap (λ s. counted s (fields_after a f p) (field_after a c p) rest) (sym steps.0) ∙ sym more ∙ ap (counted (state_of at) f p) (sym is) ∙ value,
+      fields_stay a f p (field_ends_as (step default_config (state_of at) c) next does steps ∙ stays) ∙ count,
+      ap (λ s. counted s (fields_after a f p) (field_after a c p) rest) (sym (state_as (step default_config (state_of at) c) next does steps)) ∙ sym more ∙ ap (counted (state_of at) f p) (sym is) ∙ value,
     )
 
-pub counted_none : (ended : ℕ) (at : Stand) (text : List ℕ) (all : ℕ) → text ≡ [] → ends_at_end (state_of at) ≡ false → IsCounted ended at text all → 0 ≡ all
+pub counted_none : (ended : ℕ) (at : RecordState) (text : List ℕ) (all : ℕ) → text ≡ [] → ends_at_end (state_of at) ≡ false → IsCounted ended at text all → 0 ≡ all
 unfolding next_record
 counted_none ended at text all is between (f, p, count, value) =
     let none : counted (state_of at) f p [] ≡ 0 = rw between refl in
     sym none ∙ ap (counted (state_of at) f p) (sym is) ∙ value
 
-pub counted_last : (ended : ℕ) (at : Stand) (text : List ℕ) (all : ℕ) → text ≡ [] → ends_at_end (state_of at) ≡ true → IsCounted ended at text all → ended + 1 ≡ all
+pub counted_last : (ended : ℕ) (at : RecordState) (text : List ℕ) (all : ℕ) → text ≡ [] → ends_at_end (state_of at) ≡ true → IsCounted ended at text all → ended + 1 ≡ all
 unfolding next_record
 counted_last ended at text all is ends (f, p, count, value) =
     let last : counted (state_of at) f p [] ≡ length f + 1 = rw ends (length-append f (p ∷ [])) in

@@ -6,7 +6,6 @@ pub mod Ranges
 pub mod RecordFaults
 pub mod RecordLines
 pub mod Records
-pub mod Scans
 pub mod Shown
 pub mod Spots
 pub mod WordFaults

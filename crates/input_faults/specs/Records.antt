@@ -1,13 +1,13 @@
 -- Where the records of a file and their fields stand in its bytes. What a record is, csv's own machine says.
-use Rattle.std.specs.Prelude.{ℕ, zero, suc, Bool, true, false, not, ◌+◌, ◌-◌, ◌&&◌, ◌||◌, ◌==◌, List, [], ◌∷◌, length, take, drop, fold, Option, Some, None, if◌then◌else◌}
+use Rattle.std.specs.Prelude.{ℕ, zero, suc, ◌+◌, ◌-◌, List, [], ◌∷◌, length, take, drop, fold, Option, Some, None, if◌then◌else◌}
 use Rattle.std.specs.List.{prefix_len}
 use Rattle.csv.specs.Machine.{Read, next_record, step}
 use Rattle.csv.specs.Reading.{default_config, strip_bom}
-use Rattle.csv.specs.declared.parser.Action.{Action}
-use Rattle.csv.specs.declared.parser.Action.TheVariants as action
 use Rattle.csv.specs.declared.parser.State.{State}
 use Rattle.csv.specs.declared.parser.State.TheVariants as state
-use Rattle.text_words.specs.Lines.{begins_with_end, is_blank}
+use Rattle.text_words.specs.Lines.{ends_line, is_blank, is_end_byte}
+use Rattle.trade_text.specs.RecordStates.{is_field_end, state_of}
+use Rattle.trade_text.specs.declared.record_state.RecordState.{RecordState}
 
 -- ---- records
 
@@ -30,13 +30,13 @@ unfoldable pub behind_records : ℕ → Left → Left
 behind_records zero left = left
 behind_records (suc n) left = behind_records n (behind_record left)
 
+-- what is left of a text in a state of the machine
+abbrev pub left_of : RecordState → List ℕ → Left
+left_of at text = record { state = state_of at; text = text }
+
 -- a text of which nothing was read
 abbrev pub at_start : List ℕ → Left
 at_start text = record { state = state.StartRecord; text = text }
-
--- whether a byte ends a line, and so a record where it isn't quoted
-abbrev pub is_end_byte : ℕ → Bool
-is_end_byte b = (b == 10) || (b == 13)
 
 -- a text from its first byte on that ends no line
 unfoldable pub drop_ends : List ℕ → List ℕ
@@ -61,13 +61,6 @@ abbrev pub names_in : List ℕ → List (List ℕ)
 names_in text = fields_in (strip_bom text)
 
 -- ---- fields
-
--- whether an action ends a field
-abbrev pub is_field_end : Action → Bool
-is_field_end action.EndField = true
-is_field_end action.EndRecord = true
-is_field_end action.Skip = false
-is_field_end action.Copy = false
 
 -- what is left behind a field and the byte that ends it
 unfoldable pub behind_field : State → List ℕ → Left
@@ -98,7 +91,7 @@ word_in left = take (field_len left.state left.text - prefix_len is_blank left.t
 -- how many lines end in these bytes: a line ends in LF, CR LF or CR
 unfoldable pub lines_ended : List ℕ → ℕ
 lines_ended [] = 0
-lines_ended (b ∷ bytes) = if (b == 10) || ((b == 13) && not (begins_with_end bytes)) then lines_ended bytes + 1 else lines_ended bytes
+lines_ended (b ∷ bytes) = if ends_line b bytes then lines_ended bytes + 1 else lines_ended bytes
 
 -- the line of the byte behind these bytes
 abbrev pub line_behind : List ℕ → ℕ

@@ -9,9 +9,11 @@ ghost use Rattle.trade_text.specs.declared.error.ReadError.TheVariants as read_e
 
 use crate::files::{File, cash_line, trades_line};
 use crate::names::push_header_notes;
-use record_faults::{cash_faults, trade_faults, without_mark};
+use record_faults::{cash_faults, trade_faults};
 use std::alloc::Global;
-use trade_text::{CashError, CashField, Field, FileField, MAX_INPUTS, ReadError, TradeError};
+use trade_text::{
+    CashError, CashField, Field, FileField, MAX_INPUTS, ReadError, TradeError, without_mark,
+};
 use tuple_edge::OutOfMemory;
 
 // Of so many refused records a line is told at most.

@@ -10,11 +10,11 @@ use crate::header::header_of;
 use crate::records::{column_behind, field_at, field_count, line_behind, record_of};
 use crate::shown::push_stands;
 use crate::told::length_line;
-use record_faults::{place_in, starts_with_mark, without_mark};
+use record_faults::place_in;
 use std::alloc::Global;
 use trade_text::{
     CashError, CashField, Field, FileField, MAX_INPUT_BYTES, MAX_INPUTS, ReadError, TradeError,
-    read_cash, read_trades,
+    read_cash, read_trades, starts_with_mark, without_mark,
 };
 use tuple_edge::OutOfMemory;
 

@@ -4,8 +4,8 @@ ghost use Rattle.csv.specs.Records.{fields_of};
 ghost use Rattle.input_faults.specs.Records.{names_in};
 
 use csv::ByteRecord;
-use record_faults::{next_record, open_records};
 use std::alloc::Global;
+use trade_text::{next_record, open_records};
 use tuple_edge::OutOfMemory;
 
 // The first record of a text. A text without a record has one without fields.

@@ -19,7 +19,6 @@ mod place;
 mod plans;
 mod record_lines;
 mod records;
-mod scan;
 mod scripts;
 mod shown;
 mod spot;

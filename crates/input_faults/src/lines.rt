@@ -1,45 +1,12 @@
 // The lines of a text: one by its number, and what those before it have said.
-ghost use Rattle.std.specs.Prelude.{◌≡◌, ◌∷◌, ◌≤◌, ◌==◌, [], codes, MatchOption, length, not, slice_get, unwrap_or};
-ghost use Rattle.std.specs.List.{prefix_len};
+ghost use Rattle.std.specs.Prelude.{◌≡◌, ◌==◌, [], codes, length, not, slice_get, unwrap_or};
 ghost use Rattle.std.specs.Str.{bytes_eq};
-ghost use Rattle.text_words.specs.Lines.{counting_lines, lines_of, without_return};
+ghost use Rattle.text_words.specs.Lines.{counting_lines};
 ghost use Rattle.input_faults.specs.Spots.{first_place, line_of, nothing_said, said_before, with_words};
 
 use crate::place::{Before, Place};
 use plan_reader::MAX_STAGES;
-use text_words::{Lines, Words, is_word};
-
-// How many bytes come before the first LF.
-fn line_len(text: &[u8]) -> usize
-    ensures value { result ≡ prefix_len (λ b. not (b == 10)) text.now }
-    ensures within { result ≤ length text.now }
-{
-    text.iter().take_while(|byte| **byte != b'\n').count()
-}
-
-// A line without the carriage return before its end.
-fn trimmed(line: &[u8]) -> &[u8]
-    ensures { result.now ≡ without_return line.now }
-{
-    match line.split_last() {
-        None => line,
-        Some((last, front)) => { if *last == b'\r' { front } else { line } }
-    }
-}
-
-// The first line of a text, and what follows it.
-fn first_line(text: &[u8]) -> Option<(&[u8], &[u8])>
-    ensures { MatchOption result (lines_of text.now ≡ []) (λ x. lines_of text.now ≡ x.0.now ∷ lines_of x.1.now) }
-{
-    if text.is_empty() {
-        return None;
-    }
-    let (line, more) = text.split_at(line_len(text));
-    match more.split_first() {
-        None => Some((line, more)),
-        Some((_, rest)) => Some((trimmed(line), rest)),
-    }
-}
+use text_words::{Lines, Words, first_line, is_word};
 
 // Whether a line of a text counts.
 pub(crate) fn has_lines(bytes: &[u8]) -> bool

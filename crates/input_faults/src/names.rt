@@ -9,9 +9,8 @@ use crate::files::File;
 use crate::header::header_of;
 use crate::shown::push_shown;
 use csv::ByteRecord;
-use record_faults::is_column_at;
 use std::alloc::Global;
-use trade_text::FileField;
+use trade_text::{FileField, is_column_at};
 use tuple_edge::OutOfMemory;
 
 // Of so many names of a header each is shown at most.

@@ -1,13 +1,12 @@
 // The lines in which the records of a text begin, each byte read once.
 ghost use Rattle.std.specs.Prelude.{◌≡◌, ◌≤◌, ◌-◌, List, ℕ, length, take};
 ghost use Rattle.input_faults.specs.RecordLines.{AreCounted, IsBehind};
-ghost use Rattle.input_faults.specs.Records.{before, line_behind, record_of};
-ghost use Rattle.input_faults.specs.Scans.{left_of};
+ghost use Rattle.input_faults.specs.Records.{before, left_of, line_behind, record_of};
 ghost use Rattle.text_words.specs.Lines.{begins_with_end};
 
 use crate::records::{behind_record, line_from, without_ends};
-use crate::scan::Stand;
 use std::marker::Model;
+use trade_text::RecordState;
 
 /// The lines in which the records of a text begin, of a text without a mark at its front. Where records are asked for in rising
 /// order, each byte of the text is read once. Contracts see the text.
@@ -16,7 +15,7 @@ pub struct RecordLines<'a> {
     text: &'a [u8],
     // What is left of the text behind the records before the one of this number.
     number: u64,
-    stand: Stand,
+    state: RecordState,
     rest: &'a [u8],
     // What is left of it where lines were counted last, and the line in which that begins.
     here: &'a [u8],
@@ -26,14 +25,14 @@ pub struct RecordLines<'a> {
 impl<'a> Model for RecordLines<'a> {
     ghost use Rattle.std.specs.Prelude.{ℕ, List};
     ghost use Rattle.input_faults.specs.RecordLines.{AreCounted, IsBehind};
-    ghost use Rattle.input_faults.specs.Scans.{left_of};
+    ghost use Rattle.input_faults.specs.Records.{left_of};
 
     ghost Value = { List ℕ };
 
     ghost view = { λ s. s.text.now };
 
     ghost invariant = { λ s. record {
-      behind : IsBehind s.text.now s.number (left_of s.stand s.rest.now);
+      behind : IsBehind s.text.now s.number (left_of s.state s.rest.now);
       counted : AreCounted s.text.now s.here.now s.line;
     } };
 }
@@ -46,7 +45,7 @@ impl<'a> RecordLines<'a> {
         RecordLines {
             text,
             number: 1,
-            stand: Stand::Between,
+            state: RecordState::StartRecord,
             rest: text,
             here: text,
             line: 1,
@@ -54,15 +53,15 @@ impl<'a> RecordLines<'a> {
     }
 
     // Where the search for a record begins: where the last one ended, or at the front for one that stands before it.
-    fn begin(&self, number: u64) -> (u64, Stand, &'a [u8])
+    fn begin(&self, number: u64) -> (u64, RecordState, &'a [u8])
         requires { 1 ≤ number }
         ensures behind { IsBehind self.now result.0 (left_of result.1 result.2.now) }
         ensures before { result.0 ≤ number }
     {
         if number < self.number {
-            (1, Stand::Between, self.text)
+            (1, RecordState::StartRecord, self.text)
         } else {
-            (self.number, self.stand, self.rest)
+            (self.number, self.state, self.rest)
         }
     }
 
@@ -72,14 +71,14 @@ impl<'a> RecordLines<'a> {
         ensures text { self.new ≡ self.old }
     {
         let number = number.max(1);
-        let (from, stand, rest) = self.begin(number);
-        let (stand, rest) = go_on(stand, rest, from, number);
+        let (from, state, rest) = self.begin(number);
+        let (state, rest) = go_on(state, rest, from, number);
         let left = without_ends(rest).len();
         let (here, line) = count_on(self.text, self.here, self.line, left);
         *self = RecordLines {
             text: self.text,
             number,
-            stand,
+            state,
             rest,
             here,
             line,
@@ -89,18 +88,18 @@ impl<'a> RecordLines<'a> {
 }
 
 // What is left of a text behind the records before the one of a number, of what is left behind those before an earlier one.
-fn go_on(stand: Stand, rest: &[u8], from: u64, to: u64) -> (Stand, &[u8])
+fn go_on(state: RecordState, rest: &[u8], from: u64, to: u64) -> (RecordState, &[u8])
     requires { from ≤ to }
-    ensures { (text : List ℕ) → IsBehind text from (left_of stand rest.now) → IsBehind text to (left_of result.0 result.1.now) }
+    ensures { (text : List ℕ) → IsBehind text from (left_of state rest.now) → IsBehind text to (left_of result.0 result.1.now) }
 {
-    let mut stand = stand;
+    let mut state = state;
     let mut rest = rest;
     for _turn in from..to {
-        let (next, more) = behind_record(stand, rest);
-        stand = next;
+        let (next, more) = behind_record(state, rest);
+        state = next;
         rest = more;
     }
-    (stand, rest)
+    (state, rest)
 }
 
 // Whether a text begins with the byte that ends a line.

@@ -1,33 +1,26 @@
 // The records of a file and their fields, where they stand in its bytes.
 ghost use Rattle.std.specs.Prelude.{◌≡◌, ◌≤◌, ◌<◌, ◌+◌, ◌^◌, length};
-ghost use Rattle.input_faults.specs.Records.{at_start, before, behind_field, behind_fields, behind_record, column_behind, drop_ends, field_len, fields_in, is_end_byte, line_behind, lines_ended, record_of, word_in, word_start};
-ghost use Rattle.input_faults.specs.Scans.{left_of, state_of};
+ghost use Rattle.input_faults.specs.Records.{at_start, before, behind_field, behind_fields, behind_record, column_behind, drop_ends, field_len, fields_in, left_of, line_behind, lines_ended, record_of, word_in, word_start};
+ghost use Rattle.trade_text.specs.RecordStates.{state_of};
 
-use crate::scan::Stand;
-use crate::spot::blanks_len;
-
-// Whether a byte ends a line.
-fn is_end(byte: u8) -> bool
-    ensures { result ≡ is_end_byte byte }
-{
-    byte == b'\n' || byte == b'\r'
-}
+use text_words::{blanks_len, ends_line, is_end_byte};
+use trade_text::RecordState;
 
 // What is left behind the record with which a text goes on.
-pub(crate) fn behind_record(stand: Stand, text: &[u8]) -> (Stand, &[u8])
-    ensures { left_of result.0 result.1.now ≡ behind_record (left_of stand text.now) }
+pub(crate) fn behind_record(state: RecordState, text: &[u8]) -> (RecordState, &[u8])
+    ensures { left_of result.0 result.1.now ≡ behind_record (left_of state text.now) }
 {
-    let mut stand = stand;
+    let mut state = state;
     let mut rest = text;
     while let Some((byte, more)) = rest.split_first() {
-        let (next, effect) = stand.step(*byte);
-        if effect.ends_record() {
+        let (next, action) = state.step(*byte);
+        if action.ends_record() {
             return (next, more);
         }
-        stand = next;
+        state = next;
         rest = more;
     }
-    (Stand::Between, rest)
+    (RecordState::StartRecord, rest)
 }
 
 // A text from its first byte on that ends no line.
@@ -36,7 +29,7 @@ pub(crate) fn without_ends(text: &[u8]) -> &[u8]
 {
     let mut rest = text;
     while let Some((byte, more)) = rest.split_first() {
-        if !is_end(*byte) {
+        if !is_end_byte(*byte) {
             break;
         }
         rest = more;
@@ -48,11 +41,11 @@ pub(crate) fn without_ends(text: &[u8]) -> &[u8]
 pub(crate) fn record_of(text: &[u8], number: u64) -> &[u8]
     ensures { result.now ≡ record_of number text.now }
 {
-    let mut stand = Stand::Between;
+    let mut state = RecordState::StartRecord;
     let mut rest = text;
     for _turn in 1..number {
-        let (next, more) = behind_record(stand, rest);
-        stand = next;
+        let (next, more) = behind_record(state, rest);
+        state = next;
         rest = more;
     }
     without_ends(rest)
@@ -62,67 +55,67 @@ pub(crate) fn record_of(text: &[u8], number: u64) -> &[u8]
 pub(crate) fn field_count(text: &[u8]) -> u64
     ensures { result ≡ length (fields_in text.now) }
 {
-    let mut stand = Stand::Between;
+    let mut state = RecordState::StartRecord;
     let mut ended = 0u64;
     let mut rest = text;
     while let Some((byte, more)) = rest.split_first() {
-        let (next, effect) = stand.step(*byte);
-        if effect.ends_record() {
+        let (next, action) = state.step(*byte);
+        if action.ends_record() {
             return ended + 1;
         }
-        if effect.ends_field() {
+        if action.ends_field() {
             ended += 1;
         }
-        stand = next;
+        state = next;
         rest = more;
     }
-    if stand.is_between() { 0 } else { ended + 1 }
+    if state.ends_at_end() { ended + 1 } else { 0 }
 }
 
 // What is left behind a field and the byte that ends it.
-fn behind_field(stand: Stand, text: &[u8]) -> (Stand, &[u8])
-    ensures { left_of result.0 result.1.now ≡ behind_field (state_of stand) text.now }
+fn behind_field(state: RecordState, text: &[u8]) -> (RecordState, &[u8])
+    ensures { left_of result.0 result.1.now ≡ behind_field (state_of state) text.now }
 {
-    let mut stand = stand;
+    let mut state = state;
     let mut rest = text;
     while let Some((byte, more)) = rest.split_first() {
-        let (next, effect) = stand.step(*byte);
-        if effect.ends_field() {
+        let (next, action) = state.step(*byte);
+        if action.ends_field() {
             return (next, more);
         }
-        stand = next;
+        state = next;
         rest = more;
     }
-    (stand, rest)
+    (state, rest)
 }
 
 // What is left of a record behind so many fields.
-fn behind_fields(row: &[u8], fields: u64) -> (Stand, &[u8])
+fn behind_fields(row: &[u8], fields: u64) -> (RecordState, &[u8])
     ensures { left_of result.0 result.1.now ≡ behind_fields fields (at_start row.now) }
 {
-    let mut stand = Stand::Between;
+    let mut state = RecordState::StartRecord;
     let mut rest = row;
     for _turn in 0..fields {
-        let (next, more) = behind_field(stand, rest);
-        stand = next;
+        let (next, more) = behind_field(state, rest);
+        state = next;
         rest = more;
     }
-    (stand, rest)
+    (state, rest)
 }
 
 // How many bytes a field has, its quotes among them.
-fn field_len(stand: Stand, text: &[u8]) -> usize
-    ensures value { result ≡ field_len (state_of stand) text.now }
+fn field_len(state: RecordState, text: &[u8]) -> usize
+    ensures value { result ≡ field_len (state_of state) text.now }
     ensures within { result ≤ length text.now }
 {
-    let mut stand = stand;
+    let mut state = state;
     let mut rest = text;
     while let Some((byte, more)) = rest.split_first() {
-        let (next, effect) = stand.step(*byte);
-        if effect.ends_field() {
+        let (next, action) = state.step(*byte);
+        if action.ends_field() {
             return text.len() - rest.len();
         }
-        stand = next;
+        state = next;
         rest = more;
     }
     text.len() - rest.len()
@@ -133,8 +126,8 @@ fn field_len(stand: Stand, text: &[u8]) -> usize
 pub(crate) fn field_at(row: &[u8], before: u64) -> (&[u8], &[u8])
     ensures { (result.0.now ≡ word_in (behind_fields before (at_start row.now))) × (result.1.now ≡ word_start (behind_fields before (at_start row.now))) }
 {
-    let (stand, text) = behind_fields(row, before);
-    let len = field_len(stand, text);
+    let (state, text) = behind_fields(row, before);
+    let len = field_len(state, text);
     let blanks = blanks_len(text);
     let (_, rest) = text.split_at(blanks);
     let (word, _) = rest.split_at(len.saturating_sub(blanks).min(rest.len()));
@@ -151,7 +144,7 @@ pub(crate) fn line_from(line: u64, bytes: &[u8]) -> u64
     let mut line = line;
     let mut rest = bytes;
     while let Some((byte, more)) = rest.split_first() {
-        if *byte == b'\n' || (*byte == b'\r' && more.first() != Some(&b'\n')) {
+        if ends_line(*byte, more) {
             line += 1;
         }
         rest = more;
@@ -173,7 +166,7 @@ pub(crate) fn column_behind(front: &[u8]) -> u64
     let mut column = 1u64;
     let mut rest = front;
     while let Some((byte, more)) = rest.split_first() {
-        column = if is_end(*byte) { 1 } else { column + 1 };
+        column = if is_end_byte(*byte) { 1 } else { column + 1 };
         rest = more;
     }
     column

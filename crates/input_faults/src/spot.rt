@@ -1,11 +1,10 @@
 // Where a line is refused: the first word that may not stand where it stands.
-ghost use Rattle.std.specs.Prelude.{◌≡◌, ◌∷◌, ◌≤◌, ◌+◌, [], length, not, option_map, slice_get};
-ghost use Rattle.std.specs.List.{prefix_len};
-ghost use Rattle.text_words.specs.Lines.{is_blank, words_of};
+ghost use Rattle.std.specs.Prelude.{◌≡◌, ◌≤◌, length, option_map, slice_get};
+ghost use Rattle.text_words.specs.Lines.{words_of};
 ghost use Rattle.input_faults.specs.Spots.{spot_from, start_of, word_end};
 
 use crate::place::Place;
-use text_words::Words;
+use text_words::{Words, blanks_len, word_len};
 
 // Where a line is refused.
 #[derive(Clone, Copy)]
@@ -32,26 +31,6 @@ pub(crate) fn spot_of(line: &[u8], first: Place) -> Spot
         passed += 1;
     }
     Spot { passed, place }
-}
-
-// How many blanks a text begins with.
-pub(crate) fn blanks_len(text: &[u8]) -> usize
-    ensures value { result ≡ prefix_len is_blank text.now }
-    ensures within { result ≤ length text.now }
-{
-    text.iter()
-        .take_while(|byte| **byte == b' ' || **byte == b'\t')
-        .count()
-}
-
-// How many bytes come before the first blank.
-fn word_len(text: &[u8]) -> usize
-    ensures value { result ≡ prefix_len (λ b. not (is_blank b)) text.now }
-    ensures within { result ≤ length text.now }
-{
-    text.iter()
-        .take_while(|byte| **byte != b' ' && **byte != b'\t')
-        .count()
 }
 
 // How many bytes come before the end of the first word.

@@ -9,11 +9,10 @@ ghost use Rattle.trade_text.specs.Limits.{max_input_bytes};
 ghost use Rattle.trade_text.specs.Refusals.{IsRefusalOf};
 
 use crate::each::{Judge, at_record, faults_under};
-use crate::file::open_file;
 use crate::written::{lone_header, lone_record};
 use csv::ByteRecord;
 use std::alloc::Global;
-use trade_text::{CashError, CashField, MAX_INPUT_BYTES, ReadError, read_cash};
+use trade_text::{CashError, CashField, MAX_INPUT_BYTES, ReadError, open_file, read_cash};
 use tuple_edge::OutOfMemory;
 
 // Judges cash movements under a header. Each is read alone under it.

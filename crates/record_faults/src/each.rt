@@ -9,10 +9,9 @@ ghost use Rattle.trade_text.specs.Records.{HasLeft, records_left};
 ghost use Rattle.record_faults.specs.Alone.{IsNext, IsRecord, at_record};
 ghost use Rattle.record_faults.specs.EachRecord.{faults_from};
 
-use crate::header::next_record;
 use csv::{ByteRecord, Reader};
 use std::alloc::Global;
-use trade_text::{FileField, ReadError};
+use trade_text::{FileField, ReadError, next_record};
 use tuple_edge::OutOfMemory;
 
 // What judges the records of a kind of file.

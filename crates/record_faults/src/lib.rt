@@ -8,7 +8,6 @@
 
 mod cash;
 mod each;
-mod file;
 mod header;
 mod law;
 mod symbols;
@@ -16,10 +15,7 @@ mod trades;
 mod written;
 
 pub use cash::cash_faults;
-pub use file::open_file;
-pub use header::{
-    is_column_at, next_record, open_records, place_in, starts_with_mark, without_mark,
-};
+pub use header::place_in;
 pub use law::{accepted_are_accepted, first_is_the_refusal};
 pub use trades::trade_faults;
 pub use written::{guarded, push_row};

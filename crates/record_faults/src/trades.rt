@@ -4,7 +4,6 @@ ghost use Rattle.csv.specs.Records.{fields_of};
 ghost use Rattle.record_faults.specs.Alone.{IsRecord, StandsFor, comes_behind, fault_among, is_behind_symbol, known_among};
 ghost use Rattle.record_faults.specs.EachRecord.{fault_in, trade_faults};
 ghost use Rattle.trade_text.specs.Columns.{trade_columns};
-ghost use Rattle.trade_text.specs.Files.{text_at};
 ghost use Rattle.trade_text.specs.Limits.{max_input_bytes};
 ghost use Rattle.trade_text.specs.Refusals.{IsRefusalOf};
 ghost use Rattle.trade_text.specs.Symbols.{texts};
@@ -13,13 +12,14 @@ ghost use Rattle.trade_text.specs.declared.columns.TradeColumns.{TradeColumns};
 ghost use Rattle.trade_text.specs.declared.trade_file.TradeForm.{TradeForm};
 
 use crate::each::{Judge, at_record, faults_under};
-use crate::file::open_file;
-use crate::header::{place_in, trimmed};
+use crate::header::place_in;
 use crate::symbols::KnownSymbols;
 use crate::written::{lone_header, lone_record};
 use csv::ByteRecord;
 use std::alloc::Global;
-use trade_text::{Field, MAX_INPUT_BYTES, MAX_INPUTS, ReadError, TradeError, read_trades};
+use trade_text::{
+    Field, MAX_INPUT_BYTES, MAX_INPUTS, ReadError, TradeError, open_file, read_trades, text_at,
+};
 use tuple_edge::OutOfMemory;
 
 // Judges trades under a header. Each is read alone under it, and then its symbol is looked up.
@@ -30,16 +30,6 @@ pub(crate) struct TradeJudge {
     // The place of the symbol in a record.
     place: usize,
     symbols: KnownSymbols,
-}
-
-// The field at a place, without blanks at its ends.
-fn text_at<'a>(fields: &'a ByteRecord, place: usize) -> &'a [u8]
-    ensures { result.now ≡ text_at (fields_of fields.now) place }
-{
-    match fields.get(place) {
-        None => trimmed(&[]),
-        Some(text) => trimmed(text),
-    }
 }
 
 // Whether a field is read behind the symbol.

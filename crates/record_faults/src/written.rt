@@ -5,9 +5,9 @@ ghost use Rattle.csv.specs.Writing.{default_writer, row_text};
 ghost use Rattle.record_faults.specs.Alone.{lone_text};
 ghost use Rattle.record_faults.specs.Written.{guard};
 
-use crate::header::starts_with_mark;
 use csv::{ByteRecord, WriterBuilder};
 use std::alloc::Global;
+use trade_text::starts_with_mark;
 use tuple_edge::OutOfMemory;
 
 // The text of a record, as csv writes it.

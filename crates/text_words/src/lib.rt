@@ -9,6 +9,8 @@ mod lines;
 mod numbers;
 mod words;
 
-pub use lines::{Line, Lines, Words};
+pub use lines::{
+    Line, Lines, Words, blanks_len, ends_line, first_line, is_blank, is_end_byte, word_len,
+};
 pub use numbers::{MAX_NUMBER_DIGITS, number_of, signed_number_of};
 pub use words::is_word;

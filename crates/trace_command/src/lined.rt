@@ -8,10 +8,9 @@ ghost use Rattle.trade_line.specs.Lines.{line_fault, trade_in};
 ghost use Rattle.trade_text.specs.Limits.{max_input_bytes};
 
 use command_course::{Input, Stop, TradesFile, refused};
-use record_faults::without_mark;
 use std::alloc::Global;
 use trade_line::trade_in;
-use trade_text::Trades;
+use trade_text::{Trades, without_mark};
 
 /// Trades, and the place of one of them.
 #[derive(Drop)]

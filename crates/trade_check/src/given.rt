@@ -3,10 +3,9 @@ ghost use Rattle.std.specs.Prelude.{◌≡◌, IfOk};
 ghost use Rattle.trade_check.specs.Given.{given, line_of};
 
 use input_faults::record_line;
-use record_faults::without_mark;
 use std::alloc::Global;
 use std::marker::Model;
-use trade_text::Trades;
+use trade_text::{Trades, without_mark};
 use tuple_edge::OutOfMemory;
 
 /// Trades, with the name and the bytes of the file from which they were read, so that it can be said where in it something stands.

@@ -1,22 +1,23 @@
 -- Which trade stands in a line of its file.
 use Rattle.std.specs.Prelude.{ℕ, ◌+◌, ◌-◌, ◌==◌, ◌&&◌, List, [], ◌∷◌, ◌++◌, Option, None, Some, Result, Ok, Err, codes, nat_lt, if◌then◌else◌}
 use Rattle.std.specs.Fmt.{decimal}
-use Rattle.trade_line.specs.Scans.{begins, behind, counted, ends_line, lines_in}
+use Rattle.csv.specs.declared.parser.State.{State}
+use Rattle.csv.specs.declared.parser.State.TheVariants.{StartRecord}
+use Rattle.text_words.specs.Lines.{ends_line}
+use Rattle.trade_line.specs.Scans.{begins, behind, counted, lines_in}
 use Rattle.trade_line.specs.declared.lines.LineFault.{LineFault}
 use Rattle.trade_line.specs.declared.lines.LineFault.TheVariants as fault
-use Rattle.trade_line.specs.declared.scan.Stand.{Stand}
-use Rattle.trade_line.specs.declared.scan.Stand.TheVariants.{Between}
 
 -- the number of the record that begins in a line, in a text that goes on so, behind so many records and in this line
-abbrev pub record_from : (wanted : ℕ) → Stand → (records line : ℕ) → List ℕ → Option ℕ
-record_from wanted stand records line [] = None
-record_from wanted stand records line (byte ∷ rest) =
-    if begins stand byte && (line == wanted) then Some (records + 1)
-    else record_from wanted (behind stand byte) (counted (begins stand byte) records) (counted (ends_line byte rest) line) rest
+abbrev pub record_from : (wanted : ℕ) → State → (records line : ℕ) → List ℕ → Option ℕ
+record_from wanted s records line [] = None
+record_from wanted s records line (byte ∷ rest) =
+    if begins s byte && (line == wanted) then Some (records + 1)
+    else record_from wanted (behind s byte) (counted (begins s byte) records) (counted (ends_line byte rest) line) rest
 
 -- the number of the record that begins in a line of a text, if one does: the header is record 1
 abbrev pub record_in : List ℕ → (line : ℕ) → Option ℕ
-record_in text line = record_from line Between 0 1 text
+record_in text line = record_from line StartRecord 0 1 text
 
 -- why no trade stands in a line where no record begins
 abbrev pub no_record : List ℕ → (line : ℕ) → LineFault

@@ -2,8 +2,10 @@
 ghost use Rattle.std.specs.Prelude.{◌≡◌};
 ghost use Rattle.trade_line.specs.Lines.{no_record, record_in, trade_in};
 
-use crate::scan::{Stand, counted, ends_line, line_count};
+use crate::scan::{begins, behind, counted, line_count};
 use std::fmt;
+use text_words::ends_line;
+use trade_text::RecordState;
 
 /// Why no trade stands in a line of a file.
 #[derive(Clone, Copy, Debug, PartialEq, Eq)]
@@ -35,18 +37,18 @@ impl fmt::Display for LineFault {
 fn record_in(text: &[u8], wanted: u64) -> Option<u64>
     ensures { result ≡ record_in text.now wanted }
 {
-    let mut stand = Stand::Between;
+    let mut state = RecordState::StartRecord;
     let mut records = 0u64;
     let mut line = 1u64;
     let mut rest = text;
     while let Some((byte, more)) = rest.split_first() {
-        let begins = stand.begins(*byte);
-        if begins && line == wanted {
+        let here = begins(state, *byte);
+        if here && line == wanted {
             return Some(records + 1);
         }
-        records = counted(begins, records);
+        records = counted(here, records);
         line = counted(ends_line(*byte, more), line);
-        stand = stand.behind(*byte);
+        state = behind(state, *byte);
         rest = more;
     }
     None

@@ -1,91 +1,24 @@
 // The records and lines of a file, byte by byte.
 ghost use Rattle.std.specs.Prelude.{◌≡◌, ◌≤◌, ◌<◌, ◌+◌, ◌^◌, length};
-ghost use Rattle.trade_line.specs.Scans.{begins, behind, behind_first, behind_plain, counted, ends_line, is_end, lines_in};
+ghost use Rattle.trade_line.specs.Scans.{begins, behind, counted, lines_in};
+ghost use Rattle.trade_text.specs.RecordStates.{state_of};
 
-/// Where a byte stands.
-#[derive(Clone, Copy)]
-pub(crate) enum Stand {
-    /// No record has begun.
-    Between,
-    FieldStart,
-    Plain,
-    Quoted,
-    /// Behind a quote in a quoted field: it ends the quoted part, or it is the first of two.
-    BehindQuote,
-}
+use text_words::{ends_line, is_end_byte};
+use trade_text::RecordState;
 
-// Whether a byte ends a line.
-fn is_end(byte: u8) -> bool
-    ensures { result ≡ is_end byte }
+/// Whether a record begins with this byte.
+pub(crate) fn begins(state: RecordState, byte: u8) -> bool
+    ensures { result ≡ begins (state_of state) byte }
 {
-    byte == b'\n' || byte == b'\r'
+    !state.ends_at_end() && !is_end_byte(byte)
 }
 
-// Behind a byte of a field that isn't quoted.
-fn behind_plain(byte: u8) -> Stand
-    ensures { result ≡ behind_plain byte }
+/// Where the byte behind this one stands.
+pub(crate) fn behind(state: RecordState, byte: u8) -> RecordState
+    ensures { state_of result ≡ behind (state_of state) byte }
 {
-    if is_end(byte) {
-        Stand::Between
-    } else if byte == b',' {
-        Stand::FieldStart
-    } else {
-        Stand::Plain
-    }
-}
-
-// Behind the first byte of a field.
-fn behind_first(byte: u8) -> Stand
-    ensures { result ≡ behind_first byte }
-{
-    if byte == b'"' {
-        Stand::Quoted
-    } else {
-        behind_plain(byte)
-    }
-}
-
-impl Stand {
-    /// Where the byte behind this one stands.
-    pub(crate) fn behind(self, byte: u8) -> Stand
-        ensures { result ≡ behind self byte }
-    {
-        match self {
-            Stand::Between | Stand::FieldStart => behind_first(byte),
-            Stand::Plain => behind_plain(byte),
-            Stand::Quoted => {
-                if byte == b'"' {
-                    Stand::BehindQuote
-                } else {
-                    Stand::Quoted
-                }
-            }
-            Stand::BehindQuote => {
-                if byte == b'"' {
-                    Stand::Quoted
-                } else {
-                    behind_plain(byte)
-                }
-            }
-        }
-    }
-
-    /// Whether a record begins with this byte.
-    pub(crate) fn begins(self, byte: u8) -> bool
-        ensures { result ≡ begins self byte }
-    {
-        match self {
-            Stand::Between => !is_end(byte),
-            Stand::FieldStart | Stand::Plain | Stand::Quoted | Stand::BehindQuote => false,
-        }
-    }
-}
-
-/// Whether a line ends with this byte, before those that follow: a line ends with LF, CR LF or CR.
-pub(crate) fn ends_line(byte: u8, rest: &[u8]) -> bool
-    ensures { result ≡ ends_line byte rest.now }
-{
-    byte == b'\n' || (byte == b'\r' && rest.first() != Some(&b'\n'))
+    let (next, _) = state.step(byte);
+    next
 }
 
 /// One more, where it is so.

@@ -14,10 +14,10 @@ ghost use Rattle.trade_text.specs.Refusals.{IsRefusalOf};
 use crate::rejects::{reject_row, rejects_header};
 use csv::{ByteRecord, Reader};
 use input_faults::RecordLines;
-use record_faults::{guarded, next_record, open_file, push_row, trade_faults, without_mark};
+use record_faults::{guarded, push_row, trade_faults};
 use std::alloc::Global;
 use std::marker::Model;
-use trade_text::TradeError;
+use trade_text::{TradeError, next_record, open_file, without_mark};
 use tuple_edge::OutOfMemory;
 
 /// A file of trades, parted in two. Contracts see both texts.

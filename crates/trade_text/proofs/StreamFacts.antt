@@ -7,7 +7,8 @@ use Rattle.csv.specs.Reading.{default_config, is_bom, strip_bom}
 use Rattle.csv.specs.declared.parser.State.{State}
 use Rattle.csv.specs.declared.parser.State.TheVariants as state
 use Rattle.trade_text.specs.Records.{starts_with_mark}
-use Rattle.trade_text.specs.StreamRecords.{GivesByte, MeetsBound, StandsAt, TakesByte, TakesEnd, TakesOne, bytes_left, next_bytes, state_of}
+use Rattle.trade_text.specs.RecordStates.{state_of}
+use Rattle.trade_text.specs.StreamRecords.{GivesByte, MeetsBound, StandsAt, TakesByte, TakesEnd, TakesOne, bytes_left, next_bytes}
 use Rattle.trade_text.specs.declared.error.StreamError.{StreamError}
 use Rattle.trade_text.specs.declared.error.StreamError.TheVariants as stream
 use Rattle.trade_text.specs.declared.record_parser.RecordParser.{RecordParser}
@@ -131,15 +132,15 @@ module _ {R : Type 0} (rem : R → Option (List ℕ)) where
   pub record IsReading (s : State) (text : List ℕ) (bytes : StreamBytes R) (parser : RecordParser) (fields : List (List ℕ)) (taken : ℕ) : Type 0 where
     pub rest : List ℕ
     pub left : bytes_left rem bytes ≡ Some rest
-    pub same : next_record default_config s [] [] text ≡ next_record default_config (state_of parser.place) fields parser.field.items rest
-    pub count : next_bytes s text ≡ taken + next_bytes (state_of parser.place) rest
+    pub same : next_record default_config s [] [] text ≡ next_record default_config (state_of parser.state) fields parser.field.items rest
+    pub count : next_bytes s text ≡ taken + next_bytes (state_of parser.state) rest
 
   -- a record was read of so many bytes, or there is none
   pub record IsRead (s : State) (text : List ℕ) (bytes : StreamBytes R) (parser : RecordParser) (found : Bool) (fields : List (List ℕ)) (taken : ℕ) : Type 0 where
     pub takes : TakesOne rem (next_record default_config s [] [] text) found fields (record { bytes = bytes; parser = parser })
     pub count : next_bytes s text ≡ taken
 
-  pub begins : (s : State) (text : List ℕ) (records : RecordReader R) (parser : RecordParser) (fields : List (List ℕ)) → StandsAt rem records s text → parser.place ≡ records.parser.place → parser.field.items ≡ [] → fields ≡ []
+  pub begins : (s : State) (text : List ℕ) (records : RecordReader R) (parser : RecordParser) (fields : List (List ℕ)) → StandsAt rem records s text → parser.state ≡ records.parser.state → parser.field.items ≡ [] → fields ≡ []
       → IsReading s text records.bytes parser fields 0
   begins s text records parser fields stands place none empty = record {
     rest = text;
@@ -154,19 +155,19 @@ module _ {R : Type 0} (rem : R → Option (List ℕ)) where
     goes_on byte gives t = record {
       rest = gives.0;
       left = gives.2;
-      same = rw (t.place, t.so_far, t.at_hand) (r.same ∙ ap (next_record default_config (state_of parser.place) fields parser.field.items) gives.1 ∙ step_on (state_of parser.place) byte gives.0 fields parser.field.items (sym t.ends));
+      same = rw (t.state, t.so_far, t.at_hand) (r.same ∙ ap (next_record default_config (state_of parser.state) fields parser.field.items) gives.1 ∙ step_on (state_of parser.state) byte gives.0 fields parser.field.items (sym t.ends));
       count =
-          let more = r.count ∙ ap (λ rest. taken + next_bytes (state_of parser.place) rest) gives.1 ∙ ap (λ n. taken + n) (count_on (state_of parser.place) byte gives.0 (sym t.ends)) in
-          rw t.place (omega (arith, more));
+          let more = r.count ∙ ap (λ rest. taken + next_bytes (state_of parser.state) rest) gives.1 ∙ ap (λ n. taken + n) (count_on (state_of parser.state) byte gives.0 (sym t.ends)) in
+          rw t.state (omega (arith, more));
     }
 
     -- a byte that ends it
     pub ends : (byte : ℕ) → GivesByte r.rest (Some byte) (bytes_left rem bytes) → TakesByte parser fields byte true new now → IsRead s text bytes new true now (taken + 1)
     ends byte gives t = record {
       takes = subst (λ found. TakesOne rem found true now (record { bytes = bytes; parser = new }))
-          (sym (r.same ∙ ap (next_record default_config (state_of parser.place) fields parser.field.items) gives.1 ∙ step_ends (state_of parser.place) byte gives.0 fields parser.field.items (sym t.ends)))
-          (refl, t.so_far, record { left = gives.2; at = t.place });
-      count = r.count ∙ ap (λ rest. taken + next_bytes (state_of parser.place) rest) gives.1 ∙ ap (λ n. taken + n) (count_ends (state_of parser.place) byte gives.0 (sym t.ends));
+          (sym (r.same ∙ ap (next_record default_config (state_of parser.state) fields parser.field.items) gives.1 ∙ step_ends (state_of parser.state) byte gives.0 fields parser.field.items (sym t.ends)))
+          (refl, t.so_far, record { left = gives.2; at = t.state });
+      count = r.count ∙ ap (λ rest. taken + next_bytes (state_of parser.state) rest) gives.1 ∙ ap (λ n. taken + n) (count_ends (state_of parser.state) byte gives.0 (sym t.ends));
     }
 
     -- the end of the text
@@ -174,23 +175,23 @@ module _ {R : Type 0} (rem : R → Option (List ℕ)) where
     ends_with_text found gives t = record {
       takes = by found t;
       count =
-          let all = r.count ∙ ap (λ rest. taken + next_bytes (state_of parser.place) rest) gives.0 ∙ ap (λ n. taken + n) (no_bytes (state_of parser.place)) in
+          let all = r.count ∙ ap (λ rest. taken + next_bytes (state_of parser.state) rest) gives.0 ∙ ap (λ n. taken + n) (no_bytes (state_of parser.state)) in
           omega (arith, all);
     }
       where
         by : (found : Bool) → TakesEnd parser fields found new now → TakesOne rem (next_record default_config s [] [] text) found now (record { bytes = bytes; parser = new })
         by true t = subst (λ next. TakesOne rem next true now (record { bytes = bytes; parser = new }))
-            (sym (r.same ∙ ap (next_record default_config (state_of parser.place) fields parser.field.items) gives.0 ∙ text_ends (state_of parser.place) fields parser.field.items t.0))
+            (sym (r.same ∙ ap (next_record default_config (state_of parser.state) fields parser.field.items) gives.0 ∙ text_ends (state_of parser.state) fields parser.field.items t.0))
             (refl, t.1, record { left = gives.1; at = t.2 })
         by false t = subst (λ next. TakesOne rem next false now (record { bytes = bytes; parser = new }))
-            (sym (r.same ∙ ap (next_record default_config (state_of parser.place) fields parser.field.items) gives.0 ∙ text_leaves (state_of parser.place) fields parser.field.items t))
+            (sym (r.same ∙ ap (next_record default_config (state_of parser.state) fields parser.field.items) gives.0 ∙ text_leaves (state_of parser.state) fields parser.field.items t))
             refl
 
     -- one byte more, and the record is longer than what was taken
     pub is_longer : (byte : ℕ) → GivesByte r.rest (Some byte) (bytes_left rem bytes) → taken < next_bytes s text
     is_longer byte gives =
-        let some = count_some (state_of parser.place) byte gives.0 in
-        let all = r.count ∙ ap (λ rest. taken + next_bytes (state_of parser.place) rest) gives.1 in
+        let some = count_some (state_of parser.state) byte gives.0 in
+        let all = r.count ∙ ap (λ rest. taken + next_bytes (state_of parser.state) rest) gives.1 in
         omega (arith, some, all)
 
     pub end_takes : (result : Result Bool StreamError) → GivesByte r.rest None (bytes_left rem bytes) → IfOk result (λ found. TakesEnd parser fields found new now)

@@ -4,56 +4,31 @@ use Rattle.std.specs.Io.Buffered.{reader_remaining}
 use Rattle.std.specs.Io.KnownBytes.{prepend_known}
 use Rattle.csv.specs.Machine.{Read as Found, ends_at_end, field_after, fields_after, is_end, step}
 use Rattle.csv.specs.Reading.{default_config}
-use Rattle.csv.specs.declared.parser.Action.{Action}
-use Rattle.csv.specs.declared.parser.Action.TheVariants as action
 use Rattle.csv.specs.declared.parser.State.{State}
 use Rattle.csv.specs.declared.parser.State.TheVariants as state
 use Rattle.trade_text.specs.Limits.{max_input_bytes}
+use Rattle.trade_text.specs.RecordStates.{state_of}
 use Rattle.trade_text.specs.Records.{starts_with_mark}
 use Rattle.trade_text.specs.declared.error.ReadError.TheVariants as error
 use Rattle.trade_text.specs.declared.error.StreamError.{StreamError}
 use Rattle.trade_text.specs.declared.error.StreamError.TheVariants as stream
-use Rattle.trade_text.specs.declared.record_parser.Act.{Act}
-use Rattle.trade_text.specs.declared.record_parser.Act.TheVariants as act
-use Rattle.trade_text.specs.declared.record_parser.Place.{Place}
-use Rattle.trade_text.specs.declared.record_parser.Place.TheVariants as place
 use Rattle.trade_text.specs.declared.record_parser.RecordParser.{RecordParser}
 use Rattle.trade_text.specs.declared.record_reader.RecordReader.{RecordReader}
 use Rattle.trade_text.specs.declared.stream_bytes.StreamBytes.{StreamBytes}
 
 -- ---- the parser, as csv's machine
 
--- the state of csv's machine at a place
-abbrev pub state_of : Place → State
-state_of place.StartRecord = state.StartRecord
-state_of place.StartField = state.StartField
-state_of place.InField = state.InField
-state_of place.InQuoted = state.InQuoted
-state_of place.AfterQuote = state.AfterQuote
-state_of place.AfterCr = state.AfterCr
-
--- what csv's machine does where the parser does this
-abbrev pub action_of : Act → Action
-action_of act.Skip = action.Skip
-action_of act.Copy = action.Copy
-action_of act.EndField = action.EndField
-action_of act.EndRecord = action.EndRecord
-
--- a step of the parser as one of csv's machine
-abbrev pub csv_step : Place × Act → State × Action
-csv_step to = (state_of to.0, action_of to.1)
-
--- what a byte does to the place, the fields and the field at hand, and whether it ends the record
+-- what a byte does to the state, the fields and the field at hand, and whether it ends the record
 pub record TakesByte (old : RecordParser) (fields : List (List ℕ)) (byte : ℕ) (ended : Bool) (new : RecordParser) (now : List (List ℕ)) : Type 0 where
-  pub ends : ended ≡ is_end (step default_config (state_of old.place) byte).1
-  pub place : state_of new.place ≡ (step default_config (state_of old.place) byte).0
-  pub so_far : now ≡ fields_after (step default_config (state_of old.place) byte).1 fields old.field.items
-  pub at_hand : new.field.items ≡ field_after (step default_config (state_of old.place) byte).1 byte old.field.items
+  pub ends : ended ≡ is_end (step default_config (state_of old.state) byte).1
+  pub state : state_of new.state ≡ (step default_config (state_of old.state) byte).0
+  pub so_far : now ≡ fields_after (step default_config (state_of old.state) byte).1 fields old.field.items
+  pub at_hand : new.field.items ≡ field_after (step default_config (state_of old.state) byte).1 byte old.field.items
 
 -- what the end of the text does: it ends a record, unless the parser stands between two
 abbrev pub TakesEnd : RecordParser → List (List ℕ) → Bool → RecordParser → List (List ℕ) → Type 0
-TakesEnd old fields false new now = ends_at_end (state_of old.place) ≡ false
-TakesEnd old fields true new now = (ends_at_end (state_of old.place) ≡ true) × (now ≡ fields ++ old.field.items ∷ []) × (state_of new.place ≡ state.StartRecord)
+TakesEnd old fields false new now = ends_at_end (state_of old.state) ≡ false
+TakesEnd old fields true new now = (ends_at_end (state_of old.state) ≡ true) × (now ≡ fields ++ old.field.items ∷ []) × (state_of new.state ≡ state.StartRecord)
 
 -- ---- the length of a record
 
@@ -93,7 +68,7 @@ module _ {R : Type 0} (rem : R → Option (List ℕ)) where
   -- a reader has this text left, and stands in this state between two records
   pub record StandsAt (records : RecordReader R) (state : State) (text : List ℕ) : Type 0 where
     pub left : bytes_left records.bytes ≡ Some text
-    pub at : state_of records.parser.place ≡ state
+    pub at : state_of records.parser.state ≡ state
 
   -- the same of the records of a text
   abbrev pub OpensRecords : Result (RecordReader R) StreamError → List ℕ → Type 0

@@ -35,8 +35,8 @@ fn is_name_of<F: FileField>(field: F, text: &[u8]) -> bool
     is_word(text, field.name().as_bytes()) || is_word(text, field.synonym().as_bytes())
 }
 
-// Whether the column at a place is that of a field.
-fn is_column_at<F: FileField>(field: F, header: &ByteRecord, place: usize) -> bool
+/// Whether the column at a place of a header is that of a field.
+pub fn is_column_at<F: FileField>(field: F, header: &ByteRecord, place: usize) -> bool
     requires { place < length (fields_of header.now) }
     ensures { result ≡ is_column_of F.kind field (slice_index_or (fields_of header.now) place []) }
 {

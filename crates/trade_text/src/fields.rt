@@ -2,13 +2,12 @@
 ghost use Rattle.std.specs.List.{list_all};
 ghost use Rattle.std.specs.Prelude.{◌==◌, ◌≡◌, neg_ℤ, pos, ◌+◌, ◌*◌, ◌<◌, ◌≤◌, IfOk, IfSome, IsTrue, Err, length, option_map, position};
 ghost use Rattle.std.specs.Str.{str_eq_ignore_ascii_case};
-ghost use Rattle.text_words.specs.Lines.{is_blank};
 ghost use Rattle.trade_text.specs.Fields.{account_of, amount_of, cents_of, clock_of, digits_of, drop_blanks, fraction_of, is_symbol, is_symbol_byte, number_between, one_or_two_digits, price_of, qty_of, ranged, seconds_of_day, side_of, split_once, time_of, trim_blanks, trim_end, two_digits};
 ghost use Rattle.trade_text.specs.Limits.{max_account, max_amount, max_cents, max_qty, max_second_of_day, max_seconds};
 ghost use Rattle.trade_text.specs.TradesView.{IsBetween};
 ghost use Rattle.trade_text.specs.declared.fields.Fault.TheVariants as fault;
 
-use text_words::number_of;
+use text_words::{is_blank, number_of};
 
 // The latest time, in seconds.
 const MAX_SECONDS: u64 = 9_999_999_999;
@@ -39,13 +38,6 @@ pub(crate) enum Fault {
 pub(crate) enum Side {
     Buy,
     Sell,
-}
-
-// Whether a byte is a space or a tab.
-fn is_blank(byte: u8) -> bool
-    ensures { result ≡ is_blank byte }
-{
-    byte == b' ' || byte == b'\t'
 }
 
 // A text without blanks at its start.
@@ -107,9 +99,10 @@ fn without_blanks(text: &[u8]) -> &[u8]
     without_back(without_front(text))
 }
 
-// A text without blanks at either end. Most fields have none, which their first and last bytes tell.
+/// A text without blanks at either end.
+// Most fields have none, which their first and last bytes tell.
 #[inline(always)]
-pub(crate) fn trimmed(text: &[u8]) -> &[u8]
+pub fn trimmed(text: &[u8]) -> &[u8]
     ensures { result.now ≡ trim_blanks text.now }
 {
     if begins_bare(text) && ends_bare(text) {

@@ -60,9 +60,9 @@ pub(crate) fn located<T, F: FileField>(
     }
 }
 
-// The field at a place, without blanks at its ends.
+/// The field at a place of a record, without blanks at its ends.
 #[inline(always)]
-pub(crate) fn text_at<'a>(fields: &'a ByteRecord, place: usize) -> &'a [u8]
+pub fn text_at<'a>(fields: &'a ByteRecord, place: usize) -> &'a [u8]
     ensures { result.now ≡ text_at (fields_of fields.now) place }
 {
     match fields.get(place) {
@@ -71,10 +71,9 @@ pub(crate) fn text_at<'a>(fields: &'a ByteRecord, place: usize) -> &'a [u8]
     }
 }
 
-// Opens a file behind its header, whose fields are given. A byte order mark at the front is dropped,
-// once.
+/// Opens a file behind its header, whose fields are given. A byte order mark at the front is dropped, once.
 #[tactic(auto, unfolding(crate::specs::Files::file_of))]
-pub(crate) fn open_file<'a, F: FileField>(
+pub fn open_file<'a, F: FileField>(
     alloc: Global,
     bytes: &'a [u8],
     header: &mut ByteRecord,
@@ -87,11 +86,10 @@ pub(crate) fn open_file<'a, F: FileField>(
             bytes: bytes.len() as u64,
         });
     }
-    let text = without_mark(bytes);
-    if starts_with_mark(text) {
+    if starts_with_mark(without_mark(bytes)) {
         return Err(ReadError::Header);
     }
-    let mut reader = open_records(alloc, text);
+    let mut reader = open_records(alloc, bytes);
     if !next_record(&mut reader, header)? {
         return Err(ReadError::Header);
     }

@@ -1,5 +1,5 @@
 // The records of a text, one after the other.
-ghost use Rattle.std.specs.Prelude.{◌≡◌, ℕ, List, [], IfOk, false};
+ghost use Rattle.std.specs.Prelude.{◌≡◌, ℕ, List, [], IfOk};
 ghost use Rattle.csv.specs.Machine.{next_record};
 ghost use Rattle.csv.specs.Reading.{default_config, strip_bom};
 ghost use Rattle.csv.specs.Records.{fields_of};
@@ -11,15 +11,15 @@ use csv::{ByteRecord, Reader, ReaderBuilder};
 use std::alloc::Global;
 use tuple_edge::OutOfMemory;
 
-// Whether a text begins with a byte order mark.
-pub(crate) fn starts_with_mark(text: &[u8]) -> bool
+/// Whether a text begins with a byte order mark.
+pub fn starts_with_mark(text: &[u8]) -> bool
     ensures { result ≡ starts_with_mark text.now }
 {
     text.len() >= 3 && text[0] == 0xef && text[1] == 0xbb && text[2] == 0xbf
 }
 
-// A text without the byte order mark at its front, if it has one.
-pub(crate) fn without_mark(text: &[u8]) -> &[u8]
+/// A text without the byte order mark at its front, if it has one.
+pub fn without_mark(text: &[u8]) -> &[u8]
     ensures { result.now ≡ strip_bom text.now }
 {
     if !starts_with_mark(text) {
@@ -29,11 +29,9 @@ pub(crate) fn without_mark(text: &[u8]) -> &[u8]
     rest
 }
 
-// A reader of the records of a text. The reader would drop a mark of its own accord, so there must be
-// none left.
-pub(crate) fn open_records(alloc: Global, text: &[u8]) -> Reader<&[u8]>
-    requires { starts_with_mark text.now ≡ false }
-    ensures { HasLeft result state.StartRecord text.now }
+/// A reader of the records of a text. It drops a mark at the front of its own accord.
+pub fn open_records(alloc: Global, text: &[u8]) -> Reader<&[u8]>
+    ensures { HasLeft result state.StartRecord (strip_bom text.now) }
 {
     ReaderBuilder::new()
         .has_headers(false)
@@ -41,11 +39,8 @@ pub(crate) fn open_records(alloc: Global, text: &[u8]) -> Reader<&[u8]>
         .from_reader(alloc, text)
 }
 
-// Reads the next record in place of the last one, if there is one.
-pub(crate) fn next_record(
-    reader: &mut Reader<&[u8]>,
-    fields: &mut ByteRecord,
-) -> Result<bool, OutOfMemory>
+/// Reads the next record in place of the last one, if there is one.
+pub fn next_record(reader: &mut Reader<&[u8]>, fields: &mut ByteRecord) -> Result<bool, OutOfMemory>
     ensures { IfOk result (λ found. (s : State) (text : List ℕ) → HasLeft reader.old s text
         → TakesNext (next_record default_config s [] [] text) found (fields_of fields.new) reader.new) }
 {

@@ -19,9 +19,8 @@ use look_course::{Answer, Ending};
 use origin_finder::{StageTold, origins_of};
 use origin_text::{InputFile, InputFiles, Question, write_why};
 use plan_reader::Plan;
-use record_faults::without_mark;
 use std::alloc::Global;
-use trade_text::{Cash, MAX_INPUTS, Trades};
+use trade_text::{Cash, MAX_INPUTS, Trades, without_mark};
 use tuple_edge::{OutOfMemory, Row};
 
 /// Which row of the output is asked about, from 1, whether all rows are told on which it rests, and whether it is told if the inputs

@@ -1,10 +1,10 @@
 use Rattle.std.proofs.Common.{◌≡◌, length}
 use Rattle.input_faults.specs.Records.{behind_field}
-use Rattle.input_faults.specs.Scans.{state_of}
+use Rattle.trade_text.specs.RecordStates.{state_of}
 use Rattle.input_faults.proofs.records.behind_field.Given as goal
 
 abbrev pub invariant-loop-byte : goal.invariant-loop-byte
-invariant-loop-byte l = behind_field (state_of l.stand) l.rest ≡ behind_field (state_of l.fn.stand) l.fn.text
+invariant-loop-byte l = behind_field (state_of l.state) l.rest ≡ behind_field (state_of l.fn.state) l.fn.text
 
 abbrev pub decreases-loop-byte : goal.decreases-loop-byte
 decreases-loop-byte l = length l.rest

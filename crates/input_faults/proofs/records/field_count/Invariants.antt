@@ -5,7 +5,7 @@ use Rattle.input_faults.proofs.records.field_count.Given as goal
 
 abbrev pub invariant-loop-byte : goal.invariant-loop-byte
 invariant-loop-byte l = record {
-  counted : IsCounted l.ended l.stand l.rest (length (fields_in l.fn.text));
+  counted : IsCounted l.ended l.state l.rest (length (fields_in l.fn.text));
   room : l.ended + length l.rest ≤ length l.fn.text;
 }
 

@@ -1,7 +1,6 @@
-use Rattle.std.proofs.Common.{◌≡◌, ◌∙◌, ap, inr, true, false, Some}
+use Rattle.std.proofs.Common.{◌≡◌, ◌∙◌, ap, inr, true, false}
 use Rattle.csv.specs.Reading.{builder_config, builder_is_flexible, builder_names_headers, builder_trim, with_flexible, with_names_headers}
 use Rattle.csv.specs.declared.reader.ReaderBuilder.{ReaderBuilder}
-use Rattle.trade_text.proofs.Marks.{strip_bom-plain}
 use Rattle.trade_text.proofs.records.open_records.Goals as goal
 
 pub returns : goal.returns
@@ -14,6 +13,6 @@ returns c =
       trim = fr.trim ∙ ap builder_trim built ∙ c.new.ensures.trim;
       flexible = fr.flexible ∙ ap builder_is_flexible built;
       ready = inr (inr (fr.has_headers ∙ ap builder_names_headers built, fr.headers));
-      source = fr.source ∙ ap Some (strip_bom-plain c.args.text.now c.requires);
+      source = fr.source;
       at = fr.state;
     }
