@@ -7,21 +7,20 @@
 //! that it had at the start. No call waits, and all but [`Board::new`] take no memory. That a claim
 //! is ever won is not promised.
 //!
-//! It stands on atomic_table, and knows nothing of what the values are: [`Named`] says that a value
-//! has a name that stays. `specs/Rule.antt` has the rule that every step keeps.
+//! It stands on atomic_table, and on tuple_edge for its want of memory, and knows nothing of what the
+//! values are: [`Named`] says that a value has a name that stays. `specs/Rule.antt` has the rule that
+//! every step keeps.
 #![tactic(auto)]
 
 mod board;
 mod closing;
 mod law;
 mod making;
-mod memory;
 mod rule;
 mod seat;
 mod view;
 
 pub use board::{Board, Taken};
 pub use law::{all_joined_is_alone, each_is_once};
-pub use memory::OutOfMemory;
 pub use seat::BoardSeat;
 pub use view::Named;

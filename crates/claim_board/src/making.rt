@@ -3,7 +3,6 @@ ghost use Rattle.std.specs.Prelude.{◌≡◌, ◌+◌, ◌<◌, ◌≤◌, true
 ghost use Rattle.std.specs.VecDeque.{deque_capacity};
 
 use crate::board::Board;
-use crate::memory::OutOfMemory;
 use crate::rule::{Next, Opening};
 use crate::seat::BoardSeat;
 use crate::view::Named;
@@ -11,6 +10,7 @@ use atomic_table::{Refused, Table};
 use std::alloc::Global;
 use std::collections::VecDeque;
 use std::snapshot::Snapshot;
+use tuple_edge::OutOfMemory;
 
 // So many words that nobody uses stand before the halt word, and behind it, so that no store to a claim word takes its line
 // from the caches of those that look at it.

@@ -239,7 +239,7 @@ fn two_threads_give_all_back(rt: HostRuntime) -> Result<(), Fail> {
 }
 
 fn want_of_memory(alloc: Global) -> Result<String, OutOfMemory> {
-    let error = claim_board::OutOfMemory;
+    let error = OutOfMemory;
     Ok(format!(in alloc; "{error}")?)
 }
 
