@@ -8,15 +8,17 @@ use crate::parts::Parts;
 use crate::{Command, RunOptions};
 use tuple_edge::MAX_THREADS;
 
-/// How many threads there are: at least, and where the option isn't given.
-const MIN_THREADS: u32 = 1;
+/// How many threads there are at least.
+pub const MIN_THREADS: u32 = 1;
 
-const DEFAULT_THREADS: u32 = 4;
+/// How many threads there are where the option isn't given.
+pub const DEFAULT_THREADS: u32 = 4;
 
-/// How many turns there are: at most, and where the option isn't given.
-const MAX_TURNS: u32 = 10_000_000;
+/// How many turns each thread does at most.
+pub const MAX_TURNS: u32 = 10_000_000;
 
-const DEFAULT_TURNS: u32 = 200_000;
+/// How many turns that are where the option isn't given.
+pub const DEFAULT_TURNS: u32 = 200_000;
 
 /// The greatest number from which trades are made.
 const MAX_START: u32 = 2_147_483_647;

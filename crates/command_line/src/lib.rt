@@ -15,4 +15,7 @@ mod syntax;
 mod word;
 
 pub use command::{Command, RunOptions};
+pub use forms::{DEFAULT_THREADS, DEFAULT_TURNS, MAX_TURNS, MIN_THREADS};
+pub use numbers::{number_or, number_within};
 pub use read::read_words;
+pub use word::{behind_dashes, is_plain};

@@ -9,7 +9,7 @@ use text_words::number_of;
 const MAX_DIGITS: usize = 10;
 
 /// The number that a word says, where it is in this range.
-pub(crate) fn number_within(least: u32, most: u32, word: &str) -> Option<u32>
+pub fn number_within(least: u32, most: u32, word: &str) -> Option<u32>
     ensures number { result ≡ number_within least most word.now }
     ensures within { IfSome result (λ n. (least ≤ n) × (n ≤ most)) }
 {
@@ -29,7 +29,7 @@ pub(crate) fn number_within(least: u32, most: u32, word: &str) -> Option<u32>
 }
 
 /// The number of an option, or what holds without the option.
-pub(crate) fn number_or(default: u32, least: u32, most: u32, word: Option<&str>) -> Option<u32>
+pub fn number_or(default: u32, least: u32, most: u32, word: Option<&str>) -> Option<u32>
     requires { (least ≤ default) × (default ≤ most) }
     ensures number { result ≡ number_or default least most (text_in word.entry) }
     ensures within { IfSome result (λ n. (least ≤ n) × (n ≤ most)) }

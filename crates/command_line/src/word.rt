@@ -3,8 +3,8 @@ ghost use Rattle.std.specs.Prelude.{◌≡◌, option_map, string_bytes};
 ghost use Rattle.std.specs.List.{list_all};
 ghost use Rattle.command_line.specs.Words.{behind_dash, behind_dashes, is_plain, may_stand, may_stand_behind, value_in};
 
-// Whether a word may be a positional word or a value.
-fn is_plain(word: &str) -> bool
+/// Whether a word may be a positional word or a value: it is not empty, and doesn't begin with `-`.
+pub fn is_plain(word: &str) -> bool
     ensures { result ≡ is_plain word.now }
 {
     match word.as_bytes().first() {
@@ -13,14 +13,15 @@ fn is_plain(word: &str) -> bool
     }
 }
 
-// What stands behind a first `-`, and behind a first `--`.
+// What stands behind a first `-`.
 fn behind_dash(word: &str) -> Option<&str>
     ensures { option_map (λ text. text.now) result ≡ behind_dash word.now }
 {
     word.strip_prefix('-')
 }
 
-fn behind_dashes(word: &str) -> Option<&str>
+/// What stands behind a first `--`, if a word begins so.
+pub fn behind_dashes(word: &str) -> Option<&str>
     ensures { option_map (λ text. text.now) result ≡ behind_dashes word.now }
 {
     behind_dash(behind_dash(word)?)

@@ -7,18 +7,13 @@ ghost use Rattle.std.specs.Prelude.{IfErr, OnOk};
 
 use crate::given::{Given, NAME};
 use command_course::Stop;
+use command_line::{DEFAULT_THREADS, DEFAULT_TURNS};
 use flux_outside::Sink;
 use flux_top::line_of_loss;
 use live_feed::{Gate, Live, live};
 use std::alloc::Global;
 use std::sync::Wait;
 use std::thread::Threads;
-
-/// How many workers a live run has.
-const THREADS: u32 = 4;
-
-/// How many turns each of them takes at most.
-const TURNS: u64 = 200_000;
 
 // A live run.
 fn answer<R: Threads + Wait + Sync, S: Sink + Send, G: Gate>(
@@ -36,8 +31,8 @@ fn answer<R: Threads + Wait + Sync, S: Sink + Send, G: Gate>(
         &given.feed.plan,
         &given.feed.trades,
         &given.script,
-        THREADS,
-        TURNS,
+        DEFAULT_THREADS,
+        u64::from(DEFAULT_TURNS),
         gate,
         out,
     )

@@ -1,7 +1,8 @@
 // The words of the program.
-ghost use Rattle.command_line.specs.Words.{is_plain};
 ghost use Rattle.live_top.specs.Words.{files_in, files_of};
 ghost use Rattle.std.specs.Prelude.{◌≡◌, ◌∷◌, [], map, option_map, string_bytes};
+
+use command_line::is_plain;
 
 /// The files of a live run: a plan, its trades and, where one is named, a failure script.
 #[derive(Clone, Copy)]
@@ -9,16 +10,6 @@ pub(crate) struct Named<'a> {
     pub(crate) plan: &'a str,
     pub(crate) trades: &'a str,
     pub(crate) script: Option<&'a str>,
-}
-
-// Whether a word may name a file: it is not empty, and doesn't begin with `-`.
-fn is_plain(word: &str) -> bool
-    ensures { result ≡ is_plain word.now }
-{
-    match word.as_bytes().first() {
-        None => false,
-        Some(byte) => *byte != b'-',
-    }
 }
 
 // A plan and its trades.

@@ -3,7 +3,8 @@ use Rattle.std.specs.Prelude.{ℕ, ◌≤◌, ◌&&◌, Bool, List, [], ◌∷�
 use Rattle.std.specs.Str.{bytes_eq}
 use Rattle.command_line.specs.Forms.{default_threads, default_turns, max_threads, max_turns, min_threads, number_or, number_within, three}
 use Rattle.command_line.specs.Words.{Text}
-use Rattle.look_words.specs.Parts.{Parts, text_in}
+use Rattle.command_line.specs.Views.{text_in}
+use Rattle.look_words.specs.Parts.{Parts}
 use Rattle.look_words.specs.Reading.{given}
 use Rattle.look_words.specs.declared.command.LookCommand.{LookCommand}
 use Rattle.look_words.specs.declared.command.LookCommand.TheVariants as command

@@ -1,6 +1,6 @@
 -- The words behind a command by what they are.
 use Rattle.std.specs.Prelude.{◌&&◌, not, Bool, false, true, Option, Some, None, option_map, is_some, if◌then◌else◌}
-use Rattle.std.specs.Borrow.{Bor}
+use Rattle.command_line.specs.Views.{text_in}
 use Rattle.command_line.specs.Words.{Text, is_plain}
 use Rattle.look_words.specs.declared.kind.Flag.{Flag}
 use Rattle.look_words.specs.declared.kind.Flag.TheVariants as flag
@@ -82,10 +82,6 @@ flag_given flag.All value parts = option_map (λ up. record parts { all = up }) 
 flag_given flag.Check value parts = option_map (λ up. record parts { check = up }) (raised parts.check value)
 
 -- ---- as the code holds it
-
--- the text that code refers to, if there is one
-abbrev pub text_in : Option (Bor Text) → Option Text
-text_in = option_map (λ text. text.now)
 
 -- the parts that code has found
 abbrev pub parts_in : FoundParts → Parts

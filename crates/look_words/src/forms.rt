@@ -1,12 +1,14 @@
 // The form of each command.
 ghost use Rattle.look_words.specs.Forms.{IsInRange, check_form, one, rehearse_form, request, request_of, sift_form, sql_form, story_form, timeline_form, trace_form, why_form};
-ghost use Rattle.look_words.specs.Parts.{parts_in, text_in};
+ghost use Rattle.command_line.specs.Views.{text_in};
+ghost use Rattle.look_words.specs.Parts.{parts_in};
 ghost use Rattle.command_line.specs.Forms.{three};
 ghost use Rattle.std.specs.Prelude.{◌≡◌, IfSome, option_map};
 
 use crate::LookCommand;
-use crate::numbers::{MAX_ROW_NUMBER, number_within, numbers_of};
+use crate::numbers::{MAX_ROW_NUMBER, numbers_of};
 use crate::parts::Parts;
+use command_line::number_within;
 
 // The name, where there is exactly one.
 fn one<'a>(parts: &Parts<'a>) -> Option<&'a str>

@@ -1,27 +1,16 @@
 // An option: its name, and its value where that stands in the same word.
-ghost use Rattle.command_line.specs.Words.{behind_dash, behind_dashes, option_of, value_in};
+ghost use Rattle.command_line.specs.Words.{option_of, value_in};
 ghost use Rattle.look_words.specs.Parts.{named_of};
 ghost use Rattle.std.specs.List.{before_first};
 ghost use Rattle.std.specs.Prelude.{◌≡◌, ◌==◌, option_map};
+
+use command_line::behind_dashes;
 
 /// A name and, behind `=`, a value.
 #[derive(Clone, Copy)]
 pub(crate) struct Named<'a> {
     pub(crate) name: &'a str,
     pub(crate) value: Option<&'a str>,
-}
-
-// What stands behind a first `-`, and behind a first `--`.
-fn behind_dash(word: &str) -> Option<&str>
-    ensures { option_map (λ text. text.now) result ≡ behind_dash word.now }
-{
-    word.strip_prefix('-')
-}
-
-fn behind_dashes(word: &str) -> Option<&str>
-    ensures { option_map (λ text. text.now) result ≡ behind_dashes word.now }
-{
-    behind_dash(behind_dash(word)?)
 }
 
 // The name and the value in a text.

@@ -1,9 +1,10 @@
 // The words behind a command by what they are.
-ghost use Rattle.look_words.specs.Parts.{flag_given, name_given, no_parts, parts_in, raised, taken, text_in, value_given};
-ghost use Rattle.command_line.specs.Words.{is_plain};
+ghost use Rattle.command_line.specs.Views.{text_in};
+ghost use Rattle.look_words.specs.Parts.{flag_given, name_given, no_parts, parts_in, raised, taken, value_given};
 ghost use Rattle.std.specs.Prelude.{◌≡◌, option_map};
 
 use crate::kind::{Flag, Valued};
+use command_line::is_plain;
 
 /// Up to three names in order, the values of the options that have one, and which of the others stand among the words.
 #[derive(Clone, Copy)]
@@ -22,16 +23,6 @@ pub(crate) struct Parts<'a> {
     pub(crate) only: bool,
     pub(crate) all: bool,
     pub(crate) check: bool,
-}
-
-/// Whether a word may be a name or a value: it is not empty, and doesn't begin with `-`.
-pub(crate) fn is_plain(word: &str) -> bool
-    ensures { result ≡ is_plain word.now }
-{
-    match word.as_bytes().first() {
-        None => false,
-        Some(byte) => *byte != b'-',
-    }
 }
 
 // The value of an option, which is given once.

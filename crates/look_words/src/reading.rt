@@ -1,11 +1,13 @@
 // Words read from left to right.
-ghost use Rattle.look_words.specs.Parts.{parts_in, text_in};
+ghost use Rattle.command_line.specs.Views.{text_in};
+ghost use Rattle.look_words.specs.Parts.{parts_in};
 ghost use Rattle.look_words.specs.Reading.{after_kind, after_option, after_word, parts_at_end, reading_in, settled, start};
 ghost use Rattle.std.specs.Prelude.{◌≡◌, option_map};
 
 use crate::kind::{OptionKind, Valued, option_kind};
 use crate::option::{Named, option_of};
-use crate::parts::{Parts, is_plain};
+use crate::parts::Parts;
+use command_line::is_plain;
 
 /// What the next word is to be: a name or an option, or the value of the option before it.
 #[derive(Clone, Copy)]
