@@ -2,12 +2,9 @@
 //! status that `flux_live` answers.
 #![tactic(auto)]
 
-use flux_outside::{StdFiles, StdSink};
+use flux_outside::{StdFiles, StdSink, program_words};
 use live_feed::FreeGate;
 use live_top::flux_live;
-use std::alloc::{AllocError, Global};
-use std::env;
-use std::io::{self, ErrorKind};
 use std::process::ExitCode;
 
 /// The status where no memory was to be had for the words.
@@ -15,7 +12,7 @@ const OUT_OF_MEMORY: u8 = 8;
 
 fn main(rt: HostRuntime) -> ExitCode {
     let alloc = rt.alloc();
-    let Ok(words) = words(&rt, alloc) else {
+    let Ok(words) = program_words(&rt, alloc) else {
         let _ = eprintln!(rt; "flux_live: out of memory");
         return ExitCode::from(OUT_OF_MEMORY);
     };
@@ -25,29 +22,4 @@ fn main(rt: HostRuntime) -> ExitCode {
     ExitCode::from(flux_live(
         &rt, alloc, &words, &mut files, &mut out, &mut err, &FreeGate,
     ))
-}
-
-// The words after the program's name. Words that are no text have no form, so they count as none.
-fn words(rt: &HostRuntime, alloc: Global) -> Result<Vec<String>, AllocError> {
-    let mut words = Vec::new(alloc);
-    match env::args(rt) {
-        Ok(args) => {
-            for word in args.skip(1) {
-                words.push(word)?;
-            }
-            Ok(words)
-        }
-        Err(error) => {
-            if is_no_text(&error) {
-                Ok(words)
-            } else {
-                Err(AllocError)
-            }
-        }
-    }
-}
-
-// Whether words were refused since they are no text. No other error of theirs but want of memory is known.
-fn is_no_text(error: &io::Error) -> bool {
-    error.kind() == ErrorKind::InvalidData
 }
