@@ -75,16 +75,6 @@ fn new_producers(alloc: Global, sources: u32, parts: u32) -> Result<Vec<Producer
     Ok(producers)
 }
 
-// The input at a place, from 0.
-fn input_at(trades: &Trades, nth: usize) -> Input
-    requires { nth < length trades.now.rows }
-    ensures { slice_get (inputs_in trades.now) nth ≡ Some result }
-{
-    let row = trades.rows()[nth];
-    let source = trades.source(nth);
-    Input { source, row }
-}
-
 impl Ingress {
     /// Ingress of a plan and its trades, as it opens: all of them came, no more come, and nothing was made.
     pub fn new(alloc: Global, plan: &Plan, trades: &Trades) -> Result<Ingress, OutOfMemory>
@@ -131,7 +121,7 @@ impl Ingress {
         let count = trades.rows().len();
         self.waiting.reserve_exact(count)?;
         for nth in 0..count {
-            self.feed(input_at(trades, nth))?;
+            self.feed(trades.input(nth))?;
         }
         Ok(())
     }
