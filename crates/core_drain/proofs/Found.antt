@@ -41,8 +41,8 @@ abbrev pub ready_in : Option ConsumerView → Bool
 ready_in None = false
 ready_in (Some c) = all_wait c.merge.waiting
 
-module _ (plan : PlanView) (rows : List Input) (p : Partition) where
-  phase_running : (h : Phase) (x : Replica) → PhaseStands plan rows p h x → (is_running x ≡ runs (mode_in h)) × (inc_of x ≡ inc_in h)
+module _ (plan : PlanView) (inputs : List Input) (p : Partition) where
+  phase_running : (h : Phase) (x : Replica) → PhaseStands plan inputs p h x → (is_running x ≡ runs (mode_in h)) × (inc_of x ≡ inc_in h)
   phase_running (phase.Running r) (Running x) s = (refl, sym s.inc)
   phase_running (phase.Gathering g) (Gathering x) s = (refl, sym s.inc)
   phase_running (phase.Gone i) (Gone j) s = (refl, sym s)
@@ -53,8 +53,8 @@ module _ (plan : PlanView) (rows : List Input) (p : Partition) where
   phase_running (phase.Gone i) (Running x) s = absurd s
   phase_running (phase.Gone i) (Gathering x) s = absurd s
 
-  phase_ready : (h : Phase) (x : Replica) → PhaseStands plan rows p h x → (ready_in (option_map (λ r. r.consumer) (running_in h)) ≡ true) ↔ ReplicaIsReady (flow_of plan rows) p x
-  phase_ready (phase.Running r) (Running x) s = let same = (consumers_follow plan rows p).ready x.consumer r.consumer s.consumer in (λ e. sym same ∙ e, λ e. same ∙ e)
+  phase_ready : (h : Phase) (x : Replica) → PhaseStands plan inputs p h x → (ready_in (option_map (λ r. r.consumer) (running_in h)) ≡ true) ↔ ReplicaIsReady (flow_of plan inputs) p x
+  phase_ready (phase.Running r) (Running x) s = let same = (consumers_follow plan inputs p).ready x.consumer r.consumer s.consumer in (λ e. sym same ∙ e, λ e. same ∙ e)
   phase_ready (phase.Gathering g) (Gathering x) s = (λ e. (let z : ⊥ = cc e in absurd z), λ e. absurd e)
   phase_ready (phase.Gone i) (Gone j) s = (λ e. (let z : ⊥ = cc e in absurd z), λ e. absurd e)
   phase_ready (phase.Running r) (Gathering x) s = absurd s

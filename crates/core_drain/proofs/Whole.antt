@@ -124,10 +124,10 @@ module _ (old new : CoreView) (before after : List Event) (s : State) (plan : Is
 
 -- code's test whether egress has merged all
 abbrev pub DoneSo : EgressView → Bool → Type 0
-DoneSo e done = (plan : PlanView) (rows : List Input) (n : Node) → IsPlan plan → egress.StandsFor plan rows e n → (done ≡ true) ↔ ((egress_in n).count ≡ (flow_of plan rows).total (egress_partition (flow_of plan rows)))
+DoneSo e done = (plan : PlanView) (inputs : List Input) (n : Node) → IsPlan plan → egress.StandsFor plan inputs e n → (done ≡ true) ↔ ((egress_in n).count ≡ (flow_of plan inputs).total (egress_partition (flow_of plan inputs)))
 
 abbrev pub RowsSo : EgressView → Bool → Type 0
-RowsSo e done = (plan : PlanView) (rows : List Input) (n : Node) → IsPlan plan → egress.StandsFor plan rows e n → done ≡ true → e.emitted ≡ output plan rows
+RowsSo e done = (plan : PlanView) (inputs : List Input) (n : Node) → IsPlan plan → egress.StandsFor plan inputs e n → done ≡ true → e.emitted ≡ output plan inputs
 
 module _ (core : CoreView) (is : IsCore core) (events : List Event) (e : EgressView) (same : Some (state.Egress e) ≡ (station core node.Egress).content) (done : Bool) (so : DoneSo e done) where
   stands_at : (s : State) → StandsFor core s → egress.StandsFor core.plan (inputs_of core) e (s.nodes node.Egress)

@@ -76,14 +76,14 @@ module _ (plan : PlanView) (script : List Order) (ran : Ran) (limits : IsPlan pl
   abbrev pub bare : CoreView
   bare = bare_core plan ran.nodes
 
-  abbrev pub rows : List Input
-  rows = inputs_of bare
+  abbrev pub inputs : List Input
+  inputs = inputs_of bare
 
   abbrev pub run_flow : Flow
-  run_flow = flow_of plan rows
+  run_flow = flow_of plan inputs
 
-  abbrev pub reached : ReachesNodes plan rows script ran.nodes (merged ran.logs)
-  reached = reaches plan rows script ran run
+  abbrev pub reached : ReachesNodes plan inputs script ran.nodes (merged ran.logs)
+  reached = reaches plan inputs script ran run
 
   -- the nodes as they stand, and empty links
   abbrev pub left : State
@@ -91,20 +91,20 @@ module _ (plan : PlanView) (script : List Order) (ran : Ran) (limits : IsPlan pl
 
   pub stands : StandsFor bare left
   stands n has =
-      let there : Among n (map id_of ran.nodes) = subst (Among n) (sym run.nodes_are) (all_there plan n ((nodes_named plan rows n).named has)) in
-      let f = find (λ s. NodeStands plan rows s (left.nodes (id_of s))) n ran.nodes there reached.stand in
-      let holds : NodeStands plan rows f.one (left.nodes n) = subst (λ m. NodeStands plan rows f.one (left.nodes m)) f.named f.holds in
-      subst (λ o. StationStands plan rows n (standing o) left) (sym f.there)
-      (record { content = (id_contents f.one ∙ f.named, stands_in plan rows f.one (left.nodes n) holds); sent = λ to. tt })
+      let there : Among n (map id_of ran.nodes) = subst (Among n) (sym run.nodes_are) (all_there plan n ((nodes_named plan inputs n).named has)) in
+      let f = find (λ s. NodeStands plan inputs s (left.nodes (id_of s))) n ran.nodes there reached.stand in
+      let holds : NodeStands plan inputs f.one (left.nodes n) = subst (λ m. NodeStands plan inputs f.one (left.nodes m)) f.named f.holds in
+      subst (λ o. StationStands plan inputs n (standing o) left) (sym f.there)
+      (record { content = (id_contents f.one ∙ f.named, stands_in plan inputs f.one (left.nodes n) holds); sent = λ to. tt })
 
   -- ---- from which the drain may begin
 
   pub sound : IsSound run_flow reached.reached
   sound = subst (HoldsOnOk (IsSound run_flow)) reached.legal.leads
-      (sound_run run_flow (plan_is_flow plan rows limits) (events_of ran) _ reached.legal.there (opening_sound run_flow (plan_is_flow plan rows limits)))
+      (sound_run run_flow (plan_is_flow plan inputs limits) (events_of ran) _ reached.legal.there (opening_sound run_flow (plan_is_flow plan inputs limits)))
 
   pub drainable : IsDrainable run_flow left
-  drainable = let d = sound_drains plan rows limits reached.reached sound in
+  drainable = let d = sound_drains plan inputs limits reached.reached sound in
       record { owed = record { ingress = d.owed.ingress; producers = d.owed.producers; consumers = d.owed.consumers; egress = d.owed.egress }; within = d.within }
 
   pub given_here : IsGiven bare

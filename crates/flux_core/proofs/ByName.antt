@@ -14,15 +14,15 @@ use Rattle.plan_nodes.specs.declared.state.NodeState.{NodeState}
 use Rattle.plan_nodes.specs.declared.state.NodeState.TheVariants as state
 use Rattle.flux_core.specs.Stands.{ContentStands}
 
-module _ (plan : PlanView) (rows : List Input) where
-  pub ingress_there : (o : Option NodeState) (x : Node) → ContentStands plan rows node.Ingress o x → (i : IngressView) × (o ≡ Some (state.Ingress i)) × ingress.StandsFor plan rows i x
+module _ (plan : PlanView) (inputs : List Input) where
+  pub ingress_there : (o : Option NodeState) (x : Node) → ContentStands plan inputs node.Ingress o x → (i : IngressView) × (o ≡ Some (state.Ingress i)) × ingress.StandsFor plan inputs i x
   ingress_there None x h = absurd h
   ingress_there (Some (state.Ingress i)) x h = (i, refl, h.1)
   ingress_there (Some (state.Replica v)) x h = let z : node_of v.role ≡ node.Ingress = h.0 in absurd (cc z)
   ingress_there (Some (state.Control c)) x h = let z : control.node_of c ≡ node.Ingress = h.0 in absurd (cc z)
   ingress_there (Some (state.Egress e)) x h = let z : node.Egress ≡ node.Ingress = h.0 in absurd (cc z)
 
-  pub egress_there : (o : Option NodeState) (x : Node) → ContentStands plan rows node.Egress o x → (e : EgressView) × (o ≡ Some (state.Egress e)) × egress.StandsFor plan rows e x
+  pub egress_there : (o : Option NodeState) (x : Node) → ContentStands plan inputs node.Egress o x → (e : EgressView) × (o ≡ Some (state.Egress e)) × egress.StandsFor plan inputs e x
   egress_there None x h = absurd h
   egress_there (Some (state.Ingress i)) x h = let z : node.Ingress ≡ node.Egress = h.0 in absurd (cc z)
   egress_there (Some (state.Replica v)) x h = let z : node_of v.role ≡ node.Egress = h.0 in absurd (cc z)

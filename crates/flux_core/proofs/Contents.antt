@@ -63,23 +63,23 @@ gone_contents (state.Replica v) = refl
 gone_contents (state.Control c) = refl
 gone_contents (state.Egress e) = refl
 
-module _ (plan : PlanView) (rows : List Input) where
-  pub stands_in : (s : NodeState) (x : Node) → StandsFor plan rows s x → StandsFor plan rows (contents_of s) x
-  stands_in (state.Ingress i) x h = ingress_stays plan rows i (contents_in i) x (ingress_twice i) h
-  stands_in (state.Replica v) x h = replica_stays plan rows v (rules.contents_in v) x (replica_twice v) h
+module _ (plan : PlanView) (inputs : List Input) where
+  pub stands_in : (s : NodeState) (x : Node) → StandsFor plan inputs s x → StandsFor plan inputs (contents_of s) x
+  stands_in (state.Ingress i) x h = ingress_stays plan inputs i (contents_in i) x (ingress_twice i) h
+  stands_in (state.Replica v) x h = replica_stays plan inputs v (rules.contents_in v) x (replica_twice v) h
   stands_in (state.Control c) x h = h
   stands_in (state.Egress e) x h = h
 
-  pub stands_out : (s : NodeState) (x : Node) → StandsFor plan rows (contents_of s) x → StandsFor plan rows s x
-  stands_out (state.Ingress i) x h = ingress_stays plan rows (contents_in i) i x (sym (ingress_twice i)) h
-  stands_out (state.Replica v) x h = replica_stays plan rows (rules.contents_in v) v x (sym (replica_twice v)) h
+  pub stands_out : (s : NodeState) (x : Node) → StandsFor plan inputs (contents_of s) x → StandsFor plan inputs s x
+  stands_out (state.Ingress i) x h = ingress_stays plan inputs (contents_in i) i x (sym (ingress_twice i)) h
+  stands_out (state.Replica v) x h = replica_stays plan inputs (rules.contents_in v) v x (sym (replica_twice v)) h
   stands_out (state.Control c) x h = h
   stands_out (state.Egress e) x h = h
 
-  pub content_in : (n : NodeId) (s : NodeState) (x : Node) → ContentStands plan rows n (Some s) x → ContentStands plan rows n (Some (contents_of s)) x
+  pub content_in : (n : NodeId) (s : NodeState) (x : Node) → ContentStands plan inputs n (Some s) x → ContentStands plan inputs n (Some (contents_of s)) x
   content_in n s x h = (id_contents s ∙ h.0, stands_in s x h.1)
 
-  pub content_out : (n : NodeId) (s : NodeState) (x : Node) → ContentStands plan rows n (Some (contents_of s)) x → ContentStands plan rows n (Some s) x
+  pub content_out : (n : NodeId) (s : NodeState) (x : Node) → ContentStands plan inputs n (Some (contents_of s)) x → ContentStands plan inputs n (Some s) x
   content_out n s x h = (sym (id_contents s) ∙ h.0, stands_out s x h.1)
 
 -- what a node did, its room left aside

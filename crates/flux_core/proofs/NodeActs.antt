@@ -89,13 +89,13 @@ if_ok-map (Err e) P Q g h = h
 
 -- what a course's step gives, with some clock, is the machine's act
 acts_by : (plan : PlanView) (t : Asked) (old new : NodeState) (sent : Log)
-    → ((rows : List Input) → IsPlan plan → AreTimely rows → (x : Node) (a : Act) → IsActOf plan rows (id_of old) t x a → StandsFor plan rows old x → Asks (flow_of plan rows) (id_of old) x a
-    → (d : Node × List Envelope) × (does (flow_of plan rows) (id_of old) a x ≡ Ok d) × StandsFor plan rows new d.0
-    × ((to : NodeId) → ArePacketsOf (BodyStands plan rows) (link (id_of old) to) (packets_to 0 to sent) (messages_to to d.1)))
+    → ((inputs : List Input) → IsPlan plan → AreTimely inputs → (x : Node) (a : Act) → IsActOf plan inputs (id_of old) t x a → StandsFor plan inputs old x → Asks (flow_of plan inputs) (id_of old) x a
+    → (d : Node × List Envelope) × (does (flow_of plan inputs) (id_of old) a x ≡ Ok d) × StandsFor plan inputs new d.0
+    × ((to : NodeId) → ArePacketsOf (BodyStands plan inputs) (link (id_of old) to) (packets_to 0 to sent) (messages_to to d.1)))
     → ActsSo plan t old new sent
-acts_by plan t old new sent h = λ rows p timely x a i s k.
-    let z = h rows p timely x a i s k in
-    (z.0, z.1, z.2, λ to. pairwise_bodies (BodyStands plan rows (link (id_of old) to)) 0 to sent (messages_to to z.0.1) (z.3 to))
+acts_by plan t old new sent h = λ inputs p timely x a i s k.
+    let z = h inputs p timely x a i s k in
+    (z.0, z.1, z.2, λ to. pairwise_bodies (BodyStands plan inputs (link (id_of old) to)) 0 to sent (messages_to to z.0.1) (z.3 to))
 
 -- a step of a node is the machine's act there, whatever its place and its clock
 acts_of : (plan : PlanView) (old new : NodeState) (t : Task) (sent : Log) → DoesStep id_of StandsFor t old new sent → ActsSo plan (asked.Task t) old new sent
@@ -182,40 +182,40 @@ pub not_pulled : (s : NodeState) (q : ℕ) (i : Item) (e : ApplyError) → ((pla
 not_pulled s q i e refused = record { acts = tt; packets = refl; refused = refused; unchanged = (refl, refl); id = refl; inputs = refl; ended = refl; gone = refl }
 
 pub replica_pulled : (plan : PlanView) (v w : ReplicaView) (q : ℕ) (i : Item) → w.role ≡ v.role
-    → ((rows : List Input) (x : RunningNumbers) (n : Node) → IsPlan plan → replica_stands.StandsFor plan rows v n → replica_in n ≡ Running x
-    → item_at (items_on plan rows (in_edge (partition_of v.role) q)) (x.consumer.marks q + 1) ≡ Some i
-    → replica_stands.StandsFor plan rows w (ReplicaNode (Running (record x { consumer = pulled x.consumer q }))))
+    → ((inputs : List Input) (x : RunningNumbers) (n : Node) → IsPlan plan → replica_stands.StandsFor plan inputs v n → replica_in n ≡ Running x
+    → item_at (items_on plan inputs (in_edge (partition_of v.role) q)) (x.consumer.marks q + 1) ≡ Some i
+    → replica_stands.StandsFor plan inputs w (ReplicaNode (Running (record x { consumer = pulled x.consumer q }))))
     → ActsSo plan (asked.Pull q i) (state.Replica v) (state.Replica w) []
-replica_pulled plan v w q i role h = acts_by plan (asked.Pull q i) (state.Replica v) (state.Replica w) [] (λ rows p timely x a is s k. go rows p x a (replica_in x) refl is.0 is.1 s)
+replica_pulled plan v w q i role h = acts_by plan (asked.Pull q i) (state.Replica v) (state.Replica w) [] (λ inputs p timely x a is s k. go inputs p x a (replica_in x) refl is.0 is.1 s)
   where
-    go : (rows : List Input) → IsPlan plan → (x : Node) (a : Act) (r : Replica) → replica_in x ≡ r → a ≡ Pulls q → IsNextAt plan rows (node_of v.role) q i (mark_in q r) → replica_stands.StandsFor plan rows v x
-        → (d : Node × List Envelope) × (does (flow_of plan rows) (node_of v.role) a x ≡ Ok d) × StandsFor plan rows (state.Replica w) d.0
-        × ((to : NodeId) → ArePacketsOf (BodyStands plan rows) (link (node_of v.role) to) (packets_to 0 to []) (messages_to to d.1))
-    go rows p x a (Gone inc) e same next s = absurd next
-    go rows p x a (Gathering g) e same next s = absurd next
-    go rows p x a (Running y) e same next s =
+    go : (inputs : List Input) → IsPlan plan → (x : Node) (a : Act) (r : Replica) → replica_in x ≡ r → a ≡ Pulls q → IsNextAt plan inputs (node_of v.role) q i (mark_in q r) → replica_stands.StandsFor plan inputs v x
+        → (d : Node × List Envelope) × (does (flow_of plan inputs) (node_of v.role) a x ≡ Ok d) × StandsFor plan inputs (state.Replica w) d.0
+        × ((to : NodeId) → ArePacketsOf (BodyStands plan inputs) (link (node_of v.role) to) (packets_to 0 to []) (messages_to to d.1))
+    go inputs p x a (Gone inc) e same next s = absurd next
+    go inputs p x a (Gathering g) e same next s = absurd next
+    go inputs p x a (Running y) e same next s =
         let d : Node × List Envelope = (ReplicaNode (Running (record y { consumer = pulled y.consumer q })), []) in
-        let done : does (flow_of plan rows) (node_of v.role) a x ≡ Ok d = ap (λ b. does (flow_of plan rows) (node_of v.role) b x) same ∙ ap (λ z. as_replica (replica_pulls q z)) e in
-        (d, done, h rows y x p s e next, λ to. tt)
+        let done : does (flow_of plan inputs) (node_of v.role) a x ≡ Ok d = ap (λ b. does (flow_of plan inputs) (node_of v.role) b x) same ∙ ap (λ z. as_replica (replica_pulls q z)) e in
+        (d, done, h inputs y x p s e next, λ to. tt)
 
 pub egress_pulled : (plan : PlanView) (v w : EgressView) (q : ℕ) (i : Item)
-    → ((rows : List Input) (n : Node) → IsPlan plan → egress.StandsFor plan rows v n
-    → item_at (items_on plan rows (in_edge (egress_partition (flow_of plan rows)) q)) ((egress_in n).marks q + 1) ≡ Some i
-    → egress.StandsFor plan rows w (EgressNode (pulled (egress_in n) q)))
+    → ((inputs : List Input) (n : Node) → IsPlan plan → egress.StandsFor plan inputs v n
+    → item_at (items_on plan inputs (in_edge (egress_partition (flow_of plan inputs)) q)) ((egress_in n).marks q + 1) ≡ Some i
+    → egress.StandsFor plan inputs w (EgressNode (pulled (egress_in n) q)))
     → ActsSo plan (asked.Pull q i) (state.Egress v) (state.Egress w) []
-egress_pulled plan v w q i h = acts_by plan (asked.Pull q i) (state.Egress v) (state.Egress w) [] (λ rows p timely x a is s k.
+egress_pulled plan v w q i h = acts_by plan (asked.Pull q i) (state.Egress v) (state.Egress w) [] (λ inputs p timely x a is s k.
     let d : Node × List Envelope = (EgressNode (pulled (egress_in x) q), []) in
-    (d, ap (λ b. does (flow_of plan rows) node.Egress b x) is.0, h rows x p s is.1, λ to. tt))
+    (d, ap (λ b. does (flow_of plan inputs) node.Egress b x) is.0, h inputs x p s is.1, λ to. tt))
 
 -- nothing that doesn't run has a next item
-no_next : (plan : PlanView) (rows : List Input) (p : Partition) (f : Phase) (r : Replica) (n : NodeId) (q : ℕ) (i : Item) → mode_in f ≢ mode.Running → replica_stands.PhaseStands plan rows p f r → IsNextAt plan rows n q i (mark_in q r) → ⊥
-no_next plan rows p (phase.Running f) r n q i idle h next = idle refl
-no_next plan rows p (phase.Gathering f) (Running x) n q i idle h next = h
-no_next plan rows p (phase.Gathering f) (Gathering x) n q i idle h next = next
-no_next plan rows p (phase.Gathering f) (Gone inc) n q i idle h next = next
-no_next plan rows p (phase.Gone f) (Running x) n q i idle h next = h
-no_next plan rows p (phase.Gone f) (Gathering x) n q i idle h next = next
-no_next plan rows p (phase.Gone f) (Gone inc) n q i idle h next = next
+no_next : (plan : PlanView) (inputs : List Input) (p : Partition) (f : Phase) (r : Replica) (n : NodeId) (q : ℕ) (i : Item) → mode_in f ≢ mode.Running → replica_stands.PhaseStands plan inputs p f r → IsNextAt plan inputs n q i (mark_in q r) → ⊥
+no_next plan inputs p (phase.Running f) r n q i idle h next = idle refl
+no_next plan inputs p (phase.Gathering f) (Running x) n q i idle h next = h
+no_next plan inputs p (phase.Gathering f) (Gathering x) n q i idle h next = next
+no_next plan inputs p (phase.Gathering f) (Gone inc) n q i idle h next = next
+no_next plan inputs p (phase.Gone f) (Running x) n q i idle h next = h
+no_next plan inputs p (phase.Gone f) (Gathering x) n q i idle h next = next
+no_next plan inputs p (phase.Gone f) (Gone inc) n q i idle h next = next
 
 pub replica_idle : (v : ReplicaView) (q : ℕ) (i : Item) → mode_in v.phase ≢ mode.Running → (plan : PlanView) → IsRefusedSo plan (asked.Pull q i) (state.Replica v) error.NotRunning
 replica_idle v q i idle plan = λ came rows p x a is s. absurd (no_next plan rows (partition_of v.role) v.phase (replica_in x) (node_of v.role) q i idle s.phase_stands is.1)

@@ -88,45 +88,45 @@ all_held plan whole nodes came gone first last =
 
 -- ---- nodes that open
 
-module _ (plan : PlanView) (rows : List Input) where
+module _ (plan : PlanView) (inputs : List Input) where
   -- the node of a name that is one of theirs stands for its numbers at the start, and sent nothing
-  open_at : (n : NodeId) (nodes : List NodeState) → AreOpen plan rows nodes → Among n (map id_of nodes) → StationStands plan rows n (standing (found n (map new_station nodes))) opening
+  open_at : (n : NodeId) (nodes : List NodeState) → AreOpen plan inputs nodes → Among n (map id_of nodes) → StationStands plan inputs n (standing (found n (map new_station nodes))) opening
   open_at n nodes fresh among =
-      let h = one_of (OpensSo plan rows) n nodes fresh among in
-      let stands : NodeStandsFor plan rows h.one (new_node n) = subst (λ k. NodeStandsFor plan rows h.one (new_node k)) h.name h.fits.stands in
-      subst (λ o. StationStands plan rows n (standing o) opening) (sym h.there) (record { content = content_in plan rows n h.one (new_node n) (h.name, stands); sent = λ to. tt })
+      let h = one_of (OpensSo plan inputs) n nodes fresh among in
+      let stands : NodeStandsFor plan inputs h.one (new_node n) = subst (λ k. NodeStandsFor plan inputs h.one (new_node k)) h.name h.fits.stands in
+      subst (λ o. StationStands plan inputs n (standing o) opening) (sym h.there) (record { content = content_in plan inputs n h.one (new_node n) (h.name, stands); sent = λ to. tt })
 
-  all_came : (nodes : List NodeState) → AreOpen plan rows nodes → Each AllCame nodes
+  all_came : (nodes : List NodeState) → AreOpen plan inputs nodes → Each AllCame nodes
   all_came [] fresh = tt
   all_came (s ∷ nodes) fresh = (fresh.0.came, all_came nodes fresh.1)
 
-  none_gone : (nodes : List NodeState) → AreOpen plan rows nodes → Each (λ s. gone_of s ≡ []) nodes
+  none_gone : (nodes : List NodeState) → AreOpen plan inputs nodes → Each (λ s. gone_of s ≡ []) nodes
   none_gone [] fresh = tt
   none_gone (s ∷ nodes) fresh = (fresh.0.gone, none_gone nodes fresh.1)
 
 -- the first so many nodes of a plan are there, in their order, as they open
-pub record AreOpenedTo (plan : PlanView) (rows : List Input) (ids : List NodeId) (nodes : List NodeState) (i : ℕ) : Type 0 where
+pub record AreOpenedTo (plan : PlanView) (inputs : List Input) (ids : List NodeId) (nodes : List NodeState) (i : ℕ) : Type 0 where
   pub names : map id_of nodes ≡ take i ids
-  pub opens : AreOpen plan rows nodes
+  pub opens : AreOpen plan inputs nodes
 
-pub opened_none : (plan : PlanView) (rows : List Input) (ids : List NodeId) (nodes : List NodeState) → nodes ≡ [] → AreOpenedTo plan rows ids nodes 0
-opened_none plan rows ids nodes e = subst (λ ns. AreOpenedTo plan rows ids ns 0) (sym e) (record { names = sym (none ids); opens = tt })
+pub opened_none : (plan : PlanView) (inputs : List Input) (ids : List NodeId) (nodes : List NodeState) → nodes ≡ [] → AreOpenedTo plan inputs ids nodes 0
+opened_none plan inputs ids nodes e = subst (λ ns. AreOpenedTo plan inputs ids ns 0) (sym e) (record { names = sym (none ids); opens = tt })
   where
     none : (ids : List NodeId) → take 0 ids ≡ []
     none [] = refl
     none (id ∷ ids) = refl
 
-pub opened_next : (plan : PlanView) (rows : List Input) (ids : List NodeId) (nodes : List NodeState) (i : ℕ) (id : NodeId) (s : NodeState) → AreOpenedTo plan rows ids nodes i → i < length ids → id ≡ slice_index_or ids i id
-    → id_of s ≡ id → NodeStandsFor plan rows s (new_node id) → AllCame s → gone_of s ≡ [] → AreOpenedTo plan rows ids (nodes ++ s ∷ []) (i + 1)
-opened_next plan rows ids nodes i id s h within e name stands came gone = record {
+pub opened_next : (plan : PlanView) (inputs : List Input) (ids : List NodeId) (nodes : List NodeState) (i : ℕ) (id : NodeId) (s : NodeState) → AreOpenedTo plan inputs ids nodes i → i < length ids → id ≡ slice_index_or ids i id
+    → id_of s ≡ id → NodeStandsFor plan inputs s (new_node id) → AllCame s → gone_of s ≡ [] → AreOpenedTo plan inputs ids (nodes ++ s ∷ []) (i + 1)
+opened_next plan inputs ids nodes i id s h within e name stands came gone = record {
   names =
       let next : take (i + 1) ids ≡ take i ids ++ id ∷ [] = ap (λ k. take k ids) {x = i + 1} {y = suc i} (omega arith) ∙ take-next ids i id (get-at ids i id within e) in
       map-append id_of nodes (s ∷ []) ∙ (λ j. h.names j ++ name j ∷ []) ∙ sym next;
-  opens = each_more (OpensSo plan rows) nodes s h.opens (record { stands = subst (λ k. NodeStandsFor plan rows s (new_node k)) (sym name) stands; came = came; gone = gone });
+  opens = each_more (OpensSo plan inputs) nodes s h.opens (record { stands = subst (λ k. NodeStandsFor plan inputs s (new_node k)) (sym name) stands; came = came; gone = gone });
 }
 
-pub opened_all : (plan : PlanView) (rows : List Input) (ids : List NodeId) (nodes : List NodeState) (i : ℕ) → AreOpenedTo plan rows ids nodes i → length ids ≤ i → map id_of nodes ≡ ids
-opened_all plan rows ids nodes i h full = h.names ∙ past ids i full
+pub opened_all : (plan : PlanView) (inputs : List Input) (ids : List NodeId) (nodes : List NodeState) (i : ℕ) → AreOpenedTo plan inputs ids nodes i → length ids ≤ i → map id_of nodes ≡ ids
+opened_all plan inputs ids nodes i h full = h.names ∙ past ids i full
   where
     past : (xs : List NodeId) (n : ℕ) → length xs ≤ n → take n xs ≡ xs
     past [] zero l = refl
@@ -139,15 +139,15 @@ abbrev pub Bare : PlanView → Bool → List NodeState → CoreView
 Bare plan whole nodes = core_of plan whole (map new_station nodes)
 
 -- what a core is that opens
-pub record IsOpened (core : CoreView) (given : PlanView) (rows : List Input) : Type 0 where
+pub record IsOpened (core : CoreView) (given : PlanView) (inputs : List Input) : Type 0 where
   pub is : IsCore core
   pub opens : StandsFor core opening
   pub plan : core.plan ≡ given
-  pub inputs : inputs_of core ≡ rows
+  pub inputs : inputs_of core ≡ inputs
 
-opened_bare : (plan : PlanView) (rows : List Input) (nodes : List NodeState) (d : NodeState) → IsPlan plan → AreTimely (inputs_in (slice_index_or nodes 0 d)) → map id_of nodes ≡ nodes_of plan → AreOpen plan rows nodes
-    → IsOpened (Bare plan true nodes) plan rows
-opened_bare plan rows nodes d limits times names fresh = record {
+opened_bare : (plan : PlanView) (inputs : List Input) (nodes : List NodeState) (d : NodeState) → IsPlan plan → AreTimely (inputs_in (slice_index_or nodes 0 d)) → map id_of nodes ≡ nodes_of plan → AreOpen plan inputs nodes
+    → IsOpened (Bare plan true nodes) plan inputs
+opened_bare plan inputs nodes d limits times names fresh = record {
   is = record {
     plan = limits;
     times = subst AreTimely (sym (first_inputs plan nodes d names)) times;
@@ -163,29 +163,29 @@ opened_bare plan rows nodes d limits times names fresh = record {
   };
   opens = opens;
   plan = refl;
-  inputs = inputs;
+  inputs = came;
 }
   where
     among : (n : NodeId) → HasNode (flow_in (Bare plan true nodes)) n → Among n (map id_of nodes)
     among n has = subst (Among n) (sym names) (all_there plan n ((nodes_named plan (inputs_of (Bare plan true nodes)) n).named has))
 
     all : HoldsAll (Bare plan true nodes)
-    all = all_held plan true nodes (all_came plan rows nodes fresh) (none_gone plan rows nodes fresh) (among node.Ingress (tt, tt)) (among node.Egress (tt, tt))
+    all = all_held plan true nodes (all_came plan inputs nodes fresh) (none_gone plan inputs nodes fresh) (among node.Ingress (tt, tt)) (among node.Egress (tt, tt))
 
-    inputs : inputs_of (Bare plan true nodes) ≡ rows
-    inputs =
-        let i = ingress_there plan rows (station (Bare plan true nodes) node.Ingress).content (new_node node.Ingress) (open_at plan rows node.Ingress nodes fresh (among node.Ingress (tt, tt))).content in
+    came : inputs_of (Bare plan true nodes) ≡ inputs
+    came =
+        let i = ingress_there plan inputs (station (Bare plan true nodes) node.Ingress).content (new_node node.Ingress) (open_at plan inputs node.Ingress nodes fresh (among node.Ingress (tt, tt))).content in
         let ended : i.0.ended ≡ true = sym (ap ended_at i.1) ∙ all.ended in
-        ap inputs_at i.1 ∙ subst (λ b. AreCome b i.0.inputs rows) ended i.2.inputs
+        ap inputs_at i.1 ∙ subst (λ b. AreCome b i.0.inputs inputs) ended i.2.inputs
 
     opens : StandsFor (Bare plan true nodes) opening
-    opens = subst (λ I. (n : NodeId) → HasNode (flow_in (Bare plan true nodes)) n → StationStands plan I n (station (Bare plan true nodes) n) opening) (sym inputs) (λ n has. open_at plan rows n nodes fresh (among n has))
+    opens = subst (λ I. (n : NodeId) → HasNode (flow_in (Bare plan true nodes)) n → StationStands plan I n (station (Bare plan true nodes) n) opening) (sym came) (λ n has. open_at plan inputs n nodes fresh (among n has))
 
-pub opened : (plan copy : PlanView) (rows : List Input) (nodes : List NodeState) (d : NodeState) (stations : List StationView) → stations ≡ map new_station nodes → copy ≡ plan → IsPlan plan → d ≡ slice_index_or nodes 0 d
-    → AreTimely (inputs_in d) → map id_of nodes ≡ nodes_of plan → AreOpen plan rows nodes → IsOpened (core_of copy true stations) plan rows
-opened plan copy rows nodes d stations made same limits first times names fresh =
+pub opened : (plan copy : PlanView) (inputs : List Input) (nodes : List NodeState) (d : NodeState) (stations : List StationView) → stations ≡ map new_station nodes → copy ≡ plan → IsPlan plan → d ≡ slice_index_or nodes 0 d
+    → AreTimely (inputs_in d) → map id_of nodes ≡ nodes_of plan → AreOpen plan inputs nodes → IsOpened (core_of copy true stations) plan inputs
+opened plan copy inputs nodes d stations made same limits first times names fresh =
     let as_bare : core_of copy true stations ≡ Bare plan true nodes = λ j. core_of (same j) true (made j) in
-    subst (λ core. IsOpened core plan rows) (sym as_bare) (opened_bare plan rows nodes d limits (subst (λ s. AreTimely (inputs_in s)) first times) names fresh)
+    subst (λ core. IsOpened core plan inputs) (sym as_bare) (opened_bare plan inputs nodes d limits (subst (λ s. AreTimely (inputs_in s)) first times) names fresh)
 
 -- there is a first node
 pub first_there : (plan : PlanView) (nodes : List NodeState) → map id_of nodes ≡ nodes_of plan → 0 < length nodes

@@ -25,27 +25,27 @@ use Rattle.flux_core.specs.Promises.{HasMergedInOrder, HoldsWhatIsOwed, MergesIn
 use Rattle.flux_core.specs.Stands.{ContentStands, IsCore, IsKnown}
 use Rattle.flux_core.proofs.Done.{some_state}
 
-module _ (plan : PlanView) (rows : List Input) (is : IsPlan plan) where
-  merged_running : (p : Partition) → IsMerging (flow_of plan rows) p → (f : Phase) (x : ReplicaNumbers) (r : Running) → PhaseStands plan rows p f x → running_in f ≡ Some r → HasMergedInOrder plan rows p r
+module _ (plan : PlanView) (inputs : List Input) (is : IsPlan plan) where
+  merged_running : (p : Partition) → IsMerging (flow_of plan inputs) p → (f : Phase) (x : ReplicaNumbers) (r : Running) → PhaseStands plan inputs p f x → running_in f ≡ Some r → HasMergedInOrder plan inputs p r
   unfolding flow_of
   merged_running p m (phase.Running now) (RunningNumbers x) r h e =
       let same : now ≡ r = ap (λ o. unwrap_or o r) e in
-      subst (HasMergedInOrder plan rows p) same (record {
-        entries = h.entries ∙ ap (entries_after plan rows p) (sym h.consumer.count);
-        edges = λ q l. in_their_order plan rows is p q now.consumer.merge.count m l;
+      subst (HasMergedInOrder plan inputs p) same (record {
+        entries = h.entries ∙ ap (entries_after plan inputs p) (sym h.consumer.count);
+        edges = λ q l. in_their_order plan inputs is p q now.consumer.merge.count m l;
       })
   merged_running p m (phase.Running now) (Gathering g) r h e = absurd h
   merged_running p m (phase.Running now) (Gone i) r h e = absurd h
   merged_running p m (phase.Gathering g) x r h e = let z : ⊥ = cc e in absurd z
   merged_running p m (phase.Gone i) x r h e = let z : ⊥ = cc e in absurd z
 
-  merged_there : (stage part : ℕ) (which : Which) → HasNode (flow_of plan rows) (node.Replica stage part which) → (c : Option NodeState) (x : _) → ContentStands plan rows (node.Replica stage part which) c x
-      → (v : ReplicaView) (r : Running) → c ≡ Some (state.Replica v) → running_in v.phase ≡ Some r → HasMergedInOrder plan rows (record { stage = stage; part = part }) r
+  merged_there : (stage part : ℕ) (which : Which) → HasNode (flow_of plan inputs) (node.Replica stage part which) → (c : Option NodeState) (x : _) → ContentStands plan inputs (node.Replica stage part which) c x
+      → (v : ReplicaView) (r : Running) → c ≡ Some (state.Replica v) → running_in v.phase ≡ Some r → HasMergedInOrder plan inputs (record { stage = stage; part = part }) r
   merged_there stage part which has c x h v r e running =
-      let here : ContentStands plan rows (node.Replica stage part which) (Some (state.Replica v)) x = subst (λ k. ContentStands plan rows (node.Replica stage part which) k x) e h in
-      let named = ap (merges_at plan rows) here.0 in
+      let here : ContentStands plan inputs (node.Replica stage part which) (Some (state.Replica v)) x = subst (λ k. ContentStands plan inputs (node.Replica stage part which) k x) e h in
+      let named = ap (merges_at plan inputs) here.0 in
       let first = has.0.0 in let last = has.0.1 in
-      merged_running (record { stage = stage; part = part }) (record { first = first; last = omega (arith, last) }) v.phase (replica_in x) r (subst (λ p. PhaseStands plan rows p v.phase (replica_in x)) named here.1.phase_stands) running
+      merged_running (record { stage = stage; part = part }) (record { first = first; last = omega (arith, last) }) v.phase (replica_in x) r (subst (λ p. PhaseStands plan inputs p v.phase (replica_in x)) named here.1.phase_stands) running
 
 pub merges_in_order : (core : CoreView) → IsCore core → MergesInOrder core
 merges_in_order core is stage part which has v r e running =

@@ -44,42 +44,42 @@ use Rattle.flux_core.specs.declared.asked.Asked.TheVariants as asked
 use Rattle.flux_core.specs.declared.error.ApplyError.{ApplyError}
 use Rattle.flux_core.specs.declared.error.ApplyError.TheVariants as error
 
-module _ (plan : PlanView) (rows : List Input) where
+module _ (plan : PlanView) (inputs : List Input) where
   -- ---- the producer's end
 
   -- the machine's buffer is the producer's, and what this keeps are items of the edge
   pub record Buffered (p : ProducerView) (t : ℕ) (o : Option machine.Buffer) (edge : EdgeId) : Type 0 where
     pub numbers : o ≡ Some (record { low = (buffer_at p t).low; produced = (buffer_at p t).produced })
-    pub item : (k : ℕ) (i : Item) → buffer.item_at (buffer_at p t) k ≡ Some i → item_at (items_on plan rows edge) k ≡ Some i
+    pub item : (k : ℕ) (i : Item) → buffer.item_at (buffer_at p t) k ≡ Some i → item_at (items_on plan inputs edge) k ≡ Some i
 
-  by_edge : (made low : ℕ) (cursors : ℕ → ℕ) (p : ProducerView) (t : ℕ) (edge : EdgeId) → EdgeStands (items_on plan rows edge) made low cursors (edge_at p t)
+  by_edge : (made low : ℕ) (cursors : ℕ → ℕ) (p : ProducerView) (t : ℕ) (edge : EdgeId) → EdgeStands (items_on plan inputs edge) made low cursors (edge_at p t)
       → Buffered p t (Some (record { low = low; produced = made })) edge
   by_edge made low cursors p t edge h = record {
     numbers = λ j. Some (record { low = sym h.low j; produced = sym h.produced j });
-    item = λ k i e. held_is (items_on plan rows edge) made low cursors (edge_at p t) k i h e;
+    item = λ k i e. held_is (items_on plan inputs edge) made low cursors (edge_at p t) k i h e;
   }
 
-  pub ingress_buffered : (i : IngressView) (n : Node) (q t : ℕ) → ingress.StandsFor plan rows i n → q < length i.producers → t < length (producer_at i q).edges
-      → Buffered (producer_at i q) t (buffer_of (flow_of plan rows) q t node.Ingress n) (ingress_edge q t)
+  pub ingress_buffered : (i : IngressView) (n : Node) (q t : ℕ) → ingress.StandsFor plan inputs i n → q < length i.producers → t < length (producer_at i q).edges
+      → Buffered (producer_at i q) t (buffer_of (flow_of plan inputs) q t node.Ingress n) (ingress_edge q t)
   ingress_buffered i n q t h l m =
       let p = h.producers q (subst (λ k. q < k) h.sources l) in
-      by_edge (source_made (flow_of plan rows) (ingress_in n) q t) (((ingress_in n).producers q).lows t) (((ingress_in n).producers q).cursors t) (producer_at i q) t (ingress_edge q t)
+      by_edge (source_made (flow_of plan inputs) (ingress_in n) q t) (((ingress_in n).producers q).lows t) (((ingress_in n).producers q).cursors t) (producer_at i q) t (ingress_edge q t)
       (p.edges t (subst (λ k. t < k) p.targets m))
 
-  phase_buffered : (p : Partition) (f : Phase) (x : Replica) (y : ProducerView) (t : ℕ) → PhaseStands plan rows p f x → option_map (λ r. r.producer) (running_in f) ≡ Some y → t < length y.edges
-      → Buffered y t (machine.buffer_in (flow_of plan rows) p t x) (out_edge p t)
+  phase_buffered : (p : Partition) (f : Phase) (x : Replica) (y : ProducerView) (t : ℕ) → PhaseStands plan inputs p f x → option_map (λ r. r.producer) (running_in f) ≡ Some y → t < length y.edges
+      → Buffered y t (machine.buffer_in (flow_of plan inputs) p t x) (out_edge p t)
   unfolding flow_of
   phase_buffered p (phase.Running r) (Running x) y t h e l =
       let same : r.producer ≡ y = ap (λ o. unwrap_or o y) e in
       let at = h.producer.edges t (subst (λ k. t < k) h.producer.targets (subst (λ z. t < length z.edges) (sym same) l)) in
-      subst (λ z. Buffered z t (machine.buffer_in (flow_of plan rows) p t (Running x)) (out_edge p t)) same
-      (by_edge (made_on plan rows (out_edge p t) x.consumer.count) (x.producer.lows t) (x.producer.cursors t) r.producer t (out_edge p t) at)
+      subst (λ z. Buffered z t (machine.buffer_in (flow_of plan inputs) p t (Running x)) (out_edge p t)) same
+      (by_edge (made_on plan inputs (out_edge p t) x.consumer.count) (x.producer.lows t) (x.producer.cursors t) r.producer t (out_edge p t) at)
   phase_buffered p (phase.Running r) (Gathering g) y t h e l = absurd h
   phase_buffered p (phase.Running r) (Gone i) y t h e l = absurd h
   phase_buffered p (phase.Gathering g) x y t h e l = let z : ⊥ = cc e in absurd z
   phase_buffered p (phase.Gone i) x y t h e l = let z : ⊥ = cc e in absurd z
 
-  phase_unbuffered : (p : Partition) (f : Phase) (x : Replica) (t : ℕ) → PhaseStands plan rows p f x → option_map (λ r. r.producer) (running_in f) ≡ None → machine.buffer_in (flow_of plan rows) p t x ≡ None
+  phase_unbuffered : (p : Partition) (f : Phase) (x : Replica) (t : ℕ) → PhaseStands plan inputs p f x → option_map (λ r. r.producer) (running_in f) ≡ None → machine.buffer_in (flow_of plan inputs) p t x ≡ None
   phase_unbuffered p (phase.Running r) x t h e = let z : ⊥ = cc e in absurd z
   phase_unbuffered p (phase.Gathering g) (Running x) t h e = absurd h
   phase_unbuffered p (phase.Gathering g) (Gathering x) t h e = refl
@@ -90,7 +90,7 @@ module _ (plan : PlanView) (rows : List Input) where
 
   -- ---- the consumer's end
 
-  phase_marked : (p : Partition) (f : Phase) (x : Replica) (c : ConsumerView) (q : ℕ) → PhaseStands plan rows p f x → option_map (λ r. r.consumer) (running_in f) ≡ Some c → q < length c.merge.marks
+  phase_marked : (p : Partition) (f : Phase) (x : Replica) (c : ConsumerView) (q : ℕ) → PhaseStands plan inputs p f x → option_map (λ r. r.consumer) (running_in f) ≡ Some c → q < length c.merge.marks
       → machine.mark_in q x ≡ Some (mark_of c.merge q)
   phase_marked p (phase.Running r) (Running x) c q h e l =
       let same : r.consumer ≡ c = ap (λ o. unwrap_or o c) e in
@@ -101,7 +101,7 @@ module _ (plan : PlanView) (rows : List Input) where
   phase_marked p (phase.Gathering g) x c q h e l = let z : ⊥ = cc e in absurd z
   phase_marked p (phase.Gone i) x c q h e l = let z : ⊥ = cc e in absurd z
 
-  phase_unmarked : (p : Partition) (f : Phase) (x : Replica) (q : ℕ) → PhaseStands plan rows p f x → option_map (λ r. r.consumer) (running_in f) ≡ None → machine.mark_in q x ≡ None
+  phase_unmarked : (p : Partition) (f : Phase) (x : Replica) (q : ℕ) → PhaseStands plan inputs p f x → option_map (λ r. r.consumer) (running_in f) ≡ None → machine.mark_in q x ≡ None
   phase_unmarked p (phase.Running r) x q h e = let z : ⊥ = cc e in absurd z
   phase_unmarked p (phase.Gathering g) (Running x) q h e = absurd h
   phase_unmarked p (phase.Gathering g) (Gathering x) q h e = refl
@@ -110,7 +110,7 @@ module _ (plan : PlanView) (rows : List Input) where
   phase_unmarked p (phase.Gone i) (Gathering x) q h e = refl
   phase_unmarked p (phase.Gone i) (Gone j) q h e = refl
 
-  pub marked : (n : NodeId) (c : Option NodeState) (x : Node) (k : ConsumerView) (q : ℕ) → ContentStands plan rows n c x → consumer_in c ≡ Some k → q < length k.merge.marks → machine.mark_of q n x ≡ Some (mark_of k.merge q)
+  pub marked : (n : NodeId) (c : Option NodeState) (x : Node) (k : ConsumerView) (q : ℕ) → ContentStands plan inputs n c x → consumer_in c ≡ Some k → q < length k.merge.marks → machine.mark_of q n x ≡ Some (mark_of k.merge q)
   marked n (Some (state.Ingress i)) x k q h e l = let z : ⊥ = cc e in absurd z
   marked n (Some (state.Replica v)) x k q h e l = subst (λ m. machine.mark_of q m x ≡ Some (mark_of k.merge q)) h.0 (phase_marked (partition_of v.role) v.phase (replica_in x) k q h.1.phase_stands e l)
   marked n (Some (state.Control c)) x k q h e l = let z : ⊥ = cc e in absurd z
@@ -120,7 +120,7 @@ module _ (plan : PlanView) (rows : List Input) where
       subst (λ m. machine.mark_of q m x ≡ Some (mark_of k.merge q)) h.0 (ap Some (sym (h.1.consumer.marks q within) ∙ ap (λ z. mark_of z.merge q) same))
   marked n None x k q h e l = absurd h
 
-  pub unmarked : (n : NodeId) (c : Option NodeState) (x : Node) (q : ℕ) → ContentStands plan rows n c x → consumer_in c ≡ None → machine.mark_of q n x ≡ None
+  pub unmarked : (n : NodeId) (c : Option NodeState) (x : Node) (q : ℕ) → ContentStands plan inputs n c x → consumer_in c ≡ None → machine.mark_of q n x ≡ None
   unmarked n (Some (state.Ingress i)) x q h e = subst (λ m. machine.mark_of q m x ≡ None) h.0 refl
   unmarked n (Some (state.Replica v)) x q h e = subst (λ m. machine.mark_of q m x ≡ None) h.0 (phase_unmarked (partition_of v.role) v.phase (replica_in x) q h.1.phase_stands e)
   unmarked n (Some (state.Control c)) x q h e = subst (λ m. machine.mark_of q m x ≡ None) h.0 refl
@@ -136,28 +136,28 @@ module _ (plan : PlanView) (rows : List Input) where
   edge_from (node.Control s p) q t = ingress_edge q t
   edge_from node.Egress q t = ingress_edge q t
 
-  pub buffered : (n : NodeId) (c : Option NodeState) (x : Node) (p : ProducerView) (q t : ℕ) → ContentStands plan rows n c x → ((i : IngressView) → c ≡ Some (state.Ingress i) → q < length i.producers) → producer_in c q ≡ Some p → t < length p.edges
-      → Buffered p t (buffer_of (flow_of plan rows) q t n x) (edge_from n q t)
+  pub buffered : (n : NodeId) (c : Option NodeState) (x : Node) (p : ProducerView) (q t : ℕ) → ContentStands plan inputs n c x → ((i : IngressView) → c ≡ Some (state.Ingress i) → q < length i.producers) → producer_in c q ≡ Some p → t < length p.edges
+      → Buffered p t (buffer_of (flow_of plan inputs) q t n x) (edge_from n q t)
   buffered n (Some (state.Ingress i)) x p q t h few e l =
       let same : producer_at i q ≡ p = ap (λ o. unwrap_or o p) e in
-      subst (λ m. Buffered p t (buffer_of (flow_of plan rows) q t m x) (edge_from m q t)) h.0
-      (subst (λ y. Buffered y t (buffer_of (flow_of plan rows) q t node.Ingress x) (ingress_edge q t)) same (ingress_buffered i x q t h.1 (few i refl) (subst (λ y. t < length y.edges) (sym same) l)))
+      subst (λ m. Buffered p t (buffer_of (flow_of plan inputs) q t m x) (edge_from m q t)) h.0
+      (subst (λ y. Buffered y t (buffer_of (flow_of plan inputs) q t node.Ingress x) (ingress_edge q t)) same (ingress_buffered i x q t h.1 (few i refl) (subst (λ y. t < length y.edges) (sym same) l)))
   buffered n (Some (state.Replica v)) x p q t h few e l =
-      subst (λ m. Buffered p t (buffer_of (flow_of plan rows) q t m x) (edge_from m q t)) h.0 (phase_buffered (partition_of v.role) v.phase (replica_in x) p t h.1.phase_stands e l)
+      subst (λ m. Buffered p t (buffer_of (flow_of plan inputs) q t m x) (edge_from m q t)) h.0 (phase_buffered (partition_of v.role) v.phase (replica_in x) p t h.1.phase_stands e l)
   buffered n (Some (state.Control c)) x p q t h few e l = let z : ⊥ = cc e in absurd z
   buffered n (Some (state.Egress g)) x p q t h few e l = let z : ⊥ = cc e in absurd z
   buffered n None x p q t h few e l = absurd h
 
-  pub unbuffered : (n : NodeId) (c : Option NodeState) (x : Node) (q t : ℕ) → ContentStands plan rows n c x → producer_in c q ≡ None → buffer_of (flow_of plan rows) q t n x ≡ None
+  pub unbuffered : (n : NodeId) (c : Option NodeState) (x : Node) (q t : ℕ) → ContentStands plan inputs n c x → producer_in c q ≡ None → buffer_of (flow_of plan inputs) q t n x ≡ None
   unbuffered n (Some (state.Ingress i)) x q t h e = let z : ⊥ = cc e in absurd z
-  unbuffered n (Some (state.Replica v)) x q t h e = subst (λ m. buffer_of (flow_of plan rows) q t m x ≡ None) h.0 (phase_unbuffered (partition_of v.role) v.phase (replica_in x) t h.1.phase_stands e)
-  unbuffered n (Some (state.Control c)) x q t h e = subst (λ m. buffer_of (flow_of plan rows) q t m x ≡ None) h.0 refl
-  unbuffered n (Some (state.Egress g)) x q t h e = subst (λ m. buffer_of (flow_of plan rows) q t m x ≡ None) h.0 refl
+  unbuffered n (Some (state.Replica v)) x q t h e = subst (λ m. buffer_of (flow_of plan inputs) q t m x ≡ None) h.0 (phase_unbuffered (partition_of v.role) v.phase (replica_in x) t h.1.phase_stands e)
+  unbuffered n (Some (state.Control c)) x q t h e = subst (λ m. buffer_of (flow_of plan inputs) q t m x ≡ None) h.0 refl
+  unbuffered n (Some (state.Egress g)) x q t h e = subst (λ m. buffer_of (flow_of plan inputs) q t m x ≡ None) h.0 refl
   unbuffered n None x q t h e = absurd h
 
   -- ---- the edge between the two
 
-  between : (from to : NodeId) (q : ℕ) → HasEdge (flow_of plan rows) from to → ((s p : ℕ) (w : Which) → from ≡ node.Replica s p w → q ≡ p) → in_edge (merges_at plan rows to) q ≡ edge_from from q (part_of to)
+  between : (from to : NodeId) (q : ℕ) → HasEdge (flow_of plan inputs) from to → ((s p : ℕ) (w : Which) → from ≡ node.Replica s p w → q ≡ p) → in_edge (merges_at plan inputs to) q ≡ edge_from from q (part_of to)
   unfolding flow_of
   between from node.Ingress q e same = absurd e.2
   between from (node.Control s p) q e same = absurd e.2
@@ -178,26 +178,26 @@ first_none : (test : ℕ → Bool) → ((q : ℕ) → test q ≡ false) → (n :
 first_none test h zero = refl
 first_none test h (suc n) = λ j. option_or (first_none test h n j) (if h n j then Some n else None)
 
-module _ (plan : PlanView) (rows : List Input) (i : IngressView) (x : Node) (to : NodeId) (c : Option NodeState) (y : Node) (stands : ingress.StandsFor plan rows i x) (at : ContentStands plan rows to c y) where
+module _ (plan : PlanView) (inputs : List Input) (i : IngressView) (x : Node) (to : NodeId) (c : Option NodeState) (y : Node) (stands : ingress.StandsFor plan inputs i x) (at : ContentStands plan inputs to c y) where
   abbrev test : ℕ → Bool
-  test q = is_behind (machine.mark_of q to y) (source_made (flow_of plan rows) (ingress_in x) q (part_of to))
+  test q = is_behind (machine.mark_of q to y) (source_made (flow_of plan inputs) (ingress_in x) q (part_of to))
 
   none_ahead : consumer_in c ≡ None → (q : ℕ) → test q ≡ false
-  none_ahead e q = ap (λ m. is_behind m (source_made (flow_of plan rows) (ingress_in x) q (part_of to))) (unmarked plan rows to c y q at e)
+  none_ahead e q = ap (λ m. is_behind m (source_made (flow_of plan inputs) (ingress_in x) q (part_of to))) (unmarked plan inputs to c y q at e)
 
   first_test : (k : ConsumerView) → consumer_in c ≡ Some k → IsOfTwo i (part_of to) k 0 ⊎ IsOfTwo i (part_of to) k 1 → test 0 ≡ nat_lt (mark_of k.merge 0) (buffer_at (producer_at i 0) (part_of to)).produced
   first_test k e two =
       let z = either_two two in
-      let mark = marked plan rows to c y k 0 at e z.1 in
-      let made = ingress_buffered plan rows i x 0 (part_of to) stands z.2 z.0 in
-      let made_is : source_made (flow_of plan rows) (ingress_in x) 0 (part_of to) ≡ (buffer_at (producer_at i 0) (part_of to)).produced = ap (λ o. (unwrap_or {T = machine.Buffer} o (record { low = 0; produced = 0 })).produced) made.numbers in
+      let mark = marked plan inputs to c y k 0 at e z.1 in
+      let made = ingress_buffered plan inputs i x 0 (part_of to) stands z.2 z.0 in
+      let made_is : source_made (flow_of plan inputs) (ingress_in x) 0 (part_of to) ≡ (buffer_at (producer_at i 0) (part_of to)).produced = ap (λ o. (unwrap_or {T = machine.Buffer} o (record { low = 0; produced = 0 })).produced) made.numbers in
       (λ j. is_behind (mark j) (made_is j))
     where
       either_two : IsOfTwo i (part_of to) k 0 ⊎ IsOfTwo i (part_of to) k 1 → (part_of to < length (producer_at i 0).edges) × (0 < length k.merge.marks) × (0 < length i.producers)
       either_two (inl h) = (h.target, h.source, omega (arith, h.two))
       either_two (inr h) = (h.target, h.source, omega (arith, h.two))
 
-  pub source_of : IsPlan plan → (o : Option ConsumerView) → consumer_in c ≡ o → (q : ℕ) → IsNextSource i (part_of to) o q → pulled_source (flow_of plan rows) (ingress_in x) to y ≡ q
+  pub source_of : IsPlan plan → (o : Option ConsumerView) → consumer_in c ≡ o → (q : ℕ) → IsNextSource i (part_of to) o q → pulled_source (flow_of plan inputs) (ingress_in x) to y ≡ q
   unfolding flow_of
   source_of p None e q h =
       let many = stands.sources in
@@ -253,24 +253,24 @@ pull_lost q low mark produced h = go (nat_le low mark) (nat_lt mark produced) re
     go true false x y = refl
     go false b x y = refl
 
-module _ (plan : PlanView) (rows : List Input) (s : State) (from to : NodeId) (cf ct : Option NodeState) (here : ContentStands plan rows from cf (s.nodes from)) (there_to : ContentStands plan rows to ct (s.nodes to))
-    (edge : HasEdge (flow_of plan rows) from to) (q : ℕ) (source : source_pulled (flow_of plan rows) from (s.nodes from) to (s.nodes to) ≡ q)
+module _ (plan : PlanView) (inputs : List Input) (s : State) (from to : NodeId) (cf ct : Option NodeState) (here : ContentStands plan inputs from cf (s.nodes from)) (there_to : ContentStands plan inputs to ct (s.nodes to))
+    (edge : HasEdge (flow_of plan inputs) from to) (q : ℕ) (source : source_pulled (flow_of plan inputs) from (s.nodes from) to (s.nodes to) ≡ q)
     (few : (i : IngressView) → cf ≡ Some (state.Ingress i) → q < length i.producers) (same : (st p : ℕ) (w : Which) → from ≡ node.Replica st p w → q ≡ p) where
-  act_at : (o : Option machine.Buffer) (m : Option ℕ) → buffer_of (flow_of plan rows) q (part_of to) from (s.nodes from) ≡ o → machine.mark_of q to (s.nodes to) ≡ m → act_of (flow_of plan rows) s (event.Pull from to) ≡ pull_of q o m
-  act_at o m e k = ap (λ j. pull_of j (buffer_of (flow_of plan rows) j (part_of to) from (s.nodes from)) (machine.mark_of j to (s.nodes to))) source ∙ (λ j. pull_of q (e j) (k j))
+  act_at : (o : Option machine.Buffer) (m : Option ℕ) → buffer_of (flow_of plan inputs) q (part_of to) from (s.nodes from) ≡ o → machine.mark_of q to (s.nodes to) ≡ m → act_of (flow_of plan inputs) s (event.Pull from to) ≡ pull_of q o m
+  act_at o m e k = ap (λ j. pull_of j (buffer_of (flow_of plan inputs) j (part_of to) from (s.nodes from)) (machine.mark_of j to (s.nodes to))) source ∙ (λ j. pull_of q (e j) (k j))
 
   pub pull_asked : (op : Option ProducerView) (oc : Option ConsumerView) → producer_in cf q ≡ op → consumer_in ct ≡ oc → (t : Asked) → IsPullOf op (part_of to) oc q t
-      → (a : Act) × (act_of (flow_of plan rows) s (event.Pull from to) ≡ Ok a) × IsActOf plan rows to t (s.nodes to) a
+      → (a : Act) × (act_of (flow_of plan inputs) s (event.Pull from to) ≡ Ok a) × IsActOf plan inputs to t (s.nodes to) a
   pull_asked (Some p) (Some c) ep ec (asked.Pull k i) h =
-      let b = buffered plan rows from cf (s.nodes from) p q (part_of to) here few ep h.1 in
-      let m = marked plan rows to ct (s.nodes to) c q there_to ec h.2 in
+      let b = buffered plan inputs from cf (s.nodes from) p q (part_of to) here few ep h.1 in
+      let m = marked plan inputs to ct (s.nodes to) c q there_to ec h.2 in
       let mark = mark_of c.merge q in
-      let item : item_at (items_on plan rows (in_edge (merges_at plan rows to) q)) (mark + 1) ≡ Some i =
-      subst (λ e. item_at (items_on plan rows e) (mark + 1) ≡ Some i) (sym (between plan rows from to q edge same)) (b.item (mark + 1) i h.3.item) in
-      let next : IsNextAt plan rows to q i (machine.mark_of q to (s.nodes to)) = subst (IsNextAt plan rows to q i) (sym m) item in (
+      let item : item_at (items_on plan inputs (in_edge (merges_at plan inputs to) q)) (mark + 1) ≡ Some i =
+      subst (λ e. item_at (items_on plan inputs e) (mark + 1) ≡ Some i) (sym (between plan inputs from to q edge same)) (b.item (mark + 1) i h.3.item) in
+      let next : IsNextAt plan inputs to q i (machine.mark_of q to (s.nodes to)) = subst (IsNextAt plan inputs to q i) (sym m) item in (
         Pulls q,
         act_at _ _ b.numbers m ∙ pull_kept q (buffer_at p (part_of to)).low mark (buffer_at p (part_of to)).produced h.3.low h.3.produced,
-        subst (λ j. (Pulls q ≡ Pulls j) × IsNextAt plan rows to j i (machine.mark_of j to (s.nodes to))) (sym h.0) (refl, next),
+        subst (λ j. (Pulls q ≡ Pulls j) × IsNextAt plan inputs to j i (machine.mark_of j to (s.nodes to))) (sym h.0) (refl, next),
       )
   pull_asked (Some p) (Some c) ep ec (asked.Task t) h = absurd h
   pull_asked None oc ep ec t h = absurd (no_producer oc t h)
@@ -283,15 +283,15 @@ module _ (plan : PlanView) (rows : List Input) (s : State) (from to : NodeId) (c
       no_consumer t h = h
 
   pub pull_refused : (op : Option ProducerView) (oc : Option ConsumerView) → producer_in cf q ≡ op → consumer_in ct ≡ oc → (x : ApplyError) → IsNoPull op (part_of to) oc q x
-      → IsRefusal (act_of (flow_of plan rows) s (event.Pull from to)) x
+      → IsRefusal (act_of (flow_of plan inputs) s (event.Pull from to)) x
   pull_refused op oc ep ec error.OutOfMemory h = tt
-  pull_refused None oc ep ec error.NotRunning h = act_at None (machine.mark_of q to (s.nodes to)) (unbuffered plan rows from cf (s.nodes from) q (part_of to) here ep) refl
+  pull_refused None oc ep ec error.NotRunning h = act_at None (machine.mark_of q to (s.nodes to)) (unbuffered plan inputs from cf (s.nodes from) q (part_of to) here ep) refl
   pull_refused (Some p) None ep ec error.NotRunning h =
-      act_at (buffer_of (flow_of plan rows) q (part_of to) from (s.nodes from)) None refl (unmarked plan rows to ct (s.nodes to) q there_to ec) ∙ pull_none q (buffer_of (flow_of plan rows) q (part_of to) from (s.nodes from))
+      act_at (buffer_of (flow_of plan inputs) q (part_of to) from (s.nodes from)) None refl (unmarked plan inputs to ct (s.nodes to) q there_to ec) ∙ pull_none q (buffer_of (flow_of plan inputs) q (part_of to) from (s.nodes from))
   pull_refused (Some p) (Some c) ep ec error.NotRunning h = absurd h
   pull_refused (Some p) (Some c) ep ec (error.NotHeld low mark produced) h =
-      let b = buffered plan rows from cf (s.nodes from) p q (part_of to) here few ep h.0 in
-      let m = marked plan rows to ct (s.nodes to) c q there_to ec h.1 in
+      let b = buffered plan inputs from cf (s.nodes from) p q (part_of to) here few ep h.0 in
+      let m = marked plan inputs to ct (s.nodes to) c q there_to ec h.1 in
       let lost = pull_lost q low mark produced h.5 in
       act_at _ _ b.numbers m ∙ (λ j. pull_of q (Some (record { low = sym h.2 j; produced = sym h.4 j })) (Some (sym h.3 j))) ∙ lost
   pull_refused None oc ep ec (error.NotHeld low mark produced) h = absurd h

@@ -68,27 +68,27 @@ may_asks f s e a there (inr free) done = (free.1.within (at_node e), free_asks f
 
 -- ---- the next state
 
-module _ (plan : PlanView) (rows : List Input) where
-  content_changed : (b : Bool) (m n : NodeId) (old new : Option NodeState) (x y : Node) → (b ≡ true → (m ≡ n) × ContentStands plan rows n new y)
-      → (b ≡ false → new ≡ old) → ContentStands plan rows m old x → ContentStands plan rows m new (if b then y else x)
-  content_changed true m n old new x y here elsewhere h = let z = here refl in subst (λ k. ContentStands plan rows k new y) (sym z.0) z.1
-  content_changed false m n old new x y here elsewhere h = subst (λ c. ContentStands plan rows m c x) (sym (elsewhere refl)) h
+module _ (plan : PlanView) (inputs : List Input) where
+  content_changed : (b : Bool) (m n : NodeId) (old new : Option NodeState) (x y : Node) → (b ≡ true → (m ≡ n) × ContentStands plan inputs n new y)
+      → (b ≡ false → new ≡ old) → ContentStands plan inputs m old x → ContentStands plan inputs m new (if b then y else x)
+  content_changed true m n old new x y here elsewhere h = let z = here refl in subst (λ k. ContentStands plan inputs k new y) (sym z.0) z.1
+  content_changed false m n old new x y here elsewhere h = subst (λ c. ContentStands plan inputs m c x) (sym (elsewhere refl)) h
 
-  sent_changed : (b : Bool) (m : NodeId) (old new more : Log) (sent out : NodeId → List Message) → (b ≡ true → (new ≡ old ++ more) × PacketsStand plan rows m more out)
-      → (b ≡ false → new ≡ old) → PacketsStand plan rows m old sent → PacketsStand plan rows m new (λ to. if b then sent to ++ out to else sent to)
+  sent_changed : (b : Bool) (m : NodeId) (old new more : Log) (sent out : NodeId → List Message) → (b ≡ true → (new ≡ old ++ more) × PacketsStand plan inputs m more out)
+      → (b ≡ false → new ≡ old) → PacketsStand plan inputs m old sent → PacketsStand plan inputs m new (λ to. if b then sent to ++ out to else sent to)
   sent_changed true m old new more sent out here elsewhere h =
       let z = here refl in
-      λ to. let R = BodyStands plan rows (link m to) in
+      λ to. let R = BodyStands plan inputs (link m to) in
       subst (λ bodies. Pairwise R bodies (sent to ++ out to)) (sym (ap (bodies_to to) z.0 ∙ bodies-append to old more)) (pairwise-append R (bodies_to to old) (sent to) (bodies_to to more) (out to) (h to) (z.1 to))
-  sent_changed false m old new more sent out here elsewhere h = λ to. subst (λ log. Pairwise (BodyStands plan rows (link m to)) (bodies_to to log) (sent to)) (sym (elsewhere refl)) (h to)
+  sent_changed false m old new more sent out here elsewhere h = λ to. subst (λ log. Pairwise (BodyStands plan inputs (link m to)) (bodies_to to log) (sent to)) (sym (elsewhere refl)) (h to)
 
   -- what a node does under its own name it does under any that is the same
-  acts_here : (n : NodeId) (t : Asked) (old new : NodeState) (sent : Log) → id_of old ≡ n → id_of new ≡ id_of old → ActsSo plan t old new sent → IsPlan plan → AreTimely rows → (x : Node) (a : Act) → IsActOf plan rows n t x a
-      → ContentStands plan rows n (Some old) x → Asks (flow_of plan rows) n x a
-      → (d : Node × List Envelope) × (does (flow_of plan rows) n a x ≡ Ok d) × ContentStands plan rows n (Some new) d.0 × PacketsStand plan rows n sent (λ to. messages_to to d.1)
+  acts_here : (n : NodeId) (t : Asked) (old new : NodeState) (sent : Log) → id_of old ≡ n → id_of new ≡ id_of old → ActsSo plan t old new sent → IsPlan plan → AreTimely inputs → (x : Node) (a : Act) → IsActOf plan inputs n t x a
+      → ContentStands plan inputs n (Some old) x → Asks (flow_of plan inputs) n x a
+      → (d : Node × List Envelope) × (does (flow_of plan inputs) n a x ≡ Ok d) × ContentStands plan inputs n (Some new) d.0 × PacketsStand plan inputs n sent (λ to. messages_to to d.1)
   acts_here n t old new sent named same acts p timely x a is stands asks =
-      let z = acts rows p timely x a (subst (λ k. IsActOf plan rows k t x a) (sym named) is) stands.1 (subst (λ k. Asks (flow_of plan rows) k x a) (sym named) asks) in
-      (z.0, subst (λ k. does (flow_of plan rows) k a x ≡ Ok z.0) named z.1, (same ∙ named, z.2), subst (λ k. PacketsStand plan rows k sent (λ to. messages_to to z.0.1)) named z.3)
+      let z = acts inputs p timely x a (subst (λ k. IsActOf plan inputs k t x a) (sym named) is) stands.1 (subst (λ k. Asks (flow_of plan inputs) k x a) (sym named) asks) in
+      (z.0, subst (λ k. does (flow_of plan inputs) k a x ≡ Ok z.0) named z.1, (same ∙ named, z.2), subst (λ k. PacketsStand plan inputs k sent (λ to. messages_to to z.0.1)) named z.3)
 
 -- the node did the task of an event at it: then the machine's step is one, and the core stands for the state after it
 pub stepped : (old new : CoreView) (t : Asked) (e : Event) → IsPlan old.plan → AreTimely (inputs_of old) → HasNode (flow_in old) (at_node e) → HasChanged (at_node e) t old new
@@ -107,16 +107,16 @@ stepped old new t e p timely has h s stands a act is asks =
     let stands_now : ContentStands plan rows n (station new n).content d.0.0 = subst (λ (at : Standing). ContentStands plan rows n at.content d.0.0) (sym h.now) d.2 in
     let log : (station new n).sent ≡ (station old n).sent ++ sent = ap (λ (at : Standing). at.sent) h.now ∙ h.acted.noted ∙ ap (λ (at : Standing). at.sent ++ sent) (sym h.was) in
     let Good : PlanView → List Input → Type 0 = λ P I. (m : NodeId) → HasNode (flow_of P I) m → StationStands P I m (station new m) u in
-    let good : Good plan rows = λ m has_m.
+    let good : Good plan inputs = λ m has_m.
     let before = stands m has_m in
     let same : is_node m n ≡ true → m ≡ n = is_node-true m n in
     let apart : is_node m n ≡ false → station new m ≡ station old m = λ b. h.others m (λ eq. let z : true ≡ false = sym (ap (λ k. is_node k n) eq ∙ node_self n) ∙ b in absurd (true≢false z)) in
     record {
-      content = content_changed plan rows (is_node m n) m n (station old m).content (station new m).content (s.nodes m) d.0.0
-          (λ b. (same b, subst (λ k. ContentStands plan rows n (station new k).content d.0.0) (sym (same b)) stands_now))
+      content = content_changed plan inputs (is_node m n) m n (station old m).content (station new m).content (s.nodes m) d.0.0
+          (λ b. (same b, subst (λ k. ContentStands plan inputs n (station new k).content d.0.0) (sym (same b)) stands_now))
           (λ b. ap (λ (at : Standing). at.content) (apart b)) before.content;
-      sent = sent_changed plan rows (is_node m n) m (station old m).sent (station new m).sent sent (λ to. s.sent (link m to)) (λ to. messages_to to d.0.1)
-          (λ b. (subst (λ k. (station new k).sent ≡ (station old k).sent ++ sent) (sym (same b)) log, subst (λ k. PacketsStand plan rows k sent (λ to. messages_to to d.0.1)) (sym (same b)) d.3))
+      sent = sent_changed plan inputs (is_node m n) m (station old m).sent (station new m).sent sent (λ to. s.sent (link m to)) (λ to. messages_to to d.0.1)
+          (λ b. (subst (λ k. (station new k).sent ≡ (station old k).sent ++ sent) (sym (same b)) log, subst (λ k. PacketsStand plan inputs k sent (λ to. messages_to to d.0.1)) (sym (same b)) d.3))
           (λ b. ap (λ (at : Standing). at.sent) (apart b)) before.sent;
     } in
     (u, done, subst (λ P. Good P (inputs_of new)) (sym h.plan) (subst (λ I. Good plan I) (sym (inputs_same n t old new h)) good))

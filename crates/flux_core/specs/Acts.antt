@@ -35,20 +35,20 @@ use Rattle.flux_core.specs.declared.asked.Asked.TheVariants as asked
 
 -- the partition of a node that merges
 abbrev pub merges_at : PlanView → List Input → NodeId → Partition
-merges_at plan rows node.Ingress = record { stage = 0; part = 0 }
-merges_at plan rows (node.Replica s p w) = record { stage = s; part = p }
-merges_at plan rows (node.Control s p) = record { stage = 0; part = 0 }
-merges_at plan rows node.Egress = egress_partition (flow_of plan rows)
+merges_at plan inputs node.Ingress = record { stage = 0; part = 0 }
+merges_at plan inputs (node.Replica s p w) = record { stage = s; part = p }
+merges_at plan inputs (node.Control s p) = record { stage = 0; part = 0 }
+merges_at plan inputs node.Egress = egress_partition (flow_of plan inputs)
 
 -- an item is the one after the node's mark on its in-edge from a source
 abbrev pub IsNextAt : PlanView → List Input → NodeId → ℕ → Item → Option ℕ → Type 0
-IsNextAt plan rows n q i None = ⊥
-IsNextAt plan rows n q i (Some mark) = item_at (items_on plan rows (in_edge (merges_at plan rows n) q)) (mark + 1) ≡ Some i
+IsNextAt plan inputs n q i None = ⊥
+IsNextAt plan inputs n q i (Some mark) = item_at (items_on plan inputs (in_edge (merges_at plan inputs n) q)) (mark + 1) ≡ Some i
 
 -- the machine's act that is asked for, at a node of these numbers
 abbrev pub IsActOf : PlanView → List Input → NodeId → Asked → Node → Act → Type 0
-IsActOf plan rows n (asked.Task t) x a = ActFor (flow_of plan rows) (BodyStands plan rows) (Asks (flow_of plan rows)) n (event_of n t) (packet_of t) a
-IsActOf plan rows n (asked.Pull q i) x a = (a ≡ Pulls q) × IsNextAt plan rows n q i (mark_of q n x)
+IsActOf plan inputs n (asked.Task t) x a = ActFor (flow_of plan inputs) (BodyStands plan inputs) (Asks (flow_of plan inputs)) n (event_of n t) (packet_of t) a
+IsActOf plan inputs n (asked.Pull q i) x a = (a ≡ Pulls q) × IsNextAt plan inputs n q i (mark_of q n x)
 
 -- the row of an item that is pulled has a time within the limits
 abbrev pub IsTimelyTask : Asked → Type 0
@@ -58,12 +58,12 @@ IsTimelyTask (asked.Task t) = Unit {0}
 -- The node did its part of the machine's step: whatever numbers it stood for, and whatever message the packet that it took stands for, it
 -- stands for the numbers after the act, and what it sent stands for the machine's messages.
 abbrev pub ActsSo : PlanView → Asked → NodeState → NodeState → Log → Type 0
-ActsSo plan t old new sent = (rows : List Input) → IsPlan plan → AreTimely rows → (x : Node) (a : Act) → IsActOf plan rows (id_of old) t x a → StandsFor plan rows old x → Asks (flow_of plan rows) (id_of old) x a
-    → (d : Node × List Envelope) × (does (flow_of plan rows) (id_of old) a x ≡ Ok d) × StandsFor plan rows new d.0 × PacketsStand plan rows (id_of old) sent (λ to. messages_to to d.1)
+ActsSo plan t old new sent = (inputs : List Input) → IsPlan plan → AreTimely inputs → (x : Node) (a : Act) → IsActOf plan inputs (id_of old) t x a → StandsFor plan inputs old x → Asks (flow_of plan inputs) (id_of old) x a
+    → (d : Node × List Envelope) × (does (flow_of plan inputs) (id_of old) a x ≡ Ok d) × StandsFor plan inputs new d.0 × PacketsStand plan inputs (id_of old) sent (λ to. messages_to to d.1)
 
 -- the machine refuses the act of a node to which all its inputs came, for this reason
 abbrev pub IsRefusedSo : PlanView → Asked → NodeState → ApplyError → Type 0
-IsRefusedSo plan t old e = AllCame old → (rows : List Input) → IsPlan plan → (x : Node) (a : Act) → IsActOf plan rows (id_of old) t x a → StandsFor plan rows old x → IsRefusal (does (flow_of plan rows) (id_of old) a x) e
+IsRefusedSo plan t old e = AllCame old → (inputs : List Input) → IsPlan plan → (x : Node) (a : Act) → IsActOf plan inputs (id_of old) t x a → StandsFor plan inputs old x → IsRefusal (does (flow_of plan inputs) (id_of old) a x) e
 
 -- What came of what was asked of a node, where packets may lie in its outbox: they stay, and what it sent lies behind them.
 pub record HasAnswered (old new : NodeState) (t : Asked) (result : Result (Unit {0}) ApplyError) (before after : Log) : Type 0 where

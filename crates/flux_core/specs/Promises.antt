@@ -27,10 +27,10 @@ EmitsAFront core = IsFrontOf (emitted_by core) (output core.plan (inputs_of core
 
 -- A replica that runs has merged so many items. Its operator's entries are those after just so many items of the partition's merged list, and of
 -- each edge these are the first items, each once and in order.
-pub record HasMergedInOrder (plan : PlanView) (rows : List Input) (p : Partition) (r : Running) : Type 0 where
-  pub entries : r.state.entries ≡ entries_after plan rows p r.consumer.merge.count
-  pub edges : (q : ℕ) → q < sources_of plan p.stage → items_from q (take r.consumer.merge.count (merged_at plan rows p.stage p.part))
-      ≡ take ((flow_of plan rows).used p q r.consumer.merge.count) (items_on plan rows (in_edge p q))
+pub record HasMergedInOrder (plan : PlanView) (inputs : List Input) (p : Partition) (r : Running) : Type 0 where
+  pub entries : r.state.entries ≡ entries_after plan inputs p r.consumer.merge.count
+  pub edges : (q : ℕ) → q < sources_of plan p.stage → items_from q (take r.consumer.merge.count (merged_at plan inputs p.stage p.part))
+      ≡ take ((flow_of plan inputs).used p q r.consumer.merge.count) (items_on plan inputs (in_edge p q))
 
 -- so has each replica of the plan that runs: no item of an edge was merged twice or out of order
 abbrev pub MergesInOrder : CoreView → Type 0

@@ -21,15 +21,15 @@ use Rattle.plan_nodes.specs.declared.state.NodeState.{NodeState}
 use Rattle.flux_core.specs.CoreView.{CoreView, HoldsAll, Log, Standing, flow_in, inputs_of, names_of, station}
 use Rattle.flux_core.specs.Sent.{bodies_to}
 
-module _ (plan : PlanView) (rows : List Input) where
+module _ (plan : PlanView) (inputs : List Input) where
   -- there is a node of this name, which stands for numbers
   abbrev pub ContentStands : NodeId → Option NodeState → Node → Type 0
   ContentStands n None x = ⊥
-  ContentStands n (Some s) x = (id_of s ≡ n) × nodes.StandsFor plan rows s x
+  ContentStands n (Some s) x = (id_of s ≡ n) × nodes.StandsFor plan inputs s x
 
   -- packets stand for the messages of their links
   abbrev pub PacketsStand : NodeId → Log → (NodeId → List Message) → Type 0
-  PacketsStand n packets messages = (to : NodeId) → Pairwise (BodyStands plan rows (link n to)) (bodies_to to packets) (messages to)
+  PacketsStand n packets messages = (to : NodeId) → Pairwise (BodyStands plan inputs (link n to)) (bodies_to to packets) (messages to)
 
   -- what stands under a name is that node, and stands with all that it sent for what a state has there
   pub record StationStands (n : NodeId) (at : Standing) (s : State) : Type 0 where

@@ -41,12 +41,12 @@ timely_at : (items : List Item) → All IsTimely items → (n : ℕ) (i : Item) 
 timely_at items all zero i e = let z : ⊥ = cc e in absurd z
 timely_at items all (suc n) i e = timely_of items all n i e
 
-module _ (plan : PlanView) (rows : List Input) where
-  stages_are : (flow_of plan rows).stages ≡ length plan.stages
+module _ (plan : PlanView) (inputs : List Input) where
+  stages_are : (flow_of plan inputs).stages ≡ length plan.stages
   unfolding flow_of
   stages_are = refl
 
-  sources_are : (s : ℕ) → (flow_of plan rows).sources s ≡ sources_of plan s
+  sources_are : (s : ℕ) → (flow_of plan inputs).sources s ≡ sources_of plan s
   unfolding flow_of
   sources_are s = refl
 
@@ -72,9 +72,9 @@ module _ (plan : PlanView) (rows : List Input) where
   none_across (node.Control s p) h = h
   none_across node.Egress h = h
 
-  tuple_admitted : IsPlan plan → All (λ input. IsTime input.row.time) rows → (e : EgressView) → e.stages ≡ length plan.stages → length e.consumer.merge.marks ≡ sources_of plan ((flow_of plan rows).stages + 1)
-      → (from : NodeId) → HasNode (flow_of plan rows) from → (edge named : EdgeId) (number at : ℕ) (i : Item) → Carries (flow_of plan rows) (link from node.Egress) (Tuple named at)
-      → edge ≡ named → number ≡ at → item_at (items_on plan rows named) at ≡ Some i → at < number_limit
+  tuple_admitted : IsPlan plan → All (λ input. IsTime input.row.time) inputs → (e : EgressView) → e.stages ≡ length plan.stages → length e.consumer.merge.marks ≡ sources_of plan ((flow_of plan inputs).stages + 1)
+      → (from : NodeId) → HasNode (flow_of plan inputs) from → (edge named : EdgeId) (number at : ℕ) (i : Item) → Carries (flow_of plan inputs) (link from node.Egress) (Tuple named at)
+      → edge ≡ named → number ≡ at → item_at (items_on plan inputs named) at ≡ Some i → at < number_limit
       → egress.IsAdmitted e from (body.Tuple edge number i)
   tuple_admitted is times e same edges (node.Replica s p w) there edge named number at i h at_edge at_number item small =
       let last = stages_are in
@@ -83,8 +83,8 @@ module _ (plan : PlanView) (rows : List Input) where
       let target = ap (λ (z : EdgeId). z.to) at_edge in
       let of_stage = h.0.1 in
       let of_last = h.1.0 in
-      let is_last : s ≡ (flow_of plan rows).stages = omega arith in
-      let part : p < sources_of plan ((flow_of plan rows).stages + 1) = subst (λ k. p < sources_of plan (k + 1)) is_last (subst (λ k. p < k) (sources_are (s + 1)) there.1) in
+      let is_last : s ≡ (flow_of plan inputs).stages = omega arith in
+      let part : p < sources_of plan ((flow_of plan inputs).stages + 1) = subst (λ k. p < sources_of plan (k + 1)) is_last (subst (λ k. p < k) (sources_are (s + 1)) there.1) in
       record {
         sender = (omega arith, omega arith);
         carried = (
@@ -92,7 +92,7 @@ module _ (plan : PlanView) (rows : List Input) where
           source ∙ h.0.2,
           target ∙ h.1.1,
           omega arith,
-          timely_at (items_on plan rows named) ((times_stay plan rows is times).edges named.stage named.from named.to) at i item,
+          timely_at (items_on plan inputs named) ((times_stay plan inputs is times).edges named.stage named.from named.to) at i item,
         );
       }
   tuple_admitted is times e same edges node.Ingress there edge named number at i h at_edge at_number item small =
@@ -100,7 +100,7 @@ module _ (plan : PlanView) (rows : List Input) where
   tuple_admitted is times e same edges (node.Control s p) there edge named number at i h at_edge at_number item small = absurd h.0
   tuple_admitted is times e same edges node.Egress there edge named number at i h at_edge at_number item small = absurd h.0
 
-  egress_link : (e : EgressView) → e.stages ≡ length plan.stages → IsPlan plan → (from : NodeId) → HasNode (flow_of plan rows) from → egress.IsFromLast e from → IsTrue (has_link plan (link from node.Egress))
+  egress_link : (e : EgressView) → e.stages ≡ length plan.stages → IsPlan plan → (from : NodeId) → HasNode (flow_of plan inputs) from → egress.IsFromLast e from → IsTrue (has_link plan (link from node.Egress))
   egress_link e same is (node.Replica s p w) there from =
       let last = stages_are in
       let z = from.0 in
@@ -112,8 +112,8 @@ module _ (plan : PlanView) (rows : List Input) where
   egress_link e same is (node.Control s p) there from = absurd from
   egress_link e same is node.Egress there from = absurd from
 
-  to_egress : IsPlan plan → All (λ input. IsTime input.row.time) rows → (e : EgressView) → e.stages ≡ length plan.stages → length e.consumer.merge.marks ≡ sources_of plan ((flow_of plan rows).stages + 1)
-      → (from : NodeId) → HasNode (flow_of plan rows) from → (b : Body) (m : Message) → Carries (flow_of plan rows) (link from node.Egress) m → BodyStands plan rows (link from node.Egress) b m → IsSmall m
+  to_egress : IsPlan plan → All (λ input. IsTime input.row.time) inputs → (e : EgressView) → e.stages ≡ length plan.stages → length e.consumer.merge.marks ≡ sources_of plan ((flow_of plan inputs).stages + 1)
+      → (from : NodeId) → HasNode (flow_of plan inputs) from → (b : Body) (m : Message) → Carries (flow_of plan inputs) (link from node.Egress) m → BodyStands plan inputs (link from node.Egress) b m → IsSmall m
       → egress.IsAdmitted e from b
   to_egress is times e same edges from there (body.Tuple edge number i) (Tuple named at) h st small = tuple_admitted is times e same edges from there edge named number at i h st.0 st.1 st.2 small
   to_egress is times e same edges from there (body.Ack edge k) (Ack named upto) h st small = absurd h.1
@@ -131,11 +131,11 @@ module _ (plan : PlanView) (rows : List Input) where
   to_egress is times e same edges from there (body.ChunkEnd i n) (ChunkEnd inc count numbers) h st small = absurd (none_across from h)
   to_egress is times e same edges from there b m h st small = absurd st
 
-  pub egress_admits : IsPlan plan → All (λ input. IsTime input.row.time) rows → (e : EgressView) (from : NodeId) (b : Body) (s : State) (m : Message) → IsSound (flow_of plan rows) s
-      → egress.StandsFor plan rows e (s.nodes node.Egress) → IsSmall m → Among m (s.sent (link from node.Egress)) → BodyStands plan rows (link from node.Egress) b m
+  pub egress_admits : IsPlan plan → All (λ input. IsTime input.row.time) inputs → (e : EgressView) (from : NodeId) (b : Body) (s : State) (m : Message) → IsSound (flow_of plan inputs) s
+      → egress.StandsFor plan inputs e (s.nodes node.Egress) → IsSmall m → Among m (s.sent (link from node.Egress)) → BodyStands plan inputs (link from node.Egress) b m
       → IsTrue (has_link plan (link from node.Egress)) × egress.IsAdmitted e from b
   egress_admits is times e from b s m sound stands small among st =
-      let f = flow_of plan rows in
+      let f = flow_of plan inputs in
       let l = link from node.Egress in
       let carried = each_at (Carries f l) m (s.sent l) among (sound.carried l) in
       let ends = each_at (λ k. HasNode f l.from × HasNode f l.to) m (s.sent l) among (sound.ends l) in
@@ -156,13 +156,13 @@ module _ (plan : PlanView) (rows : List Input) where
   no_across (node.Control s p) h = h
   no_across node.Egress h = h
 
-  first_part : (i : IngressView) → slice_get plan.stages 0 ≡ Some i.first → (s p : ℕ) → s ≡ 1 → p < (flow_of plan rows).sources (s + 1) → p < i.first.parts
+  first_part : (i : IngressView) → slice_get plan.stages 0 ≡ Some i.first → (s p : ℕ) → s ≡ 1 → p < (flow_of plan inputs).sources (s + 1) → p < i.first.parts
   first_part i first s p one l =
       let there : p < sources_of plan (1 + 1) = subst (λ k. p < sources_of plan (k + 1)) one (subst (λ k. p < k) (sources_are (s + 1)) l) in
       subst (λ k. p < k) (parts_at plan.stages 0 i.first first) there
 
-  ack_admitted : IsPlan plan → (i : IngressView) → slice_get plan.stages 0 ≡ Some i.first → length i.producers ≡ plan.version → (from : NodeId) → HasNode (flow_of plan rows) from
-      → (edge named : EdgeId) (k upto : ℕ) → Carries (flow_of plan rows) (link from node.Ingress) (Ack named upto) → edge ≡ named → k ≡ upto → upto < number_limit
+  ack_admitted : IsPlan plan → (i : IngressView) → slice_get plan.stages 0 ≡ Some i.first → length i.producers ≡ plan.version → (from : NodeId) → HasNode (flow_of plan inputs) from
+      → (edge named : EdgeId) (k upto : ℕ) → Carries (flow_of plan inputs) (link from node.Ingress) (Ack named upto) → edge ≡ named → k ≡ upto → upto < number_limit
       → ingress.IsAdmitted i from (body.Ack edge k)
   ack_admitted is i first many (node.Control s p) there edge named k upto h at_edge at small =
       let stage = ap (λ (z : EdgeId). z.stage) at_edge in
@@ -179,8 +179,8 @@ module _ (plan : PlanView) (rows : List Input) where
   ack_admitted is i first many node.Ingress there edge named k upto h at_edge at small = absurd h.0
   ack_admitted is i first many (node.Replica s p w) there edge named k upto h at_edge at small = absurd h.0
 
-  want_admitted : IsPlan plan → (i : IngressView) → slice_get plan.stages 0 ≡ Some i.first → length i.producers ≡ plan.version → (from : NodeId) → HasNode (flow_of plan rows) from
-      → (edge named : EdgeId) (k number : ℕ) → Carries (flow_of plan rows) (link from node.Ingress) (Want named number) → edge ≡ named
+  want_admitted : IsPlan plan → (i : IngressView) → slice_get plan.stages 0 ≡ Some i.first → length i.producers ≡ plan.version → (from : NodeId) → HasNode (flow_of plan inputs) from
+      → (edge named : EdgeId) (k number : ℕ) → Carries (flow_of plan inputs) (link from node.Ingress) (Want named number) → edge ≡ named
       → ingress.IsAdmitted i from (body.Want edge k)
   want_admitted is i first many (node.Replica s p w) there edge named k number h at_edge =
       let stage = ap (λ (z : EdgeId). z.stage) at_edge in
@@ -196,8 +196,8 @@ module _ (plan : PlanView) (rows : List Input) where
   want_admitted is i first many node.Ingress there edge named k number h at_edge = absurd h.0
   want_admitted is i first many (node.Control s p) there edge named k number h at_edge = absurd h.0
 
-  to_ingress : IsPlan plan → (i : IngressView) → slice_get plan.stages 0 ≡ Some i.first → length i.producers ≡ plan.version → (from : NodeId) → HasNode (flow_of plan rows) from
-      → (b : Body) (m : Message) → Carries (flow_of plan rows) (link from node.Ingress) m → BodyStands plan rows (link from node.Ingress) b m → IsSmall m → ingress.IsAdmitted i from b
+  to_ingress : IsPlan plan → (i : IngressView) → slice_get plan.stages 0 ≡ Some i.first → length i.producers ≡ plan.version → (from : NodeId) → HasNode (flow_of plan inputs) from
+      → (b : Body) (m : Message) → Carries (flow_of plan inputs) (link from node.Ingress) m → BodyStands plan inputs (link from node.Ingress) b m → IsSmall m → ingress.IsAdmitted i from b
   to_ingress is i first many from there (body.Ack edge k) (Ack named upto) h st small = ack_admitted is i first many from there edge named k upto h st.0 st.1 small
   to_ingress is i first many from there (body.Want edge k) (Want named number) h st small = want_admitted is i first many from there edge named k number h st.0
   to_ingress is i first many from there (body.Tuple edge number x) (Tuple named at) h st small = absurd h.1
@@ -214,7 +214,7 @@ module _ (plan : PlanView) (rows : List Input) where
   to_ingress is i first many from there (body.ChunkEnd k n) (ChunkEnd inc count numbers) h st small = absurd (no_across from h)
   to_ingress is i first many from there b m h st small = absurd st
 
-  ingress_link : IsPlan plan → (i : IngressView) (from : NodeId) (b : Body) → HasNode (flow_of plan rows) from → ingress.IsAdmitted i from b → IsTrue (has_link plan (link from node.Ingress))
+  ingress_link : IsPlan plan → (i : IngressView) (from : NodeId) (b : Body) → HasNode (flow_of plan inputs) from → ingress.IsAdmitted i from b → IsTrue (has_link plan (link from node.Ingress))
   ingress_link is i (node.Control s p) (body.Ack edge k) there ok =
       let some = is.some in
       let one = ok.0 in
@@ -229,11 +229,11 @@ module _ (plan : PlanView) (rows : List Input) where
       rw (pair, next) refl
   ingress_link is i from b there ok = absurd ok
 
-  pub ingress_admits : IsPlan plan → (i : IngressView) (from : NodeId) (b : Body) (s : State) (m : Message) → IsSound (flow_of plan rows) s
-      → ingress.StandsFor plan rows i (s.nodes node.Ingress) → IsSmall m → Among m (s.sent (link from node.Ingress)) → BodyStands plan rows (link from node.Ingress) b m
+  pub ingress_admits : IsPlan plan → (i : IngressView) (from : NodeId) (b : Body) (s : State) (m : Message) → IsSound (flow_of plan inputs) s
+      → ingress.StandsFor plan inputs i (s.nodes node.Ingress) → IsSmall m → Among m (s.sent (link from node.Ingress)) → BodyStands plan inputs (link from node.Ingress) b m
       → IsTrue (has_link plan (link from node.Ingress)) × ingress.IsAdmitted i from b
   ingress_admits is i from b s m sound stands small among st =
-      let f = flow_of plan rows in
+      let f = flow_of plan inputs in
       let l = link from node.Ingress in
       let carried = each_at (Carries f l) m (s.sent l) among (sound.carried l) in
       let ends = each_at (λ k. HasNode f l.from × HasNode f l.to) m (s.sent l) among (sound.ends l) in

@@ -62,9 +62,9 @@ comes_next trades is n within old here new before still input at taken takes cam
 -- ---- what changes where inputs come
 
 -- ingress with other inputs stands for the same numbers, of each list of inputs that they may begin
-pub come_stands : (plan : PlanView) (rows came : List Input) (ended : Bool) (i : IngressView) (n : Node) → AreCome ended came rows → StandsFor plan rows i n
-    → StandsFor plan rows (record i { inputs = came; ended = ended }) n
-come_stands plan rows came ended i n may s = record {
+pub come_stands : (plan : PlanView) (inputs came : List Input) (ended : Bool) (i : IngressView) (n : Node) → AreCome ended came inputs → StandsFor plan inputs i n
+    → StandsFor plan inputs (record i { inputs = came; ended = ended }) n
+come_stands plan inputs came ended i n may s = record {
   inputs = may;
   first = s.first;
   mark = s.mark;
@@ -77,9 +77,9 @@ pub come_of_plan : (plan : PlanView) (came : List Input) (ended : Bool) (i : Ing
 come_of_plan plan came ended i is = record { first = is.first; sources = is.sources }
 
 -- those that came and are all begin the same lists as they did before
-pub end_admits : (ended : Bool) (came rows : List Input) → came ≡ rows → AreCome ended came rows
-end_admits true came rows same = same
-end_admits false came rows same = ([], append-nil came ∙ same)
+pub end_admits : (ended : Bool) (came inputs : List Input) → came ≡ inputs → AreCome ended came inputs
+end_admits true came inputs same = same
+end_admits false came inputs same = ([], append-nil came ∙ same)
 
 -- ---- one list alone
 
@@ -87,9 +87,9 @@ some_input : Input
 some_input = record { source = 0; row = record { time = pos 0; account = pos 0; symbol = pos 0; qty = pos 0; value = pos 0 } }
 
 -- where nothing but these may be the inputs, they came, and are all
-pub came_whole : (ended : Bool) (came rows : List Input) → ((inputs : List Input) → AreCome ended came inputs → inputs ≡ rows) → (ended ≡ true) × (came ≡ rows)
-came_whole true came rows only = (refl, only came refl)
-came_whole false came rows only =
+pub came_whole : (ended : Bool) (came these : List Input) → ((inputs : List Input) → AreCome ended came inputs → inputs ≡ these) → (ended ≡ true) × (came ≡ these)
+came_whole true came these only = (refl, only came refl)
+came_whole false came these only =
     let same = ap length (only came ([], append-nil came)) in
     let more = ap length (only (came ++ some_input ∷ []) (some_input ∷ [], refl)) in
     let many = length-append came (some_input ∷ []) in

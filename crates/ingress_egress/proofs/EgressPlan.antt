@@ -169,32 +169,32 @@ ended last (item.Mark stamp ∷ is) form (suc n) l = ended last is form.3 n (ome
 ended last (item.End stamp ∷ is) form zero l = none_yet (length is)
 ended last (item.End stamp ∷ is) form (suc n) l = let none = ap length form.2 in sym (eq-eqb (suc n) (suc (length is)) (omega arith))
 
-module _ (plan : PlanView) (rows : List Input) where
-  total_is : (flow_of plan rows).total (egress_partition (flow_of plan rows)) ≡ length (merged_at plan rows ((flow_of plan rows).stages + 1) 0)
+module _ (plan : PlanView) (inputs : List Input) where
+  total_is : (flow_of plan inputs).total (egress_partition (flow_of plan inputs)) ≡ length (merged_at plan inputs ((flow_of plan inputs).stages + 1) 0)
   unfolding flow_of
   total_is = refl
 
-  stages_are : (flow_of plan rows).stages ≡ length plan.stages
+  stages_are : (flow_of plan inputs).stages ≡ length plan.stages
   unfolding flow_of
   stages_are = refl
 
-  done_is : IsPlan plan → (e : EgressView) (n : Node) → StandsFor plan rows e n
-      → e.done ≡ ((egress_in n).count == (flow_of plan rows).total (egress_partition (flow_of plan rows)))
+  done_is : IsPlan plan → (e : EgressView) (n : Node) → StandsFor plan inputs e n
+      → e.done ≡ ((egress_in n).count == (flow_of plan inputs).total (egress_partition (flow_of plan inputs)))
   done_is is e n s =
-      let stage = (flow_of plan rows).stages + 1 in
-      let form = merged_edge (last_stamp rows) (edges_into plan rows stage 0) (consumers.form_is plan rows is stage 0 (omega arith)) in
-      let all = length-map (merged_at plan rows stage 0) (λ place. place.item) in
+      let stage = (flow_of plan inputs).stages + 1 in
+      let form = merged_edge (last_stamp inputs) (edges_into plan inputs stage 0) (consumers.form_is plan inputs is stage 0 (omega arith)) in
+      let all = length-map (merged_at plan inputs stage 0) (λ place. place.item) in
       let within = s.consumer.merge.count in
       let count = s.consumer.count in
-      s.done ∙ ended (last_stamp rows) (items (merged_at plan rows stage 0)) form (egress_in n).count (omega arith)
+      s.done ∙ ended (last_stamp inputs) (items (merged_at plan inputs stage 0)) form (egress_in n).count (omega arith)
       ∙ ap (λ k. (egress_in n).count == k) (all ∙ sym total_is)
 
-  pub done_whole : IsPlan plan → (e : EgressView) (n : Node) → StandsFor plan rows e n
-      → IsTrue e.done ↔ ((egress_in n).count ≡ (flow_of plan rows).total (egress_partition (flow_of plan rows)))
+  pub done_whole : IsPlan plan → (e : EgressView) (n : Node) → StandsFor plan inputs e n
+      → IsTrue e.done ↔ ((egress_in n).count ≡ (flow_of plan inputs).total (egress_partition (flow_of plan inputs)))
   done_whole is e n s =
-      let total = (flow_of plan rows).total (egress_partition (flow_of plan rows)) in
+      let total = (flow_of plan inputs).total (egress_partition (flow_of plan inputs)) in
       let same = done_is is e n s in
       ((λ t. eqb-true (egress_in n).count total (sym same ∙ t)), (λ h. same ∙ eq-eqb (egress_in n).count total h))
 
-  pub done_output : IsPlan plan → (e : EgressView) (n : Node) → StandsFor plan rows e n → IsTrue e.done → e.emitted ≡ output plan rows
-  done_output is e n s t = s.emitted ∙ ap (output_first plan rows) ((done_whole is e n s).0 t) ∙ (in_order plan rows).whole
+  pub done_output : IsPlan plan → (e : EgressView) (n : Node) → StandsFor plan inputs e n → IsTrue e.done → e.emitted ≡ output plan inputs
+  done_output is e n s t = s.emitted ∙ ap (output_first plan inputs) ((done_whole is e n s).0 t) ∙ (in_order plan inputs).whole

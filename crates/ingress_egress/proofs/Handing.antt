@@ -43,6 +43,6 @@ goes_on gone held n x at =
     ap (λ k. (gone ++ x ∷ []) ++ drop k held) (add-one n) ∙ append_assoc gone (x ∷ []) (drop (suc n) held) ∙ ap (λ xs. gone ++ xs) (sym (from_place held n x at))
 
 -- egress stands for the same numbers, whichever of its rows were handed on
-pub hand_stands : (plan : PlanView) (rows : List Input) (old new : EgressView) (gone : List Row) (n : Node) → new ≡ record old { gone = gone } → StandsFor plan rows old n → StandsFor plan rows new n
-hand_stands plan rows old new gone n same s =
-    subst (λ e. StandsFor plan rows e n) (sym same) (record { stages = s.stages; consumer = s.consumer; emitted = s.emitted; done = s.done })
+pub hand_stands : (plan : PlanView) (inputs : List Input) (old new : EgressView) (gone : List Row) (n : Node) → new ≡ record old { gone = gone } → StandsFor plan inputs old n → StandsFor plan inputs new n
+hand_stands plan inputs old new gone n same s =
+    subst (λ e. StandsFor plan inputs e n) (sym same) (record { stages = s.stages; consumer = s.consumer; emitted = s.emitted; done = s.done })

@@ -26,11 +26,11 @@ use Rattle.node_edges.specs.InEdges.{ConsumerStands}
 use Rattle.ingress_egress.specs.EgressView.{EgressView, has_end}
 
 -- egress stands for a node's numbers: its consumer does, and its rows are those of the items that it merged first
-pub record StandsFor (plan : PlanView) (rows : List Input) (e : EgressView) (n : Node) : Type 0 where
+pub record StandsFor (plan : PlanView) (inputs : List Input) (e : EgressView) (n : Node) : Type 0 where
   pub stages : e.stages ≡ length plan.stages
-  pub consumer : ConsumerStands plan rows (egress_partition (flow_of plan rows)) (egress_in n) e.consumer
-  pub emitted : e.emitted ≡ output_first plan rows (egress_in n).count
-  pub done : e.done ≡ has_end (merged_first plan rows (egress_partition (flow_of plan rows)) (egress_in n).count)
+  pub consumer : ConsumerStands plan inputs (egress_partition (flow_of plan inputs)) (egress_in n) e.consumer
+  pub emitted : e.emitted ≡ output_first plan inputs (egress_in n).count
+  pub done : e.done ≡ has_end (merged_first plan inputs (egress_partition (flow_of plan inputs)) (egress_in n).count)
 
 -- it is egress of a plan: it merges an edge from each partition of the last stage
 pub record IsOfPlan (plan : PlanView) (e : EgressView) : Type 0 where
@@ -41,16 +41,16 @@ pub record IsOfPlan (plan : PlanView) (e : EgressView) : Type 0 where
 
 -- to take this packet from a node; nothing is sent
 abbrev pub IsTaken : PlanView → List Input → EgressView → EgressView → NodeId → Body → Type 0
-IsTaken plan rows old new from b =
-    (at index : ℕ) → IsStep (flow_of plan rows) (BodyStands plan rows) (Asks (flow_of plan rows)) node.Egress (StandsFor plan rows old) (StandsFor plan rows new)
+IsTaken plan inputs old new from b =
+    (at index : ℕ) → IsStep (flow_of plan inputs) (BodyStands plan inputs) (Asks (flow_of plan inputs)) node.Egress (StandsFor plan inputs old) (StandsFor plan inputs new)
     (event.Take (link from node.Egress) index) (Some (record { at = at; body = b })) (λ to. [])
 
 -- a piece of work; where there was none, nothing was due
 abbrev pub IsWorked : PlanView → List Input → EgressView → EgressView → List (NodeId × Body) → Worked → Type 0
-IsWorked plan rows old new sent worked.Did =
-    (clock : ℕ) → IsStep (flow_of plan rows) (BodyStands plan rows) (Asks (flow_of plan rows)) node.Egress (StandsFor plan rows old) (StandsFor plan rows new)
+IsWorked plan inputs old new sent worked.Did =
+    (clock : ℕ) → IsStep (flow_of plan inputs) (BodyStands plan inputs) (Asks (flow_of plan inputs)) node.Egress (StandsFor plan inputs old) (StandsFor plan inputs new)
     (event.Work node.Egress) None (λ to. packets_to clock to sent)
-IsWorked plan rows old new sent worked.Idle = (n : Node) → StandsFor plan rows old n → does (flow_of plan rows) node.Egress Works n ≡ Err NothingDue
+IsWorked plan inputs old new sent worked.Idle = (n : Node) → StandsFor plan inputs old n → does (flow_of plan inputs) node.Egress Works n ≡ Err NothingDue
 
 -- ---- which packets it may be given
 

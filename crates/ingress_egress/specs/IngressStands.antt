@@ -26,18 +26,18 @@ use Rattle.ingress_egress.specs.IngressView.{HasMadeNext, IngressView, producer_
 
 -- the inputs that came are the first of these, and all of them where no more come
 abbrev pub AreCome : Bool → List Input → List Input → Type 0
-AreCome true came rows = came ≡ rows
-AreCome false came rows = IsPrefix came rows
+AreCome true came inputs = came ≡ inputs
+AreCome false came inputs = IsPrefix came inputs
 
 -- ingress stands for a node's numbers: the inputs that came are the first of the plan's, it has the plan's first stage and mark, and the
 -- producer of each source stands for its numbers, where so many items were made as the first makes give
-pub record StandsFor (plan : PlanView) (rows : List Input) (i : IngressView) (n : Node) : Type 0 where
-  pub inputs : AreCome i.ended i.inputs rows
+pub record StandsFor (plan : PlanView) (all : List Input) (i : IngressView) (n : Node) : Type 0 where
+  pub inputs : AreCome i.ended i.inputs all
   pub first : slice_get plan.stages 0 ≡ Some i.first
   pub mark : i.mark ≡ plan.mark
   pub makes : i.makes ≡ (ingress_in n).makes
   pub sources : length i.producers ≡ plan.version
-  pub producers : (q : ℕ) → q < plan.version → ProducerStands (flow_of plan rows) (items_on plan rows) (ingress_source q) (source_made (flow_of plan rows) (ingress_in n) q)
+  pub producers : (q : ℕ) → q < plan.version → ProducerStands (flow_of plan all) (items_on plan all) (ingress_source q) (source_made (flow_of plan all) (ingress_in n) q)
       ((ingress_in n).producers q) (producer_at i q)
 
 -- it is ingress of a plan: it has the plan's first stage, and a producer for each source
@@ -49,29 +49,29 @@ pub record IsOfPlan (plan : PlanView) (i : IngressView) : Type 0 where
 
 -- to take this packet from a node; nothing is sent
 abbrev pub IsTaken : PlanView → List Input → IngressView → IngressView → NodeId → Body → Type 0
-IsTaken plan rows old new from b =
-    (at index : ℕ) → IsStep (flow_of plan rows) (BodyStands plan rows) (Asks (flow_of plan rows)) node.Ingress (StandsFor plan rows old) (StandsFor plan rows new)
+IsTaken plan inputs old new from b =
+    (at index : ℕ) → IsStep (flow_of plan inputs) (BodyStands plan inputs) (Asks (flow_of plan inputs)) node.Ingress (StandsFor plan inputs old) (StandsFor plan inputs new)
     (event.Take (link from node.Ingress) index) (Some (record { at = at; body = b })) (λ to. [])
 
 -- an event that takes no packet, and sends these
 abbrev pub IsDone : PlanView → List Input → IngressView → IngressView → List (NodeId × Body) → Event → Type 0
-IsDone plan rows old new sent e =
-    (clock : ℕ) → IsStep (flow_of plan rows) (BodyStands plan rows) (Asks (flow_of plan rows)) node.Ingress (StandsFor plan rows old) (StandsFor plan rows new) e None
+IsDone plan inputs old new sent e =
+    (clock : ℕ) → IsStep (flow_of plan inputs) (BodyStands plan inputs) (Asks (flow_of plan inputs)) node.Ingress (StandsFor plan inputs old) (StandsFor plan inputs new) e None
     (λ to. packets_to clock to sent)
 
 -- an act that the machine refuses
 abbrev pub IsRefused : PlanView → List Input → IngressView → Act → Refusal → Type 0
-IsRefused plan rows old a r = (n : Node) → StandsFor plan rows old n → does (flow_of plan rows) node.Ingress a n ≡ Err r
+IsRefused plan inputs old a r = (n : Node) → StandsFor plan inputs old n → does (flow_of plan inputs) node.Ingress a n ≡ Err r
 
 -- a piece of work; where there was none, nothing was due
 abbrev pub IsWorked : PlanView → List Input → IngressView → IngressView → List (NodeId × Body) → Worked → Type 0
-IsWorked plan rows old new sent worked.Did = IsDone plan rows old new sent (event.Work node.Ingress)
-IsWorked plan rows old new sent worked.Idle = IsRefused plan rows old Works NothingDue
+IsWorked plan inputs old new sent worked.Did = IsDone plan inputs old new sent (event.Work node.Ingress)
+IsWorked plan inputs old new sent worked.Idle = IsRefused plan inputs old Works NothingDue
 
 -- a make; where there was none and all came, all was made
 abbrev pub IsMadeIn : PlanView → List Input → IngressView → IngressView → Worked → Type 0
-IsMadeIn plan rows old new worked.Did = IsDone plan rows old new [] event.Make
-IsMadeIn plan rows old new worked.Idle = old.ended ≡ true → IsRefused plan rows old Makes NoMoreRows
+IsMadeIn plan inputs old new worked.Did = IsDone plan inputs old new [] event.Make
+IsMadeIn plan inputs old new worked.Idle = old.ended ≡ true → IsRefused plan inputs old Makes NoMoreRows
 
 -- the next input has come, or, where all came, the end is to be made
 abbrev pub IsAtHand : IngressView → Type 0

@@ -29,11 +29,11 @@ impl Egress {
         ensures exact { IsTrue result ↔ (IsTrue (has_link plan.now (link from node.Egress))
             × egress.IsAdmitted self.now from body.now) }
         // Every packet that a sound machine has sent there is admitted, for inputs whose times are within their limits.
-        ensures complete { (rows : List Input) (s : State) (m : Message) →
-            let f = flow_of plan.now rows in
-            IsPlan plan.now → All (λ input. IsTime input.row.time) rows → IsSound f s
-            → egress.StandsFor plan.now rows self.now (s.nodes node.Egress) → IsSmall m
-            → Among m (s.sent (link from node.Egress)) → BodyStands plan.now rows (link from node.Egress) body.now m → IsTrue result }
+        ensures complete { (inputs : List Input) (s : State) (m : Message) →
+            let f = flow_of plan.now inputs in
+            IsPlan plan.now → All (λ input. IsTime input.row.time) inputs → IsSound f s
+            → egress.StandsFor plan.now inputs self.now (s.nodes node.Egress) → IsSmall m
+            → Among m (s.sent (link from node.Egress)) → BodyStands plan.now inputs (link from node.Egress) body.now m → IsTrue result }
     {
         let to = NodeId::Egress;
         plan.links(LinkId { from, to }) && self.may_take(from, body)
@@ -78,10 +78,10 @@ impl Ingress {
         ensures exact { IsTrue result ↔ (IsTrue (has_link plan.now (link from node.Ingress))
             × ingress.IsAdmitted self.now from body.now) }
         // Every packet that a sound machine has sent there is admitted, as long as its number is within its limit.
-        ensures complete { (rows : List Input) (s : State) (m : Message) →
-            let f = flow_of plan.now rows in
-            IsPlan plan.now → IsSound f s → ingress.StandsFor plan.now rows self.now (s.nodes node.Ingress) → IsSmall m
-            → Among m (s.sent (link from node.Ingress)) → BodyStands plan.now rows (link from node.Ingress) body.now m → IsTrue result }
+        ensures complete { (inputs : List Input) (s : State) (m : Message) →
+            let f = flow_of plan.now inputs in
+            IsPlan plan.now → IsSound f s → ingress.StandsFor plan.now inputs self.now (s.nodes node.Ingress) → IsSmall m
+            → Among m (s.sent (link from node.Ingress)) → BodyStands plan.now inputs (link from node.Ingress) body.now m → IsTrue result }
     {
         let to = NodeId::Ingress;
         plan.links(LinkId { from, to }) && self.may_take(from, body)

@@ -61,7 +61,7 @@ impl Egress {
     /// Egress of a plan, as it opens: nothing was taken.
     pub fn new(alloc: Global, plan: &Plan) -> Result<Egress, OutOfMemory>
         ensures of_plan { IfOk result (IsOfPlan plan.now) }
-        ensures stands { IfOk result (λ e. (rows : List Input) → StandsFor plan.now rows e (new_node node.Egress)) }
+        ensures stands { IfOk result (λ e. (inputs : List Input) → StandsFor plan.now inputs e (new_node node.Egress)) }
         // No row was handed on.
         ensures gone { IfOk result (λ e. e.gone ≡ []) }
     {
@@ -93,7 +93,7 @@ impl Egress {
         ensures gone { self.new.gone ≡ self.old.gone }
         ensures of_plan { (plan : PlanView) → IsOfPlan plan self.old → IsOfPlan plan self.new }
         // For the machine's laws: in each plan, whatever message the body stands for.
-        ensures course { OnOk result ((plan : PlanView) (rows : List Input) → IsPlan plan → IsTaken plan rows self.old self.new from body.now) }
+        ensures course { OnOk result ((plan : PlanView) (inputs : List Input) → IsPlan plan → IsTaken plan inputs self.old self.new from body.now) }
     {
         // From whichever replica it comes, it is taken alike. Contracts name the sender.
         let _sender = from;
@@ -114,9 +114,9 @@ impl Egress {
         ensures gone { self.new.gone ≡ self.old.gone }
         ensures of_plan { (plan : PlanView) → IsOfPlan plan self.old → IsOfPlan plan self.new }
         // In each plan where that is the edge's next item, the machine's egress takes it.
-        ensures stands { OnOk result ((plan : PlanView) (rows : List Input) (n : Node) → IsPlan plan → StandsFor plan rows self.old n
-            → item_at (items_on plan rows (in_edge (egress_partition (flow_of plan rows)) edge)) ((egress_in n).marks edge + 1) ≡ Some item
-            → StandsFor plan rows self.new (EgressNode (pulled (egress_in n) edge))) }
+        ensures stands { OnOk result ((plan : PlanView) (inputs : List Input) (n : Node) → IsPlan plan → StandsFor plan inputs self.old n
+            → item_at (items_on plan inputs (in_edge (egress_partition (flow_of plan inputs)) edge)) ((egress_in n).marks edge + 1) ≡ Some item
+            → StandsFor plan inputs self.new (EgressNode (pulled (egress_in n) edge))) }
     {
         let mark = self.consumer.merge().mark(edge);
         self.offer(edge, mark + 1, item)
@@ -152,8 +152,8 @@ impl Egress {
         ensures emitted { IsFrontOf self.old.emitted self.new.emitted }
         ensures gone { self.new.gone ≡ self.old.gone }
         // For the machine's laws, in each plan.
-        ensures course { IfOk result (λ w. (plan : PlanView) (rows : List Input) → IsPlan plan
-            → IsWorked plan rows self.old self.new (working self.old).sent w) }
+        ensures course { IfOk result (λ w. (plan : PlanView) (inputs : List Input) → IsPlan plan
+            → IsWorked plan inputs self.old self.new (working self.old).sent w) }
     {
         self.do_first(out)
     }
@@ -240,7 +240,7 @@ impl Egress {
         // So the row is the first that was not handed on.
         ensures first { IsPrefix self.new.gone self.new.emitted }
         ensures emitted { self.new.emitted ≡ self.old.emitted }
-        ensures stands { (plan : PlanView) (rows : List Input) (n : Node) → StandsFor plan rows self.old n → StandsFor plan rows self.new n }
+        ensures stands { (plan : PlanView) (inputs : List Input) (n : Node) → StandsFor plan inputs self.old n → StandsFor plan inputs self.new n }
         ensures of_plan { (plan : PlanView) → IsOfPlan plan self.old → IsOfPlan plan self.new }
     {
         let row = row_at(&self.held, self.skipped)?;
@@ -258,10 +258,10 @@ impl Egress {
     pub fn done(&self) -> bool
         ensures value { result ≡ self.now.done }
         // In each plan: the end ends the merged list, so then all of it was merged, and the rows are the output.
-        ensures whole { (plan : PlanView) (rows : List Input) (n : Node) → IsPlan plan → StandsFor plan rows self.now n
-            → IsTrue result ↔ ((egress_in n).count ≡ (flow_of plan rows).total (egress_partition (flow_of plan rows))) }
-        ensures output { (plan : PlanView) (rows : List Input) (n : Node) → IsPlan plan → StandsFor plan rows self.now n
-            → IsTrue result → self.now.emitted ≡ output plan rows }
+        ensures whole { (plan : PlanView) (inputs : List Input) (n : Node) → IsPlan plan → StandsFor plan inputs self.now n
+            → IsTrue result ↔ ((egress_in n).count ≡ (flow_of plan inputs).total (egress_partition (flow_of plan inputs))) }
+        ensures output { (plan : PlanView) (inputs : List Input) (n : Node) → IsPlan plan → StandsFor plan inputs self.now n
+            → IsTrue result → self.now.emitted ≡ output plan inputs }
     {
         self.done
     }

@@ -75,16 +75,6 @@ fn new_producers(alloc: Global, sources: u32, parts: u32) -> Result<Vec<Producer
     Ok(producers)
 }
 
-// The input at a place, from 0.
-fn input_at(trades: &Trades, nth: usize) -> Input
-    requires { nth < length trades.now.rows }
-    ensures { slice_get (inputs_in trades.now) nth ≡ Some result }
-{
-    let row = trades.rows()[nth];
-    let source = trades.source(nth);
-    Input { source, row }
-}
-
 impl Ingress {
     /// Ingress of a plan and its trades, as it opens: all of them came, no more come, and nothing was made.
     pub fn new(alloc: Global, plan: &Plan, trades: &Trades) -> Result<Ingress, OutOfMemory>
@@ -103,7 +93,7 @@ impl Ingress {
     /// yet. So it stands for the opening of every list of inputs.
     pub fn streamed(alloc: Global, plan: &Plan) -> Result<Ingress, OutOfMemory>
         ensures of_plan { IfOk result (IsOfPlan plan.now) }
-        ensures stands { IfOk result (λ i. (rows : List Input) → StandsFor plan.now rows i (new_node node.Ingress)) }
+        ensures stands { IfOk result (λ i. (inputs : List Input) → StandsFor plan.now inputs i (new_node node.Ingress)) }
         ensures inputs { IfOk result (λ i. i.inputs ≡ []) }
         ensures ended { IfOk result (λ i. i.ended ≡ false) }
     {
@@ -131,7 +121,7 @@ impl Ingress {
         let count = trades.rows().len();
         self.waiting.reserve_exact(count)?;
         for nth in 0..count {
-            self.feed(input_at(trades, nth))?;
+            self.feed(trades.input(nth))?;
         }
         Ok(())
     }
@@ -156,9 +146,9 @@ impl Ingress {
         ensures left { IfOk result (λ taken. taken ≡ false → self.new ≡ self.old) }
         ensures unchanged { OnErr result (self.new ≡ self.old) }
         // What may be the inputs now might have been before.
-        ensures admits { (rows : List Input) → AreCome self.new.ended self.new.inputs rows → AreCome self.old.ended self.old.inputs rows }
-        ensures stands { (plan : PlanView) (rows : List Input) (n : Node) → AreCome self.new.ended self.new.inputs rows
-            → StandsFor plan rows self.old n → StandsFor plan rows self.new n }
+        ensures admits { (inputs : List Input) → AreCome self.new.ended self.new.inputs inputs → AreCome self.old.ended self.old.inputs inputs }
+        ensures stands { (plan : PlanView) (inputs : List Input) (n : Node) → AreCome self.new.ended self.new.inputs inputs
+            → StandsFor plan inputs self.old n → StandsFor plan inputs self.new n }
         ensures of_plan { (plan : PlanView) → IsOfPlan plan self.old → IsOfPlan plan self.new }
     {
         if !self.may_feed(&input) {
@@ -173,9 +163,9 @@ impl Ingress {
     /// No more inputs come: those that came are all. It is no event of the machine.
     pub fn end(&mut self)
         ensures ended { self.new ≡ ended_at self.old }
-        ensures admits { (rows : List Input) → AreCome self.new.ended self.new.inputs rows → AreCome self.old.ended self.old.inputs rows }
-        ensures stands { (plan : PlanView) (rows : List Input) (n : Node) → AreCome self.new.ended self.new.inputs rows
-            → StandsFor plan rows self.old n → StandsFor plan rows self.new n }
+        ensures admits { (inputs : List Input) → AreCome self.new.ended self.new.inputs inputs → AreCome self.old.ended self.old.inputs inputs }
+        ensures stands { (plan : PlanView) (inputs : List Input) (n : Node) → AreCome self.new.ended self.new.inputs inputs
+            → StandsFor plan inputs self.old n → StandsFor plan inputs self.new n }
         ensures of_plan { (plan : PlanView) → IsOfPlan plan self.old → IsOfPlan plan self.new }
     {
         self.ended = true;
@@ -202,7 +192,7 @@ impl Ingress {
         ensures taken { self.new ≡ taking self.old from body.now }
         ensures of_plan { (plan : PlanView) → IsOfPlan plan self.old → IsOfPlan plan self.new }
         // For the machine's laws: in each plan, whatever message the body stands for.
-        ensures course { (plan : PlanView) (rows : List Input) → IsPlan plan → IsTaken plan rows self.old self.new from body.now }
+        ensures course { (plan : PlanView) (inputs : List Input) → IsPlan plan → IsTaken plan inputs self.old self.new from body.now }
     {
         self.take(from, body);
     }
@@ -230,7 +220,7 @@ impl Ingress {
         ensures unchanged { OnErr result (contents_in self.new ≡ contents_in self.old) }
         ensures of_plan { (plan : PlanView) → IsOfPlan plan self.old → IsOfPlan plan self.new }
         // For the machine's laws, in each plan.
-        ensures course { IfOk result (λ m. (plan : PlanView) (rows : List Input) → IsPlan plan → IsMadeIn plan rows self.old self.new m) }
+        ensures course { IfOk result (λ m. (plan : PlanView) (inputs : List Input) → IsPlan plan → IsMadeIn plan inputs self.old self.new m) }
     {
         self.make_next()
     }
@@ -285,8 +275,8 @@ impl Ingress {
             → GoOverLinks plan node.Ingress (appended out.old.packets out.new.packets) }
         ensures of_plan { (plan : PlanView) → IsOfPlan plan self.old → IsOfPlan plan self.new }
         // For the machine's laws, in each plan.
-        ensures course { IfOk result (λ w. (plan : PlanView) (rows : List Input) → IsPlan plan
-            → IsWorked plan rows self.old self.new (working self.old).sent w) }
+        ensures course { IfOk result (λ w. (plan : PlanView) (inputs : List Input) → IsPlan plan
+            → IsWorked plan inputs self.old self.new (working self.old).sent w) }
     {
         self.send_first(out)
     }

@@ -39,28 +39,28 @@ at_map f [] q d e l = absurd (omega arith)
 at_map f (x ∷ xs) zero d e l = refl
 at_map f (x ∷ xs) (suc q) d e l = at_map f xs q d e (omega arith)
 
-edge_into : (plan : PlanView) (rows : List Input) (s part q : ℕ) → s ≤ length plan.stages → q < parts_of plan s → edge_of (edges_into plan rows (suc s) part) q ≡ edge plan rows s q part
-edge_into plan rows s part q l k =
-    at_map (edge_to (slice_get plan.stages s) part) (sent_by plan rows s) q [] [] (let e = sent_length plan rows s l in omega arith)
+edge_into : (plan : PlanView) (inputs : List Input) (s part q : ℕ) → s ≤ length plan.stages → q < parts_of plan s → edge_of (edges_into plan inputs (suc s) part) q ≡ edge plan inputs s q part
+edge_into plan inputs s part q l k =
+    at_map (edge_to (slice_get plan.stages s) part) (sent_by plan inputs s) q [] [] (let e = sent_length plan inputs s l in omega arith)
 
 -- an edge into a partition that merges, by its source
-edge_is : (plan : PlanView) (rows : List Input) (s part q : ℕ) → 1 ≤ s → s ≤ length plan.stages + 1 → q < sources_of plan s
-    → edge_of (edges_into plan rows s part) q ≡ items_on plan rows (in_edge (record { stage = s; part = part }) q)
-edge_is plan rows zero part q one l k = absurd (omega arith)
-edge_is plan rows (suc s) part q one l k =
-    edge_into plan rows s part q (omega arith) (subst (λ n. q < n) (sources_are plan s) k) ∙ sym (in_edge_is plan rows s part q)
+edge_is : (plan : PlanView) (inputs : List Input) (s part q : ℕ) → 1 ≤ s → s ≤ length plan.stages + 1 → q < sources_of plan s
+    → edge_of (edges_into plan inputs s part) q ≡ items_on plan inputs (in_edge (record { stage = s; part = part }) q)
+edge_is plan inputs zero part q one l k = absurd (omega arith)
+edge_is plan inputs (suc s) part q one l k =
+    edge_into plan inputs s part q (omega arith) (subst (λ n. q < n) (sources_are plan s) k) ∙ sym (in_edge_is plan inputs s part q)
 
-pub form_is : (plan : PlanView) (rows : List Input) → IsPlan plan → (s part : ℕ) → 1 ≤ s → AreEdges (last_stamp rows) (edges_into plan rows s part)
-form_is plan rows is zero part one = absurd (omega arith)
-form_is plan rows is (suc s) part one = have_the_form plan rows is s part
+pub form_is : (plan : PlanView) (inputs : List Input) → IsPlan plan → (s part : ℕ) → 1 ≤ s → AreEdges (last_stamp inputs) (edges_into plan inputs s part)
+form_is plan inputs is zero part one = absurd (omega arith)
+form_is plan inputs is (suc s) part one = have_the_form plan inputs is s part
 
-pub many_are : (plan : PlanView) (rows : List Input) (s part : ℕ) → 1 ≤ s → s ≤ length plan.stages + 1 → length (edges_into plan rows s part) ≡ sources_of plan s
-many_are plan rows zero part one l = absurd (omega arith)
-many_are plan rows (suc s) part one l = each_part_sends plan rows s part (omega arith) ∙ sym (sources_are plan s)
+pub many_are : (plan : PlanView) (inputs : List Input) (s part : ℕ) → 1 ≤ s → s ≤ length plan.stages + 1 → length (edges_into plan inputs s part) ≡ sources_of plan s
+many_are plan inputs zero part one l = absurd (omega arith)
+many_are plan inputs (suc s) part one l = each_part_sends plan inputs s part (omega arith) ∙ sym (sources_are plan s)
 
-stages_are : (plan : PlanView) (rows : List Input) (p : Partition) → IsMerging (flow_of plan rows) p → p.stage ≤ length plan.stages + 1
+stages_are : (plan : PlanView) (inputs : List Input) (p : Partition) → IsMerging (flow_of plan inputs) p → p.stage ≤ length plan.stages + 1
 unfolding flow_of
-stages_are plan rows p m = m.last
+stages_are plan inputs p m = m.last
 
 -- ---- tests
 
@@ -93,21 +93,21 @@ zero_at zero q = refl
 zero_at (suc n) zero = refl
 zero_at (suc n) (suc q) = zero_at n q
 
-module _ (plan : PlanView) (rows : List Input) (p : Partition) where
-  pub begins : law.Begins plan rows p
+module _ (plan : PlanView) (inputs : List Input) (p : Partition) where
+  pub begins : law.Begins plan inputs p
   begins is m =
-      let all = stages_are plan rows p m in
-      let many = many_are plan rows p.stage p.part m.first all in
+      let all = stages_are plan inputs p m in
+      let many = many_are plan inputs p.stage p.part m.first all in
       record {
         edges = length-replicate (sources_of plan p.stage) 0;
         listed = length-replicate (length (replicate (sources_of plan p.stage) 0)) 0;
-        merge = opening_stands (last_stamp rows) (edges_into plan rows p.stage p.part) (sources_of plan p.stage) (form_is plan rows is p.stage p.part m.first) many;
+        merge = opening_stands (last_stamp inputs) (edges_into plan inputs p.stage p.part) (sources_of plan p.stage) (form_is plan inputs is p.stage p.part m.first) many;
         count = refl;
         marks = λ q l. zero_at (sources_of plan p.stage) q;
         told = λ q l. zero_at (length (replicate (sources_of plan p.stage) 0)) q;
       }
 
-  pub starts : law.Starts plan rows p
+  pub starts : law.Starts plan inputs p
   starts marks merge many s at = record {
     edges = many;
     listed = length-replicate (length merge.marks) 0;
@@ -118,25 +118,25 @@ module _ (plan : PlanView) (rows : List Input) (p : Partition) where
   }
 
   module _ (x : Consumer) (y : ConsumerView) where
-    source_there : (q : ℕ) → q < sources_of plan p.stage → ConsumerStands plan rows p x y → q < length y.merge.marks
+    source_there : (q : ℕ) → q < sources_of plan p.stage → ConsumerStands plan inputs p x y → q < length y.merge.marks
     source_there q l s = let e = s.edges in omega arith
 
-    edge_there : (q : ℕ) → q < sources_of plan p.stage → ConsumerStands plan rows p x y → q < length (edges_into plan rows p.stage p.part)
+    edge_there : (q : ℕ) → q < sources_of plan p.stage → ConsumerStands plan inputs p x y → q < length (edges_into plan inputs p.stage p.part)
     edge_there q l s = let e = s.edges in let k = s.merge.marks in omega arith
 
-    edge_at : (q : ℕ) → IsMerging (flow_of plan rows) p → q < sources_of plan p.stage → edge_of (edges_into plan rows p.stage p.part) q ≡ items_on plan rows (in_edge p q)
-    edge_at q m l = edge_is plan rows p.stage p.part q m.first (stages_are plan rows p m) l
+    edge_at : (q : ℕ) → IsMerging (flow_of plan inputs) p → q < sources_of plan p.stage → edge_of (edges_into plan inputs p.stage p.part) q ≡ items_on plan inputs (in_edge p q)
+    edge_at q m l = edge_is plan inputs p.stage p.part q m.first (stages_are plan inputs p m) l
 
-    pub waits : law.Waits plan rows p x y
+    pub waits : law.Waits plan inputs p x y
     waits q m l s =
         let w = s.merge.waits q (edge_there q l s) in
-        w.waits ∙ (λ i. take (s.marks q l i - used_of plan rows p q (s.count i)) (drop (used_of plan rows p q (s.count i)) (edge_at q m l i)))
+        w.waits ∙ (λ i. take (s.marks q l i - used_of plan inputs p q (s.count i)) (drop (used_of plan inputs p q (s.count i)) (edge_at q m l i)))
 
     -- ---- offers
 
-    taken_stands : (q n : ℕ) (i : Item) → q < sources_of plan p.stage → ConsumerStands plan rows p x y
-        → StandsFor (last_stamp rows) (edges_into plan rows p.stage p.part) (with_item y.merge q n i)
-        → ConsumerStands plan rows p (record x { marks = with_at x.marks q n }) (with_merge y (with_item y.merge q n i))
+    taken_stands : (q n : ℕ) (i : Item) → q < sources_of plan p.stage → ConsumerStands plan inputs p x y
+        → StandsFor (last_stamp inputs) (edges_into plan inputs p.stage p.part) (with_item y.merge q n i)
+        → ConsumerStands plan inputs p (record x { marks = with_at x.marks q n }) (with_merge y (with_item y.merge q n i))
     taken_stands q n i l s m = record {
       edges = length-set y.merge.marks q n ∙ s.edges;
       listed = s.listed ∙ sym (length-set y.merge.marks q n);
@@ -150,58 +150,58 @@ module _ (plan : PlanView) (rows : List Input) (p : Partition) where
         go j k true same = ap (λ z. get_or (slice_set y.merge.marks q n) z 0) (eqb-true j q same) ∙ get_or-set_same y.merge.marks q n 0 (source_there q l s)
         go j k false not = get_or-set_other y.merge.marks q j n 0 (λ at. let z : true ≡ false = sym (eq-eqb j q at) ∙ not in cc) ∙ s.marks j k
 
-    pub offers : law.Offers plan rows p x y
+    pub offers : law.Offers plan inputs p x y
     offers q n i m l item s =
         go (n == mark_of y.merge q + 1) (n == x.marks q + 1) (ap (λ k. n == k + 1) (s.marks q l))
-        (offer_stands (last_stamp rows) (edges_into plan rows p.stage p.part) y.merge q n i s.merge (source_there q l s)
+        (offer_stands (last_stamp inputs) (edges_into plan inputs p.stage p.part) y.merge q n i s.merge (source_there q l s)
         (λ e. subst (λ es. item_at es n ≡ Some i) (sym (edge_at q m l)) (item (e ∙ ap (λ k. k + 1) (s.marks q l)))))
       where
-        go : (a b : Bool) → a ≡ b → StandsFor (last_stamp rows) (edges_into plan rows p.stage p.part) (if a then with_item y.merge q n i else y.merge)
-            → ConsumerStands plan rows p (if b then record x { marks = with_at x.marks q n } else x) (with_merge y (if a then with_item y.merge q n i else y.merge))
+        go : (a b : Bool) → a ≡ b → StandsFor (last_stamp inputs) (edges_into plan inputs p.stage p.part) (if a then with_item y.merge q n i else y.merge)
+            → ConsumerStands plan inputs p (if b then record x { marks = with_at x.marks q n } else x) (with_merge y (if a then with_item y.merge q n i else y.merge))
         go true true e h = taken_stands q n i l s h
         go false false e h = s
         go true false e h = let z : ⊥ = cc e in absurd z
         go false true e h = let z : ⊥ = cc e in absurd z
 
-    pub pulls : law.PullsOne plan rows p x y
+    pub pulls : law.PullsOne plan inputs p x y
     pulls q i m l item s =
         let same = s.marks q l in
-        subst (λ n. ConsumerStands plan rows p (pulled x q) (with_merge y (after_offer y.merge q (n + 1) i))) (sym same)
-        (subst (λ b. ConsumerStands plan rows p (if b then record x { marks = with_at x.marks q (x.marks q + 1) } else x) (with_merge y (after_offer y.merge q (x.marks q + 1) i))) (nat_self (x.marks q + 1))
+        subst (λ n. ConsumerStands plan inputs p (pulled x q) (with_merge y (after_offer y.merge q (n + 1) i))) (sym same)
+        (subst (λ b. ConsumerStands plan inputs p (if b then record x { marks = with_at x.marks q (x.marks q + 1) } else x) (with_merge y (after_offer y.merge q (x.marks q + 1) i))) (nat_self (x.marks q + 1))
         (offers q (x.marks q + 1) i m l (λ e. item) s))
 
     -- ---- the merged list
 
-    ready_by : (sources : ℕ) → sources ≡ sources_of plan p.stage → ConsumerStands plan rows p x y
-        → all_wait y.merge.waiting ≡ all_below sources (λ q. nat_lt (used_of plan rows p q x.count) (x.marks q))
+    ready_by : (sources : ℕ) → sources ≡ sources_of plan p.stage → ConsumerStands plan inputs p x y
+        → all_wait y.merge.waiting ≡ all_below sources (λ q. nat_lt (used_of plan inputs p q x.count) (x.marks q))
     ready_by sources e s =
-        let is = ready_is (last_stamp rows) (edges_into plan rows p.stage p.part) y.merge s.merge in
-        let many : length (edges_into plan rows p.stage p.part) ≡ sources = sym s.merge.marks ∙ s.edges ∙ sym e in
-        same_bool (all_wait y.merge.waiting) (all_below sources (λ q. nat_lt (used_of plan rows p q x.count) (x.marks q)))
-        (λ t. all_true sources (λ q. nat_lt (used_of plan rows p q x.count) (x.marks q))
-        (λ q l. lt-ltb (used_of plan rows p q x.count) (x.marks q)
-        (subst (λ n. used_of plan rows p q n < x.marks q) s.count (subst (λ n. used_of plan rows p q y.merge.count < n) (s.marks q (omega arith)) (is.0 t q (omega arith))))))
+        let is = ready_is (last_stamp inputs) (edges_into plan inputs p.stage p.part) y.merge s.merge in
+        let many : length (edges_into plan inputs p.stage p.part) ≡ sources = sym s.merge.marks ∙ s.edges ∙ sym e in
+        same_bool (all_wait y.merge.waiting) (all_below sources (λ q. nat_lt (used_of plan inputs p q x.count) (x.marks q)))
+        (λ t. all_true sources (λ q. nat_lt (used_of plan inputs p q x.count) (x.marks q))
+        (λ q l. lt-ltb (used_of plan inputs p q x.count) (x.marks q)
+        (subst (λ n. used_of plan inputs p q n < x.marks q) s.count (subst (λ n. used_of plan inputs p q y.merge.count < n) (s.marks q (omega arith)) (is.0 t q (omega arith))))))
         (λ t. is.1 (λ q l.
-        let here = ltb-true (used_of plan rows p q x.count) (x.marks q) (each_true sources (λ q. nat_lt (used_of plan rows p q x.count) (x.marks q)) t q (omega arith)) in
-        subst (λ n. used_of plan rows p q n < mark_of y.merge q) (sym s.count) (subst (λ n. used_of plan rows p q x.count < n) (sym (s.marks q (omega arith))) here)))
+        let here = ltb-true (used_of plan inputs p q x.count) (x.marks q) (each_true sources (λ q. nat_lt (used_of plan inputs p q x.count) (x.marks q)) t q (omega arith)) in
+        subst (λ n. used_of plan inputs p q n < mark_of y.merge q) (sym s.count) (subst (λ n. used_of plan inputs p q x.count < n) (sym (s.marks q (omega arith))) here)))
 
-    pub ready : law.IsReadySo plan rows p x y
+    pub ready : law.IsReadySo plan inputs p x y
     unfolding flow_of
     ready s = ready_by (sources_of plan p.stage) refl s
 
-    pub gives : law.Gives plan rows p x y
+    pub gives : law.Gives plan inputs p x y
     gives is m s =
-        let some : 1 ≤ length y.merge.waiting = let a = (form_is plan rows is p.stage p.part m.first).some in let b = s.merge.waiting in omega arith in
+        let some : 1 ≤ length y.merge.waiting = let a = (form_is plan inputs is p.stage p.part m.first).some in let b = s.merge.waiting in omega arith in
         known_is y.merge.waiting some ∙ ready s
 
-    pub merges : law.Merges plan rows p x y
+    pub merges : law.Merges plan inputs p x y
     merges i is m found s =
-        let last = last_stamp rows in
-        let es = edges_into plan rows p.stage p.part in
-        let form = form_is plan rows is p.stage p.part m.first in
+        let last = last_stamp inputs in
+        let es = edges_into plan inputs p.stage p.part in
+        let form = form_is plan inputs is p.stage p.part m.first in
         let at = subst (StandsAt last es y.merge.count) found (next_in_order last es y.merge form s.merge) in
         let marks = after_next-marks y.merge in (
-          subst (λ n. slice_get (items (merged_at plan rows p.stage p.part)) n ≡ Some i) s.count at,
+          subst (λ n. slice_get (items (merged_at plan inputs p.stage p.part)) n ≡ Some i) s.count at,
           record {
             edges = ap length marks ∙ s.edges;
             listed = s.listed ∙ sym (ap length marks);
@@ -222,14 +222,14 @@ module _ (plan : PlanView) (rows : List Input) (p : Partition) where
     edge_in_if true q mark = refl
     edge_in_if false q mark = refl
 
-    report_in : (n : ℕ) → n ≤ sources_of plan p.stage → ConsumerStands plan rows p x y → edge_in (report_below y n) ≡ first_below (λ q. nat_lt (x.told q) (x.marks q)) n
+    report_in : (n : ℕ) → n ≤ sources_of plan p.stage → ConsumerStands plan inputs p x y → edge_in (report_below y n) ≡ first_below (λ q. nat_lt (x.told q) (x.marks q)) n
     report_in zero l s = refl
     report_in (suc n) l s =
         edge_in_or (report_below y n) (report_at y n)
         ∙ (λ i. option_or (report_in n (omega arith) s i) (edge_in_if (nat_lt (told_of y n) (mark_of y.merge n)) n (mark_of y.merge n) i))
         ∙ (λ i. option_or (first_below (λ q. nat_lt (x.told q) (x.marks q)) n) (if nat_lt (s.told n (omega arith) i) (s.marks n (omega arith) i) then Some n else None))
 
-    pub reports : law.ReportsSo plan rows p x y
+    pub reports : law.ReportsSo plan inputs p x y
     unfolding flow_of
     reports s = ap (λ n. edge_in (report_below y n)) s.edges ∙ report_in (sources_of plan p.stage) (omega arith) s
 
@@ -243,7 +243,7 @@ module _ (plan : PlanView) (rows : List Input) (p : Partition) where
         go None at true e before = let same : (n, mark_of y.merge n) ≡ report = cc e in subst (λ (r : ℕ × ℕ). r.1 ≡ mark_of y.merge r.0) same refl
         go None at false e before = let z : ⊥ = cc e in absurd z
 
-    told_stands : (q : ℕ) → q < sources_of plan p.stage → ConsumerStands plan rows p x y → ConsumerStands plan rows p (telling x q) (code.telling y q)
+    told_stands : (q : ℕ) → q < sources_of plan p.stage → ConsumerStands plan inputs p x y → ConsumerStands plan inputs p (telling x q) (code.telling y q)
     told_stands q l s = record {
       edges = s.edges;
       listed = length-set y.told q (mark_of y.merge q) ∙ s.listed;
@@ -258,10 +258,10 @@ module _ (plan : PlanView) (rows : List Input) (p : Partition) where
             ∙ get_or-set_same y.told q (mark_of y.merge q) 0 (let a = s.listed in let b = s.edges in omega arith) ∙ s.marks q l
         go j k false not = get_or-set_other y.told q j (mark_of y.merge q) 0 (λ at. let z : true ≡ false = sym (eq-eqb j q at) ∙ not in cc) ∙ s.told j k
 
-    pub tells : law.Tells plan rows p x y
+    pub tells : law.Tells plan inputs p x y
     unfolding flow_of
     tells report found s =
-        let first : untold (flow_of plan rows) p x ≡ Some report.0 = sym (reports s) ∙ ap edge_in found in
+        let first : untold (flow_of plan inputs) p x ≡ Some report.0 = sym (reports s) ∙ ap edge_in found in
         let at : FoundIn (λ q. nat_lt (x.told q) (x.marks q)) (sources_of plan p.stage) (Some report.0) =
         subst (FoundIn (λ q. nat_lt (x.told q) (x.marks q)) (sources_of plan p.stage)) first (first_found (sources_of plan p.stage) (λ q. nat_lt (x.told q) (x.marks q))) in
         record {

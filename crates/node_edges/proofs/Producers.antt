@@ -323,9 +323,9 @@ producers_follow f on p few = record {
 }
 
 -- the replicas of a pair are no more than a producer knows
-pub few_in_pairs : (plan : PlanView) (rows : List Input) → (flow_of plan rows).replicas ≤ max_copies
+pub few_in_pairs : (plan : PlanView) (inputs : List Input) → (flow_of plan inputs).replicas ≤ max_copies
 unfolding flow_of
-few_in_pairs plan rows = omega arith
+few_in_pairs plan inputs = omega arith
 
 pub few_of_pair : (w : Which) → copy_of w < max_copies
 few_of_pair A = omega arith

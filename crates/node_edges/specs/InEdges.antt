@@ -12,10 +12,10 @@ use Rattle.pair_machine.specs.Ingress.{last_stamp}
 use Rattle.pair_machine.specs.Numbers.{Consumer, Partition}
 
 -- a consumer stands for a partition's
-pub record ConsumerStands (plan : PlanView) (rows : List Input) (p : Partition) (x : Consumer) (code : ConsumerView) : Type 0 where
+pub record ConsumerStands (plan : PlanView) (inputs : List Input) (p : Partition) (x : Consumer) (code : ConsumerView) : Type 0 where
   pub edges : length code.merge.marks ≡ sources_of plan p.stage
   pub listed : length code.told ≡ length code.merge.marks
-  pub merge : StandsFor (last_stamp rows) (edges_into plan rows p.stage p.part) code.merge
+  pub merge : StandsFor (last_stamp inputs) (edges_into plan inputs p.stage p.part) code.merge
   pub count : code.merge.count ≡ x.count
   pub marks : (q : ℕ) → q < sources_of plan p.stage → mark_of code.merge q ≡ x.marks q
   pub told : (q : ℕ) → q < sources_of plan p.stage → told_of code q ≡ x.told q

@@ -1,14 +1,13 @@
 // Where the inputs of a plan stand in their files.
 ghost use Rattle.origin_text.specs.Files.{came_before, file_in, file_of, files_in, input_text, is_of, line_at, line_in, place_of, text_of, texts_of};
-ghost use Rattle.std.specs.Prelude.{◌≡◌, ◌≤◌, ◌<◌, ◌^◌, ◌+◌, ◌-◌, ◌==◌, ◌&&◌, ◌++◌, OnOk, Some, if◌then◌else◌, length, slice_get};
+ghost use Rattle.std.specs.Prelude.{◌≡◌, ◌≤◌, ◌<◌, ◌^◌, ◌+◌, ◌-◌, ◌==◌, ◌&&◌, ◌++◌, OnOk, if◌then◌else◌, length, slice_get};
 ghost use Rattle.trade_text.specs.TradesView.{inputs_in};
-ghost use Rattle.tuple_edge.specs.Input.{Input};
 
 use crate::lines::InputLines;
 use crate::pieces::{push_count, push_text};
 use std::alloc::Global;
 use trade_text::Trades;
-use tuple_edge::{OutOfMemory, Row};
+use tuple_edge::{Input, OutOfMemory, Row};
 
 /// A file of trades or of movements: its name, its text without a mark at the front, and the rows of its records, in their order.
 #[derive(Clone, Copy)]
@@ -39,20 +38,10 @@ fn file_of<'a>(files: &InputFiles<'a>, source: u32) -> InputFile<'a>
 }
 
 // Whether an input is of this source and of a row's time.
-fn is_alike(its: u32, row: &Row, source: u32, like: &Row) -> bool
-    ensures { result ≡ is_of source like.now.time (record { source = its; row = row.now }) }
+fn is_of(input: &Input, source: u32, like: &Row) -> bool
+    ensures { result ≡ is_of source like.now.time input.now }
 {
-    its == source && row.time == like.time
-}
-
-// Whether the input at a place is.
-fn is_of(inputs: &Trades, place: usize, source: u32, like: &Row) -> bool
-    requires { place < length inputs.now.rows }
-    ensures { (x : Input) → slice_get (inputs_in inputs.now) place ≡ Some x → result ≡ is_of source like.now.time x }
-{
-    let its = inputs.source(place);
-    let row = inputs.rows()[place];
-    is_alike(its, &row, source, like)
+    input.source == source && input.row.time == like.time
 }
 
 // One more, where it is so.
@@ -70,7 +59,7 @@ fn came_before(inputs: &Trades, place: usize, source: u32, like: &Row) -> usize
 {
     let mut count = 0;
     for i in 0..place {
-        count = counted(is_of(inputs, i, source, like), count);
+        count = counted(is_of(&inputs.input(i), source, like), count);
     }
     count
 }
@@ -155,8 +144,7 @@ fn push_there(
     ensures text { OnOk result (text.new.items ≡ text.old.items ++ input_text (files_in files.now) place (slice_get (inputs_in files.now.inputs.now) place)) }
     ensures same { lines.new ≡ lines.old }
 {
-    let source = files.inputs.source(place);
-    let row = files.inputs.rows()[place];
+    let Input { source, row } = files.inputs.input(place);
     let before = came_before(files.inputs, place, source, &row);
     let file = file_of(files, source);
     push_line(alloc, text, lines, source, &file, before, &row)

@@ -19,12 +19,12 @@ use Rattle.pair_machine.proofs.Tests.{if_elim}
 use Rattle.pair_control.specs.Packets.{body_of, packets_of}
 use Rattle.pair_machine.specs.Courses.{ArePacketsFor}
 
-module _ (plan : PlanView) (rows : List Input) (n : NodeId) where
+module _ (plan : PlanView) (inputs : List Input) (n : NodeId) where
   -- the body that is sent for an envelope of node n stands for its message
   abbrev pub IsSentWell : Envelope → Type 0
-  IsSentWell e = BodyStands plan rows (link n e.to) (body_of e.message) e.message
+  IsSentWell e = BodyStands plan inputs (link n e.to) (body_of e.message) e.message
 
-  pub packets_stand : (es : List Envelope) → Each IsSentWell es → ArePacketsFor (BodyStands plan rows) n (packets_of es) es
+  pub packets_stand : (es : List Envelope) → Each IsSentWell es → ArePacketsFor (BodyStands plan inputs) n (packets_of es) es
   packets_stand [] h = tt
   packets_stand (e ∷ es) h = ((refl, h.0), packets_stand es h.1)
 

@@ -35,15 +35,15 @@ pub record IsOfPlan (plan : PlanView) (c : ControllerView) : Type 0 where
 -- ---- one step
 
 -- The machine's node takes the message: it has then the numbers of the later controller, and what it sends is what was appended.
-pub record IsMachineStep (plan : PlanView) (rows : List Input) (old new : ControllerView) (from : NodeId) (b : Body) (m : Message) : Type 0 where
-  pub taken : does (flow_of plan rows) (node_of old) (Takes from m) (ControllerNode (numbers_of old)) ≡ Ok (ControllerNode (numbers_of new), (taking old from b).1)
-  pub stand : ArePacketsFor (BodyStands plan rows) (node_of old) (packets_of (taking old from b).1) (taking old from b).1
+pub record IsMachineStep (plan : PlanView) (inputs : List Input) (old new : ControllerView) (from : NodeId) (b : Body) (m : Message) : Type 0 where
+  pub taken : does (flow_of plan inputs) (node_of old) (Takes from m) (ControllerNode (numbers_of old)) ≡ Ok (ControllerNode (numbers_of new), (taking old from b).1)
+  pub stand : ArePacketsFor (BodyStands plan inputs) (node_of old) (packets_of (taking old from b).1) (taking old from b).1
 
 -- ---- in a course
 
 -- To take this packet from a node is a step of the controller in a course, and it sends these packets: whatever message the packet
 -- stands for, and whatever its clock and its place on the link are.
 abbrev pub IsTaken : PlanView → List Input → ControllerView → ControllerView → NodeId → Body → Type 0
-IsTaken plan rows old new from b =
-    (at index clock : ℕ) → IsStep (flow_of plan rows) (BodyStands plan rows) (Asks (flow_of plan rows)) (node_of old) (StandsFor (flow_of plan rows) old) (StandsFor (flow_of plan rows) new)
+IsTaken plan inputs old new from b =
+    (at index clock : ℕ) → IsStep (flow_of plan inputs) (BodyStands plan inputs) (Asks (flow_of plan inputs)) (node_of old) (StandsFor (flow_of plan inputs) old) (StandsFor (flow_of plan inputs) new)
     (event.Take (link from (node_of old)) index) (Some (record { at = at; body = b })) (λ to. packets_to clock to (packets_of (taking old from b).1))

@@ -37,7 +37,7 @@ fits false given (Some t) s none gone = (gone, subst (λ l. IsPrefix l (rows_of 
 -- ---- while it goes on
 
 -- the parts of a run whose inputs are these admit them
-pub all_admit : (inputs : List Input) (ps : List (NodeState × List Stamped)) → AllAdmit (λ (s : NodeState) (rows : List Input). rows ≡ inputs) inputs ps
+pub all_admit : (inputs : List Input) (ps : List (NodeState × List Stamped)) → AllAdmit (λ (s : NodeState) (others : List Input). others ≡ inputs) inputs ps
 all_admit inputs [] = tt
 all_admit inputs (p ∷ ps) = (refl, all_admit inputs ps)
 
@@ -46,7 +46,7 @@ some_input : Input
 some_input = record { source = 0; row = record { time = pos 0; account = pos 0; symbol = pos 0; qty = pos 0; value = pos 0 } }
 
 -- what came, and one input more, can't both be all that came before
-still_ended : (old new : List Input) (was is : Bool) → was ≡ true → ((rows : List Input) → AreCome is new rows → AreCome was old rows) → is ≡ true
+still_ended : (old new : List Input) (was is : Bool) → was ≡ true → ((inputs : List Input) → AreCome is new inputs → AreCome was old inputs) → is ≡ true
 still_ended old new was true e back = refl
 still_ended old new true false e back =
     let none : old ≡ new = back new ([], append-nil new) in
@@ -57,7 +57,7 @@ still_ended old new true false e back =
 still_ended old new false false e back = e
 
 -- where no more inputs came to a node, and what may be its inputs now might have been before, no more come
-pub still_came : (old new : NodeState) → id_of new ≡ id_of old → ((rows : List Input) → Admits new rows → Admits old rows) → AllCame old → AllCame new
+pub still_came : (old new : NodeState) → id_of new ≡ id_of old → ((inputs : List Input) → Admits new inputs → Admits old inputs) → AllCame old → AllCame new
 still_came (state.Ingress i) (state.Ingress j) id back came = still_ended i.inputs j.inputs i.ended j.ended came back
 still_came (state.Replica r) (state.Ingress j) id back came = let z : ⊥ = cc id in absurd z
 still_came (state.Control c) (state.Ingress j) id back came = let z : ⊥ = cc id in absurd z
@@ -68,8 +68,8 @@ still_came old (state.Egress e) id back came = tt
 
 -- what came of a task is the same where no other inputs may be than those that came beforehand
 pub acted_fed : (inputs : List Input) (seen old new : NodeState) (t : Task) (result : Result Worked OutOfMemory) (packets : List (NodeId × Body)) → seen ≡ old
-    → HasActed id_of IsOfPlan StandsFor rows_of gone_of Admits seen new t result packets → HasActed id_of IsOfPlan StandsFor rows_of gone_of (λ s rows. rows ≡ inputs) old new t result packets
-acted_fed inputs seen old new t result packets same h = subst (λ (s : NodeState). HasActed id_of IsOfPlan StandsFor rows_of gone_of (λ s rows. rows ≡ inputs) s new t result packets) same
+    → HasActed id_of IsOfPlan StandsFor rows_of gone_of Admits seen new t result packets → HasActed id_of IsOfPlan StandsFor rows_of gone_of (λ s others. others ≡ inputs) old new t result packets
+acted_fed inputs seen old new t result packets same h = subst (λ (s : NodeState). HasActed id_of IsOfPlan StandsFor rows_of gone_of (λ s others. others ≡ inputs) s new t result packets) same
     (record {
       here = h.here;
       step = h.step;

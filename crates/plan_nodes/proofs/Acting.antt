@@ -212,7 +212,7 @@ back_here node.Egress = refl
 -- ---- a controller
 
 pub control_takes : (old new : ControllerView) (from : NodeId) (packet : Packet) (before after : List (NodeId × Body)) → after ≡ before ++ packets_of (taking old from packet.body).1 →
-    ((plan : PlanView) (rows : List Input) → control.IsTaken plan rows old new from packet.body) → length after ≤ length before + 19 →
+    ((plan : PlanView) (inputs : List Input) → control.IsTaken plan inputs old new from packet.body) → length after ≤ length before + 19 →
     ((plan : PlanView) → control.IsOfPlan plan old → GoOverLinks plan (control.node_of old) (appended before after)) → control.node_of new ≡ control.node_of old →
     ((plan : PlanView) → control.IsOfPlan plan old → control.IsOfPlan plan new) → HasTaken (state.Control old) (state.Control new) from packet (Ok Did) before after
 control_takes old new from packet before after more course few linked id of_plan =

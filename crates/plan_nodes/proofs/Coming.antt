@@ -13,12 +13,12 @@ use Rattle.plan_nodes.specs.declared.state.NodeState.{NodeState}
 use Rattle.plan_nodes.specs.declared.state.NodeState.TheVariants as state
 
 -- where all came, nothing but these may be the inputs
-pub these_alone : (i : IngressView) (rows : List Input) → i.ended ≡ true → i.inputs ≡ rows → (inputs : List Input) → Admits (state.Ingress i) inputs → inputs ≡ rows
-these_alone i rows ended came inputs may = sym (subst (λ b. AreCome b i.inputs inputs) ended may) ∙ came
+pub these_alone : (i : IngressView) (these : List Input) → i.ended ≡ true → i.inputs ≡ these → (inputs : List Input) → Admits (state.Ingress i) inputs → inputs ≡ these
+these_alone i these ended came inputs may = sym (subst (λ b. AreCome b i.inputs inputs) ended may) ∙ came
 
 -- where nothing but these may be the inputs, they came, and are all
-pub all_came : (s : NodeState) (rows : List Input) → ((inputs : List Input) → Admits s inputs → inputs ≡ rows) → (has_ended s ≡ true) × (inputs_in s ≡ rows)
-all_came s rows only = came_whole (has_ended s) (inputs_in s) rows only
+pub all_came : (s : NodeState) (these : List Input) → ((inputs : List Input) → Admits s inputs → inputs ≡ these) → (has_ended s ≡ true) × (inputs_in s ≡ these)
+all_came s these only = came_whole (has_ended s) (inputs_in s) these only
 
 -- what came to a node may be the inputs
 pub own_admitted : (s : NodeState) → Admits s (inputs_in s)

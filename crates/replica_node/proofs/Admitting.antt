@@ -144,30 +144,30 @@ lows_of_kept t n [] = refl
 lows_of_kept t n (x ∷ xs) = lows_of_kept t (n + 1) xs
 
 -- the list of a move tells the lows of the out-edges, each once and in their order
-lows_moved : (plan : PlanView) (rows : List Input) (p : Partition) (m : MoveNumbers) → lows_in (move_list plan rows p m) ≡ range_with_len 0 (parts_of plan (p.stage + 1))
-lows_moved plan rows p m =
+lows_moved : (plan : PlanView) (inputs : List Input) (p : Partition) (m : MoveNumbers) → lows_in (move_list plan inputs p m) ≡ range_with_len 0 (parts_of plan (p.stage + 1))
+lows_moved plan inputs p m =
     let sources = sources_of plan p.stage in
     let targets = parts_of plan (p.stage + 1) in
-    let waits : ℕ → List Entry = λ q. numbered (λ n x. entry.Head q n x) (used_of plan rows p q m.count) (waiting plan rows p m.count q (m.marks q)) in
-    let keeps : ℕ → List Entry = λ t. numbered (λ n x. entry.Kept t n x) (m.lows t) (kept plan rows p m.count t (m.lows t)) in
+    let waits : ℕ → List Entry = λ q. numbered (λ n x. entry.Head q n x) (used_of plan inputs p q m.count) (waiting plan inputs p m.count q (m.marks q)) in
+    let keeps : ℕ → List Entry = λ t. numbered (λ n x. entry.Kept t n x) (m.lows t) (kept plan inputs p m.count t (m.lows t)) in
     let marks = each_below sources (λ q. entry.Mark q (m.marks q) ∷ []) in
     let count = entry.Count m.count ∷ [] in
-    let told = each_below targets (λ t. entry.Low t (m.lows t) (made_on plan rows (out_edge p t) m.count) ∷ []) in
-    let keyed = entries_after plan rows p m.count in
+    let told = each_below targets (λ t. entry.Low t (m.lows t) (made_on plan inputs (out_edge p t) m.count) ∷ []) in
+    let keyed = entries_after plan inputs p m.count in
     let before : lows_in (marks ++ count ++ each_below sources waits) ≡ [] =
     none_after (marks ++ count) (each_below sources waits)
-    (lows_below sources waits (λ q. lows_of_heads q (used_of plan rows p q m.count) (waiting plan rows p m.count q (m.marks q))))
+    (lows_below sources waits (λ q. lows_of_heads q (used_of plan inputs p q m.count) (waiting plan inputs p m.count q (m.marks q))))
     ∙ none_after marks count refl ∙ lows_below sources (λ q. entry.Mark q (m.marks q) ∷ []) (λ q. refl) in
     none_after (marks ++ count ++ each_below sources waits ++ told ++ each_below targets keeps) keyed (lows_keyed keyed (kept_keyed (slice_get plan.stages (p.stage - 1)) _))
     ∙ none_after (marks ++ count ++ each_below sources waits ++ told) (each_below targets keeps)
-    (lows_below targets keeps (λ t. lows_of_kept t (m.lows t) (kept plan rows p m.count t (m.lows t))))
+    (lows_below targets keeps (λ t. lows_of_kept t (m.lows t) (kept plan inputs p m.count t (m.lows t))))
     ∙ none_before (marks ++ count ++ each_below sources waits) told before
-    ∙ lows_of_lows targets m.lows (λ t. made_on plan rows (out_edge p t) m.count)
+    ∙ lows_of_lows targets m.lows (λ t. made_on plan inputs (out_edge p t) m.count)
 
 -- ---- entries of a move
 
-module _ (plan : PlanView) (rows : List Input) (is : IsPlan plan) (times : AreTimely rows) (role : Role) (here : IsOfPlan plan role) where
-  entries_here : (m : MoveNumbers) → EachOfNumbers (λ n. n < number_limit) m → Each (IsEntryHere role) (move_list plan rows (partition_of role) m)
+module _ (plan : PlanView) (inputs : List Input) (is : IsPlan plan) (times : AreTimely inputs) (role : Role) (here : IsOfPlan plan role) where
+  entries_here : (m : MoveNumbers) → EachOfNumbers (λ n. n < number_limit) m → Each (IsEntryHere role) (move_list plan inputs (partition_of role) m)
   entries_here m small =
       let p = partition_of role in
       let sources = sources_of plan p.stage in
@@ -175,56 +175,56 @@ module _ (plan : PlanView) (rows : List Input) (is : IsPlan plan) (times : AreTi
       let P : Entry → Type 0 = IsEntryHere role in
       let source : (q : ℕ) → q < sources → q < role.sources = λ q l. subst (λ n. q < n) (sym here.sources) l in
       let target : (t : ℕ) → t < targets → t < targets_of role.next = λ t l. subst (λ n. t < n) (targets_are plan role here) l in
-      let waits : ℕ → List Entry = λ q. numbered (λ n x. entry.Head q n x) (used_of plan rows p q m.count) (waiting plan rows p m.count q (m.marks q)) in
-      let keeps : ℕ → List Entry = λ t. numbered (λ n x. entry.Kept t n x) (m.lows t) (kept plan rows p m.count t (m.lows t)) in
+      let waits : ℕ → List Entry = λ q. numbered (λ n x. entry.Head q n x) (used_of plan inputs p q m.count) (waiting plan inputs p m.count q (m.marks q)) in
+      let keeps : ℕ → List Entry = λ t. numbered (λ n x. entry.Kept t n x) (m.lows t) (kept plan inputs p m.count t (m.lows t)) in
       let marks = each_below sources (λ q. entry.Mark q (m.marks q) ∷ []) in
       let count = entry.Count m.count ∷ [] in
-      let told = each_below targets (λ t. entry.Low t (m.lows t) (made_on plan rows (out_edge p t) m.count) ∷ []) in
-      let keyed = entries_after plan rows p m.count in
-      let timely : (q : ℕ) → Each IsTimely (waiting plan rows p m.count q (m.marks q)) = λ q.
-      each_between (used_of plan rows p q m.count) (m.marks q) (items_on plan rows (in_edge p q)) ((times_stay plan rows is times).edges (in_edge p q).stage (in_edge p q).from (in_edge p q).to) in
-      let timely_kept : (t : ℕ) → Each IsTimely (kept plan rows p m.count t (m.lows t)) = λ t.
-      each_between (m.lows t) (made_on plan rows (out_edge p t) m.count) (items_on plan rows (out_edge p t)) ((times_stay plan rows is times).edges (out_edge p t).stage (out_edge p t).from (out_edge p t).to) in
+      let told = each_below targets (λ t. entry.Low t (m.lows t) (made_on plan inputs (out_edge p t) m.count) ∷ []) in
+      let keyed = entries_after plan inputs p m.count in
+      let timely : (q : ℕ) → Each IsTimely (waiting plan inputs p m.count q (m.marks q)) = λ q.
+      each_between (used_of plan inputs p q m.count) (m.marks q) (items_on plan inputs (in_edge p q)) ((times_stay plan inputs is times).edges (in_edge p q).stage (in_edge p q).from (in_edge p q).to) in
+      let timely_kept : (t : ℕ) → Each IsTimely (kept plan inputs p m.count t (m.lows t)) = λ t.
+      each_between (m.lows t) (made_on plan inputs (out_edge p t) m.count) (items_on plan inputs (out_edge p t)) ((times_stay plan inputs is times).edges (out_edge p t).stage (out_edge p t).from (out_edge p t).to) in
       let with_marks : Each P marks = below_each P sources (λ q. entry.Mark q (m.marks q) ∷ []) (λ q l. ((source q l, small.marks q), tt)) in
       let with_count : Each P (marks ++ count) = each_append P marks count with_marks (small.count, tt) in
       let with_waits : Each P (marks ++ count ++ each_below sources waits) =
       each_append P (marks ++ count) (each_below sources waits) with_count (below_each P sources waits (λ q l.
       let fits : (n : ℕ) → n ≤ m.marks q → n < number_limit = λ n most. omega (arith, most, small.marks q) in
-      numbered_each P IsTimely (λ n x. entry.Head q n x) (m.marks q) (λ n x most i. (source q l, fits n most, i)) (used_of plan rows p q m.count) (waiting plan rows p m.count q (m.marks q))
-      (few_between (used_of plan rows p q m.count) (m.marks q) (items_on plan rows (in_edge p q))) (timely q))) in
+      numbered_each P IsTimely (λ n x. entry.Head q n x) (m.marks q) (λ n x most i. (source q l, fits n most, i)) (used_of plan inputs p q m.count) (waiting plan inputs p m.count q (m.marks q))
+      (few_between (used_of plan inputs p q m.count) (m.marks q) (items_on plan inputs (in_edge p q))) (timely q))) in
       let with_told : Each P (marks ++ count ++ each_below sources waits ++ told) =
       each_append P (marks ++ count ++ each_below sources waits) told with_waits
-      (below_each P targets (λ t. entry.Low t (m.lows t) (made_on plan rows (out_edge p t) m.count) ∷ []) (λ t l. ((target t l, small.lows t), tt))) in
+      (below_each P targets (λ t. entry.Low t (m.lows t) (made_on plan inputs (out_edge p t) m.count) ∷ []) (λ t l. ((target t l, small.lows t), tt))) in
       let with_keeps : Each P (marks ++ count ++ each_below sources waits ++ told ++ each_below targets keeps) =
       each_append P (marks ++ count ++ each_below sources waits ++ told) (each_below targets keeps) with_told (below_each P targets keeps (λ t l.
-      numbered_each P IsTimely (λ n x. entry.Kept t n x) (made_on plan rows (out_edge p t) m.count) (λ n x most i. (target t l, i)) (m.lows t) (kept plan rows p m.count t (m.lows t))
-      (few_between (m.lows t) (made_on plan rows (out_edge p t) m.count) (items_on plan rows (out_edge p t))) (timely_kept t))) in
+      numbered_each P IsTimely (λ n x. entry.Kept t n x) (made_on plan inputs (out_edge p t) m.count) (λ n x most i. (target t l, i)) (m.lows t) (kept plan inputs p m.count t (m.lows t))
+      (few_between (m.lows t) (made_on plan inputs (out_edge p t) m.count) (items_on plan inputs (out_edge p t))) (timely_kept t))) in
       each_append P (marks ++ count ++ each_below sources waits ++ told ++ each_below targets keeps) keyed with_keeps
       (keyed_here role keyed (kept_keyed (slice_get plan.stages (p.stage - 1)) _))
 
   -- ---- the end of a move
 
   -- the entries taken are the whole list, which tells the lows of the out-edges
-  whole_at : (taken : List Entry) (count : ℕ) (m : MoveNumbers) → IsOfStage (flow_of plan rows) (partition_of role) → MoveBound (flow_of plan rows) (partition_of role) m
-      → taken ≡ take count (move_list plan rows (partition_of role) m) → count ≡ size (flow_of plan rows) (partition_of role) m → lows_in taken ≡ range_with_len 0 (targets_of role.next)
+  whole_at : (taken : List Entry) (count : ℕ) (m : MoveNumbers) → IsOfStage (flow_of plan inputs) (partition_of role) → MoveBound (flow_of plan inputs) (partition_of role) m
+      → taken ≡ take count (move_list plan inputs (partition_of role) m) → count ≡ size (flow_of plan inputs) (partition_of role) m → lows_in taken ≡ range_with_len 0 (targets_of role.next)
   whole_at taken count m stage bound same all =
-      let es = move_list plan rows (partition_of role) m in
-      let sized : length es ≡ size (flow_of plan rows) (partition_of role) m = have_their_size plan rows is (partition_of role) m stage bound in
+      let es = move_list plan inputs (partition_of role) m in
+      let sized : length es ≡ size (flow_of plan inputs) (partition_of role) m = have_their_size plan inputs is (partition_of role) m stage bound in
       let whole : take count es ≡ es = take_all count es (subst (λ n. length es ≤ n) (sym all) (subst (λ n. length es ≤ n) sized (omega arith))) in
-      ap lows_in (same ∙ whole) ∙ lows_moved plan rows (partition_of role) m ∙ ap (range_with_len 0) (targets_are plan role here)
+      ap lows_in (same ∙ whole) ∙ lows_moved plan inputs (partition_of role) m ∙ ap (range_with_len 0) (targets_are plan role here)
 
-  size_some : (m : MoveNumbers) → size (flow_of plan rows) (partition_of role) m ≡ 0 → ⊥
+  size_some : (m : MoveNumbers) → size (flow_of plan inputs) (partition_of role) m ≡ 0 → ⊥
   size_some m e = omega arith
 
-  module _ (stage : IsOfStage (flow_of plan rows) (partition_of role)) (m : MoveNumbers) (bound : MoveBound (flow_of plan rows) (partition_of role) m) where
-    taken_whole : (taken : List Entry) (count : ℕ) (moved : Option MoveNumbers) → TakenStands plan rows (partition_of role) taken count moved → length taken ≡ count
-        → ((t : MoveNumbers) → moved ≡ Some t → m ≡ t) → count ≡ size (flow_of plan rows) (partition_of role) m → lows_in taken ≡ range_with_len 0 (targets_of role.next)
+  module _ (stage : IsOfStage (flow_of plan inputs) (partition_of role)) (m : MoveNumbers) (bound : MoveBound (flow_of plan inputs) (partition_of role) m) where
+    taken_whole : (taken : List Entry) (count : ℕ) (moved : Option MoveNumbers) → TakenStands plan inputs (partition_of role) taken count moved → length taken ≡ count
+        → ((t : MoveNumbers) → moved ≡ Some t → m ≡ t) → count ≡ size (flow_of plan inputs) (partition_of role) m → lows_in taken ≡ range_with_len 0 (targets_of role.next)
     taken_whole taken count None none many same all = absurd (size_some m (sym all ∙ sym many ∙ ap length none))
     taken_whole taken count (Some t) first many same all =
-        whole_at taken count m stage bound (first ∙ ap (λ z. take count (move_list plan rows (partition_of role) z)) (sym (same t refl))) all
+        whole_at taken count m stage bound (first ∙ ap (λ z. take count (move_list plan inputs (partition_of role) z)) (sym (same t refl))) all
 
-    end_whole : (own : Phase) (r : Replica) → PhaseStands plan rows (partition_of role) own r → (i c inc count : ℕ) → i ≡ inc → c ≡ count
-        → IsOfSameMove (flow_of plan rows) (partition_of role) r (ChunkEnd inc count m) → IsWholeAt role own i c
+    end_whole : (own : Phase) (r : Replica) → PhaseStands plan inputs (partition_of role) own r → (i c inc count : ℕ) → i ≡ inc → c ≡ count
+        → IsOfSameMove (flow_of plan inputs) (partition_of role) r (ChunkEnd inc count m) → IsWholeAt role own i c
     end_whole (phase.Running x) r stands i c inc count at many same = tt
     end_whole (phase.Gone own) r stands i c inc count at many same = tt
     end_whole (phase.Gathering g) (Gone own) stands i c inc count at many same = absurd stands
@@ -234,9 +234,9 @@ module _ (plan : PlanView) (rows : List Input) (is : IsPlan plan) (times : AreTi
 
 -- ---- who sends what
 
-module _ (plan : PlanView) (rows : List Input) (is : IsPlan plan) (times : AreTimely rows) (v : ReplicaView) (here : IsOfPlan plan v.role) where
-  tuple_admitted : (from : NodeId) → HasNode (flow_of plan rows) from → (edge named : EdgeId) (number at : ℕ) (i : Item) → Carries (flow_of plan rows) (link from (node_of v.role)) (Tuple named at)
-      → edge ≡ named → number ≡ at → item_at (items_on plan rows named) at ≡ Some i → at < number_limit → IsAdmitted v from (body.Tuple edge number i)
+module _ (plan : PlanView) (inputs : List Input) (is : IsPlan plan) (times : AreTimely inputs) (v : ReplicaView) (here : IsOfPlan plan v.role) where
+  tuple_admitted : (from : NodeId) → HasNode (flow_of plan inputs) from → (edge named : EdgeId) (number at : ℕ) (i : Item) → Carries (flow_of plan inputs) (link from (node_of v.role)) (Tuple named at)
+      → edge ≡ named → number ≡ at → item_at (items_on plan inputs named) at ≡ Some i → at < number_limit → IsAdmitted v from (body.Tuple edge number i)
   tuple_admitted (node.Replica s p w) there edge named number at i h at_edge at_number item small =
       let stage = ap (λ (z : EdgeId). z.stage) at_edge in
       let source = ap (λ (z : EdgeId). z.from) at_edge in
@@ -244,11 +244,11 @@ module _ (plan : PlanView) (rows : List Input) (is : IsPlan plan) (times : AreTi
       let sender = h.0.1 in
       let taker = h.1.0 in
       let next : s + 1 ≡ v.role.stage = omega arith in
-      let within : p < v.role.sources = subst (λ n. p < n) (sym here.sources) (subst (λ k. p < sources_of plan k) next (subst (λ n. p < n) (sources_at plan rows (s + 1)) there.1)) in (
+      let within : p < v.role.sources = subst (λ n. p < n) (sym here.sources) (subst (λ k. p < sources_of plan k) next (subst (λ n. p < n) (sources_at plan inputs (s + 1)) there.1)) in (
         (stage ∙ h.0.1, source ∙ h.0.2),
         (omega arith, target ∙ h.1.1, subst (λ k. k < v.role.sources) (sym (source ∙ h.0.2)) within),
         omega arith,
-        timely_at (items_on plan rows named) ((times_stay plan rows is times).edges named.stage named.from named.to) at i item,
+        timely_at (items_on plan inputs named) ((times_stay plan inputs is times).edges named.stage named.from named.to) at i item,
       )
   tuple_admitted node.Ingress there edge named number at i h at_edge at_number item small =
       let stage = ap (λ (z : EdgeId). z.stage) at_edge in
@@ -257,23 +257,23 @@ module _ (plan : PlanView) (rows : List Input) (is : IsPlan plan) (times : AreTi
       let sender = h.0.0 in
       let taker = h.1.0 in
       let next : 1 ≡ v.role.stage = omega arith in
-      let within : named.from < v.role.sources = subst (λ n. named.from < n) (sym here.sources) (subst (λ k. named.from < sources_of plan k) next (subst (λ n. named.from < n) (sources_at plan rows 1) h.0.1)) in (
+      let within : named.from < v.role.sources = subst (λ n. named.from < n) (sym here.sources) (subst (λ k. named.from < sources_of plan k) next (subst (λ n. named.from < n) (sources_at plan inputs 1) h.0.1)) in (
         stage ∙ h.0.0,
         (omega arith, target ∙ h.1.1, subst (λ k. k < v.role.sources) (sym source) within),
         omega arith,
-        timely_at (items_on plan rows named) ((times_stay plan rows is times).edges named.stage named.from named.to) at i item,
+        timely_at (items_on plan inputs named) ((times_stay plan inputs is times).edges named.stage named.from named.to) at i item,
       )
   tuple_admitted (node.Control s p) there edge named number at i h at_edge at_number item small = absurd h.0
   tuple_admitted node.Egress there edge named number at i h at_edge at_number item small = absurd h.0
 
   -- a partition of the next stage, or egress, is one of the targets
-  target_there : (s p : ℕ) → s ≡ v.role.stage + 1 → p < (flow_of plan rows).sources (s + 1) → p < targets_of v.role.next
+  target_there : (s p : ℕ) → s ≡ v.role.stage + 1 → p < (flow_of plan inputs).sources (s + 1) → p < targets_of v.role.next
   target_there s p next l =
-      let there : p < sources_of plan (s + 1) = subst (λ n. p < n) (sources_at plan rows (s + 1)) l in
+      let there : p < sources_of plan (s + 1) = subst (λ n. p < n) (sources_at plan inputs (s + 1)) l in
       let before : s + 1 - 1 ≡ v.role.stage + 1 = omega arith in
       subst (λ n. p < n) (targets_are plan v.role here) (subst (λ k. p < parts_of plan k) before there)
 
-  ack_admitted : (from : NodeId) → HasNode (flow_of plan rows) from → (edge named : EdgeId) (k upto : ℕ) → Carries (flow_of plan rows) (link from (node_of v.role)) (Ack named upto)
+  ack_admitted : (from : NodeId) → HasNode (flow_of plan inputs) from → (edge named : EdgeId) (k upto : ℕ) → Carries (flow_of plan inputs) (link from (node_of v.role)) (Ack named upto)
       → edge ≡ named → k ≡ upto → upto < number_limit → IsAdmitted v from (body.Ack edge k)
   ack_admitted (node.Control s p) there edge named k upto h at_edge at small =
       let stage = ap (λ (z : EdgeId). z.stage) at_edge in
@@ -289,14 +289,14 @@ module _ (plan : PlanView) (rows : List Input) (is : IsPlan plan) (times : AreTi
       let target = ap (λ (z : EdgeId). z.to) at_edge in
       let sender = h.0.0 in
       let taker = h.1.1 in
-      let last = stages_are plan rows in
+      let last = stages_are plan inputs in
       let none : v.role.next ≡ None = sym here.next ∙ slice_get_past plan.stages v.role.stage (omega arith) in
       let to : edge.to ≡ 0 = target ∙ h.0.1 in
       (none, (stage ∙ h.1.1, source ∙ h.1.2, subst (λ n. n < targets_of v.role.next) (sym to) (subst (λ z. 0 < targets_of z) (sym none) (omega arith))), omega arith)
   ack_admitted node.Ingress there edge named k upto h at_edge at small = absurd h.0
   ack_admitted (node.Replica s p w) there edge named k upto h at_edge at small = absurd h.0
 
-  want_admitted : (from : NodeId) → HasNode (flow_of plan rows) from → (edge named : EdgeId) (k number : ℕ) → Carries (flow_of plan rows) (link from (node_of v.role)) (Want named number)
+  want_admitted : (from : NodeId) → HasNode (flow_of plan inputs) from → (edge named : EdgeId) (k number : ℕ) → Carries (flow_of plan inputs) (link from (node_of v.role)) (Want named number)
       → edge ≡ named → IsAdmitted v from (body.Want edge k)
   want_admitted (node.Replica s p w) there edge named k number h at_edge =
       let stage = ap (λ (z : EdgeId). z.stage) at_edge in
@@ -304,7 +304,7 @@ module _ (plan : PlanView) (rows : List Input) (is : IsPlan plan) (times : AreTi
       let target = ap (λ (z : EdgeId). z.to) at_edge in
       let sender = h.0.0 in
       let taker = h.1.1 in
-      let last = stages_are plan rows in
+      let last = stages_are plan inputs in
       let most = there.0.1 in
       let more = get_of plan.stages v.role.stage (omega arith) in
       let next : v.role.next ≡ Some more.0 = sym here.next ∙ more.1 in
@@ -328,31 +328,31 @@ module _ (plan : PlanView) (rows : List Input) (is : IsPlan plan) (times : AreTi
 
   -- ---- parts of a move
 
-  chunk_admitted : (from : NodeId) (b : ℕ) (k inc number : ℕ) (e : Entry) (m : MoveNumbers) → Carries (flow_of plan rows) (link from (node_of v.role)) (Chunk inc number m)
-      → BodyStands plan rows (link from (node_of v.role)) (body.Chunk b k e) (Chunk inc number m) → EachOfNumbers (λ n. n < number_limit) m → IsAdmitted v from (body.Chunk b k e)
+  chunk_admitted : (from : NodeId) (b : ℕ) (k inc number : ℕ) (e : Entry) (m : MoveNumbers) → Carries (flow_of plan inputs) (link from (node_of v.role)) (Chunk inc number m)
+      → BodyStands plan inputs (link from (node_of v.role)) (body.Chunk b k e) (Chunk inc number m) → EachOfNumbers (λ n. n < number_limit) m → IsAdmitted v from (body.Chunk b k e)
   chunk_admitted (node.Replica s p w) b k inc number e m h st small =
       let same : record { stage = s; part = p } ≡ partition_of v.role = λ i. record { stage = h.0 i; part = h.1 i } in (
         h,
-        each_nth (IsEntryHere v.role) (move_list plan rows (partition_of v.role) m) (entries_here plan rows is times v.role here m small) number e
-            (subst (λ z. nth_from_one (move_list plan rows z m) number ≡ Some e) same st.2),
+        each_nth (IsEntryHere v.role) (move_list plan inputs (partition_of v.role) m) (entries_here plan inputs is times v.role here m small) number e
+            (subst (λ z. nth_from_one (move_list plan inputs z m) number ≡ Some e) same st.2),
       )
   chunk_admitted node.Ingress b k inc number e m h st small = absurd h
   chunk_admitted (node.Control s p) b k inc number e m h st small = absurd h
   chunk_admitted node.Egress b k inc number e m h st small = absurd h
 
-  end_admitted : (n : Node) → PhaseStands plan rows (partition_of v.role) v.phase (replica_in n) → (from : NodeId) (i c inc count : ℕ) (m : MoveNumbers)
-      → TakenAsks (flow_of plan rows) (node_of v.role) n from (ChunkEnd inc count m) → i ≡ inc → c ≡ count → IsAdmitted v from (body.ChunkEnd i c)
+  end_admitted : (n : Node) → PhaseStands plan inputs (partition_of v.role) v.phase (replica_in n) → (from : NodeId) (i c inc count : ℕ) (m : MoveNumbers)
+      → TakenAsks (flow_of plan inputs) (node_of v.role) n from (ChunkEnd inc count m) → i ≡ inc → c ≡ count → IsAdmitted v from (body.ChunkEnd i c)
   end_admitted n stands (node.Replica s p w) i c inc count m asks at many =
       let h = asks.carried in
       let same : record { stage = s; part = p } ≡ partition_of v.role = λ i. record { stage = h.0 i; part = h.1 i } in
-      let bound : MoveBound (flow_of plan rows) (partition_of v.role) m = subst (λ z. MoveBound (flow_of plan rows) z m) same asks.bound in
-      (h, end_whole plan rows is times v.role here (of_stage plan rows v.role here) m bound v.phase (replica_in n) stands i c inc count at many asks.same_move)
+      let bound : MoveBound (flow_of plan inputs) (partition_of v.role) m = subst (λ z. MoveBound (flow_of plan inputs) z m) same asks.bound in
+      (h, end_whole plan inputs is times v.role here (of_stage plan inputs v.role here) m bound v.phase (replica_in n) stands i c inc count at many asks.same_move)
   end_admitted n stands node.Ingress i c inc count m asks at many = absurd asks.carried
   end_admitted n stands (node.Control s p) i c inc count m asks at many = absurd asks.carried
   end_admitted n stands node.Egress i c inc count m asks at many = absurd asks.carried
 
-  to_replica : (n : Node) → PhaseStands plan rows (partition_of v.role) v.phase (replica_in n) → (from : NodeId) (b : Body) (m : Message) → TakenAsks (flow_of plan rows) (node_of v.role) n from m
-      → BodyStands plan rows (link from (node_of v.role)) b m → EachOfMessage (λ k. k < number_limit) m → IsAdmitted v from b
+  to_replica : (n : Node) → PhaseStands plan inputs (partition_of v.role) v.phase (replica_in n) → (from : NodeId) (b : Body) (m : Message) → TakenAsks (flow_of plan inputs) (node_of v.role) n from m
+      → BodyStands plan inputs (link from (node_of v.role)) b m → EachOfMessage (λ k. k < number_limit) m → IsAdmitted v from b
   to_replica n stands from (body.Tuple edge number i) (Tuple named at) asks st small = tuple_admitted from asks.sender edge named number at i asks.carried st.0 st.1 st.2 small
   to_replica n stands from (body.Ack edge k) (Ack named upto) asks st small = ack_admitted from asks.sender edge named k upto asks.carried st.0 st.1 small
   to_replica n stands from (body.Want edge k) (Want named number) asks st small = want_admitted from asks.sender edge named k number asks.carried st.0
@@ -369,14 +369,14 @@ module _ (plan : PlanView) (rows : List Input) (is : IsPlan plan) (times : AreTi
   to_replica n stands from (body.Caught i) (Caught inc) asks st small = absurd (none_up from asks.carried)
   to_replica n stands from b m asks st small = absurd st
 
-pub replica_admits : (plan : PlanView) (rows : List Input) → IsPlan plan → AreTimely rows → (v : ReplicaView) (from : NodeId) (b : Body) (s : State) (m : Message) → IsSound (flow_of plan rows) s
-    → StandsFor plan rows v (s.nodes (node_of v.role)) → EachOfMessage (λ n. n < number_limit) m → Among m (s.sent (link from (node_of v.role)))
-    → BodyStands plan rows (link from (node_of v.role)) b m → IsTrue (has_link plan (link from (node_of v.role))) × IsAdmitted v from b
-replica_admits plan rows is times v from b s m sound stands small among st =
-    let f = flow_of plan rows in
+pub replica_admits : (plan : PlanView) (inputs : List Input) → IsPlan plan → AreTimely inputs → (v : ReplicaView) (from : NodeId) (b : Body) (s : State) (m : Message) → IsSound (flow_of plan inputs) s
+    → StandsFor plan inputs v (s.nodes (node_of v.role)) → EachOfMessage (λ n. n < number_limit) m → Among m (s.sent (link from (node_of v.role)))
+    → BodyStands plan inputs (link from (node_of v.role)) b m → IsTrue (has_link plan (link from (node_of v.role))) × IsAdmitted v from b
+replica_admits plan inputs is times v from b s m sound stands small among st =
+    let f = flow_of plan inputs in
     let l = link from (node_of v.role) in
     let ends = each_at (λ k. HasNode f l.from × HasNode f l.to) m (s.sent l) among (sound.ends l) in
     let asks = taken_asks f s (node_of v.role) from m ends.1 sound among in (
-      links_named plan rows l m ends.0 ends.1 asks.carried,
-      to_replica plan rows is times v stands.of_plan (s.nodes (node_of v.role)) stands.phase_stands from b m asks st small,
+      links_named plan inputs l m ends.0 ends.1 asks.carried,
+      to_replica plan inputs is times v stands.of_plan (s.nodes (node_of v.role)) stands.phase_stands from b m asks st small,
     )

@@ -44,42 +44,42 @@ use Rattle.replica_node.proofs.Roles.{many_copies, merges, of_stage}
 use Rattle.replica_node.proofs.Whole.{whole_move}
 
 -- what doesn't change stands as before
-unchanged : (plan : PlanView) (rows : List Input) (role : Role) (p after : Phase) (sent : List (NodeId × Body)) (x : Replica) → PhaseStands plan rows (partition_of role) p x → after ≡ p → sent ≡ []
-    → ComesTo plan rows role after sent (x, [])
-unchanged plan rows role p after sent x stands same none =
-    subst (λ (f : Phase). ComesTo plan rows role f sent (x, [])) (sym same)
-    (subst (λ (ps : List (NodeId × Body)). ComesTo plan rows role p ps (x, [])) (sym none) (record { stands = stands; packets = tt }))
+unchanged : (plan : PlanView) (inputs : List Input) (role : Role) (p after : Phase) (sent : List (NodeId × Body)) (x : Replica) → PhaseStands plan inputs (partition_of role) p x → after ≡ p → sent ≡ []
+    → ComesTo plan inputs role after sent (x, [])
+unchanged plan inputs role p after sent x stands same none =
+    subst (λ (f : Phase). ComesTo plan inputs role f sent (x, [])) (sym same)
+    (subst (λ (ps : List (NodeId × Body)). ComesTo plan inputs role p ps (x, [])) (sym none) (record { stands = stands; packets = tt }))
 
 -- ---- the end of a move
 
 -- a newcomer that took as many entries as a move has took them all
-pub all_taken : (plan : PlanView) (rows : List Input) (role : Role) (g : NewcomerView) (x : GatheringNumbers) (m : MoveNumbers)
-    → IsPlan plan → IsOfPlan plan role → GatheringStands plan rows (partition_of role) g x → MoveBound (flow_of plan rows) (partition_of role) m
-    → ((before : MoveNumbers) → x.moved ≡ Some before → m ≡ before) → length g.taken ≡ size (flow_of plan rows) (partition_of role) m
-    → g.taken ≡ move_list plan rows (partition_of role) m
-all_taken plan rows role g x m is of_plan stands bound same long =
-    taken_front plan rows (partition_of role) g.taken x.taken x.moved m stands.count stands.taken same
-    ∙ take_all x.taken (move_list plan rows (partition_of role) m)
-    (let whole : length (move_list plan rows (partition_of role) m) ≡ size (flow_of plan rows) (partition_of role) m = have_their_size plan rows is (partition_of role) m (of_stage plan rows role of_plan) bound in
+pub all_taken : (plan : PlanView) (inputs : List Input) (role : Role) (g : NewcomerView) (x : GatheringNumbers) (m : MoveNumbers)
+    → IsPlan plan → IsOfPlan plan role → GatheringStands plan inputs (partition_of role) g x → MoveBound (flow_of plan inputs) (partition_of role) m
+    → ((before : MoveNumbers) → x.moved ≡ Some before → m ≡ before) → length g.taken ≡ size (flow_of plan inputs) (partition_of role) m
+    → g.taken ≡ move_list plan inputs (partition_of role) m
+all_taken plan inputs role g x m is of_plan stands bound same long =
+    taken_front plan inputs (partition_of role) g.taken x.taken x.moved m stands.count stands.taken same
+    ∙ take_all x.taken (move_list plan inputs (partition_of role) m)
+    (let whole : length (move_list plan inputs (partition_of role) m) ≡ size (flow_of plan inputs) (partition_of role) m = have_their_size plan inputs is (partition_of role) m (of_stage plan inputs role of_plan) bound in
     let count = stands.count in
     omega (arith, whole, long, count))
 
-module _ (plan : PlanView) (rows : List Input) (role : Role) (g : NewcomerView) (x : GatheringNumbers) (is : IsPlan plan) (timely : AreTimely rows)
-    (of_plan : IsOfPlan plan role) (stands : GatheringStands plan rows (partition_of role) g x) where
+module _ (plan : PlanView) (inputs : List Input) (role : Role) (g : NewcomerView) (x : GatheringNumbers) (is : IsPlan plan) (timely : AreTimely inputs)
+    (of_plan : IsOfPlan plan role) (stands : GatheringStands plan inputs (partition_of role) g x) where
   -- it runs with what the machine's newcomer runs with
-  caught_runs : (inc : ℕ) (m : MoveNumbers) (r : Running) → inc ≡ g.inc → HasCaughtUp role g r → MoveBound (flow_of plan rows) (partition_of role) m
-      → g.taken ≡ move_list plan rows (partition_of role) m → RunningStands plan rows (partition_of role) r (caught_up inc m x.held)
+  caught_runs : (inc : ℕ) (m : MoveNumbers) (r : Running) → inc ≡ g.inc → HasCaughtUp role g r → MoveBound (flow_of plan inputs) (partition_of role) m
+      → g.taken ≡ move_list plan inputs (partition_of role) m → RunningStands plan inputs (partition_of role) r (caught_up inc m x.held)
   caught_runs inc m r own caught bound whole = record {
     inc = caught.inc ∙ sym own;
     consumer = up.consumer;
     producer = up.producer;
     entries = up.entries;
     served = caught.served;
-    move = subst (λ (o : Option MoverView). MoveStands plan rows (partition_of role) o r.state.old None) (sym caught.move) tt;
+    move = subst (λ (o : Option MoverView). MoveStands plan inputs (partition_of role) o r.state.old None) (sym caught.move) tt;
   }
     where
-      w : (w : IsWholeMove role.sources role.op (move_list plan rows (partition_of role) m)) × ArePieces plan rows (partition_of role) m role.op w.merge w.producer w.items
-      w = whole_move plan rows role m is timely of_plan bound
+      w : (w : IsWholeMove role.sources role.op (move_list plan inputs (partition_of role) m)) × ArePieces plan inputs (partition_of role) m role.op w.merge w.producer w.items
+      w = whole_move plan inputs role m is timely of_plan bound
 
       mine : IsWholeMove (length g.held) role.op g.taken
       mine = record {
@@ -93,67 +93,67 @@ module _ (plan : PlanView) (rows : List Input) (role : Role) (g : NewcomerView) 
         list = whole ∙ w.0.list;
       }
 
-      up : StandsCaughtUp plan rows (partition_of role) inc m x.held (record { consumer = r.consumer; producer = r.producer; state = r.state })
+      up : StandsCaughtUp plan inputs (partition_of role) inc m x.held (record { consumer = r.consumer; producer = r.producer; state = r.state })
       up =
-          catch_ups_stand plan rows (partition_of role) inc m x.held g role.op (record { consumer = r.consumer; producer = r.producer; state = r.state }) w.0.merge w.0.producer w.0.items
-          (merges plan rows role of_plan) w.1 stands.held
+          catch_ups_stand plan inputs (partition_of role) inc m x.held g role.op (record { consumer = r.consumer; producer = r.producer; state = r.state }) w.0.merge w.0.producer w.0.items
+          (merges plan inputs role of_plan) w.1 stands.held
           (subst (λ n. IsCaughtUp g role.op role.stage role.part n (record { consumer = r.consumer; producer = r.producer; state = r.state }) w.0.merge w.0.producer w.0.items)
-          (sym (many_copies plan rows role of_plan)) (caught.caught mine))
+          (sym (many_copies plan inputs role of_plan)) (caught.caught mine))
 
   end_gathers : (inc count : ℕ) (m : MoveNumbers) (after : Phase) (sent : List (NodeId × Body)) → EndsGathering role inc count g after sent
-      → (inc ≡ x.inc → (before : MoveNumbers) → x.moved ≡ Some before → m ≡ before) → count ≡ size (flow_of plan rows) (partition_of role) m → MoveBound (flow_of plan rows) (partition_of role) m
-      → ComesTo plan rows role after sent (takes_end (partition_of role) inc count m (numbers.Gathering x))
+      → (inc ≡ x.inc → (before : MoveNumbers) → x.moved ≡ Some before → m ≡ before) → count ≡ size (flow_of plan inputs) (partition_of role) m → MoveBound (flow_of plan inputs) (partition_of role) m
+      → ComesTo plan inputs role after sent (takes_end (partition_of role) inc count m (numbers.Gathering x))
   end_gathers inc count m after sent ends same long bound =
-      subst (λ t. ComesTo plan rows role after sent
+      subst (λ t. ComesTo plan inputs role after sent
       (if t then (numbers.Running (caught_up inc m x.held), envelope (control_at (partition_of role)) (Caught inc) ∷ []) else (numbers.Gathering x, [])))
       (λ j. (inc == stands.inc j) && (count == stands.count j))
       (by_tests (inc == g.inc) (count == length g.taken) refl refl)
     where
-      refused : ((inc ≡ g.inc) × (count ≡ length g.taken) → ⊥) → ComesTo plan rows role after sent (numbers.Gathering x, [])
+      refused : ((inc ≡ g.inc) × (count ≡ length g.taken) → ⊥) → ComesTo plan inputs role after sent (numbers.Gathering x, [])
       refused not =
           let kept = ends.refused not in
-          subst (λ (p : Phase). ComesTo plan rows role p sent (numbers.Gathering x, [])) (sym kept.0)
-          (subst (λ (ps : List (NodeId × Body)). ComesTo plan rows role (phase.Gathering g) ps (numbers.Gathering x, [])) (sym kept.1) (record { stands = stands; packets = tt }))
+          subst (λ (p : Phase). ComesTo plan inputs role p sent (numbers.Gathering x, [])) (sym kept.0)
+          (subst (λ (ps : List (NodeId × Body)). ComesTo plan inputs role (phase.Gathering g) ps (numbers.Gathering x, [])) (sym kept.1) (record { stands = stands; packets = tt }))
 
-      ended : inc ≡ g.inc → count ≡ length g.taken → ComesTo plan rows role after sent (numbers.Running (caught_up inc m x.held), envelope (control_at (partition_of role)) (Caught inc) ∷ [])
+      ended : inc ≡ g.inc → count ≡ length g.taken → ComesTo plan inputs role after sent (numbers.Running (caught_up inc m x.held), envelope (control_at (partition_of role)) (Caught inc) ∷ [])
       ended own whole =
           let d = ends.ended own whole in
-          let list = all_taken plan rows role g x m is of_plan stands bound (same (own ∙ stands.inc)) (sym whole ∙ long) in
-          subst (λ (p : Phase). ComesTo plan rows role p sent (numbers.Running (caught_up inc m x.held), envelope (control_at (partition_of role)) (Caught inc) ∷ [])) (sym d.1)
-          (subst (λ (ps : List (NodeId × Body)). ComesTo plan rows role (phase.Running d.0) ps (numbers.Running (caught_up inc m x.held), envelope (control_at (partition_of role)) (Caught inc) ∷ [])) (sym d.3)
+          let list = all_taken plan inputs role g x m is of_plan stands bound (same (own ∙ stands.inc)) (sym whole ∙ long) in
+          subst (λ (p : Phase). ComesTo plan inputs role p sent (numbers.Running (caught_up inc m x.held), envelope (control_at (partition_of role)) (Caught inc) ∷ [])) (sym d.1)
+          (subst (λ (ps : List (NodeId × Body)). ComesTo plan inputs role (phase.Running d.0) ps (numbers.Running (caught_up inc m x.held), envelope (control_at (partition_of role)) (Caught inc) ∷ [])) (sym d.3)
           (record { stands = caught_runs inc m d.0 own d.2 bound list; packets = ((refl, sym own), tt) }))
 
       by_tests : (own whole : Bool) → (inc == g.inc) ≡ own → (count == length g.taken) ≡ whole
-          → ComesTo plan rows role after sent (if own && whole then (numbers.Running (caught_up inc m x.held), envelope (control_at (partition_of role)) (Caught inc) ∷ []) else (numbers.Gathering x, []))
+          → ComesTo plan inputs role after sent (if own && whole then (numbers.Running (caught_up inc m x.held), envelope (control_at (partition_of role)) (Caught inc) ∷ []) else (numbers.Gathering x, []))
       by_tests true true own whole = ended (eqb-true inc g.inc own) (eqb-true count (length g.taken) whole)
       by_tests true false own whole = refused (λ h. let z : true ≡ false = sym (eq-eqb count (length g.taken) h.1) ∙ whole in cc)
       by_tests false whole_it own whole = refused (λ h. let z : true ≡ false = sym (eq-eqb inc g.inc h.0) ∙ own in cc)
 
 -- The end of a move makes of a replica what it makes of the machine's.
-pub end_comes : (plan : PlanView) (rows : List Input) (role : Role) (from : NodeId) (inc count : ℕ) (m : Message) (p after : Phase) (sent : List (NodeId × Body)) (x : Replica)
-    → IsPlan plan → AreTimely rows → IsOfPlan plan role → IsPartner role from → BodyStands plan rows (link from (node_of role)) (body.ChunkEnd inc count) m
-    → PhaseStands plan rows (partition_of role) p x → IsEnded role inc count p after sent → TakenAsks (flow_of plan rows) (node_of role) (ReplicaNode x) from m
-    → ComesTo plan rows role after sent (replica_takes (flow_of plan rows) (partition_of role) from m x)
-end_comes plan rows role from inc count (ChunkEnd i n m) (phase.Running r) after sent (numbers.Running x) is timely of_plan partner st stands ends asks =
-    unchanged plan rows role (phase.Running r) after sent (numbers.Running x) stands ends.0 ends.1
-end_comes plan rows role from inc count (ChunkEnd i n m) (phase.Gone own) after sent (numbers.Gone there) is timely of_plan partner st stands ends asks =
-    unchanged plan rows role (phase.Gone own) after sent (numbers.Gone there) stands ends.0 ends.1
-end_comes plan rows role (node.Replica stage part which) inc count (ChunkEnd i n m) (phase.Gathering g) after sent (numbers.Gathering x) is timely of_plan partner st stands ends asks =
-    subst (λ k. ComesTo plan rows role after sent (takes_end (partition_of role) k n m (numbers.Gathering x))) st.0
-    (subst (λ k. ComesTo plan rows role after sent (takes_end (partition_of role) inc k m (numbers.Gathering x))) st.1
-    (end_gathers plan rows role g x is timely of_plan stands inc count m after sent ends (λ own. asks.same_move.0 (sym st.0 ∙ own)) (st.1 ∙ asks.same_move.1)
-    (subst (λ (p : Partition). MoveBound (flow_of plan rows) p m) (from_partner role stage part partner.0 partner.1) asks.bound)))
-end_comes plan rows role from inc count (ChunkEnd i n m) (phase.Gathering g) after sent (numbers.Gathering x) is timely of_plan partner st stands ends asks = absurd partner
-end_comes plan rows role from inc count (ChunkEnd i n m) p after sent x is timely of_plan partner st stands ends asks = absurd stands
-end_comes plan rows role from inc count m p after sent x is timely of_plan partner st stands ends asks = absurd st
+pub end_comes : (plan : PlanView) (inputs : List Input) (role : Role) (from : NodeId) (inc count : ℕ) (m : Message) (p after : Phase) (sent : List (NodeId × Body)) (x : Replica)
+    → IsPlan plan → AreTimely inputs → IsOfPlan plan role → IsPartner role from → BodyStands plan inputs (link from (node_of role)) (body.ChunkEnd inc count) m
+    → PhaseStands plan inputs (partition_of role) p x → IsEnded role inc count p after sent → TakenAsks (flow_of plan inputs) (node_of role) (ReplicaNode x) from m
+    → ComesTo plan inputs role after sent (replica_takes (flow_of plan inputs) (partition_of role) from m x)
+end_comes plan inputs role from inc count (ChunkEnd i n m) (phase.Running r) after sent (numbers.Running x) is timely of_plan partner st stands ends asks =
+    unchanged plan inputs role (phase.Running r) after sent (numbers.Running x) stands ends.0 ends.1
+end_comes plan inputs role from inc count (ChunkEnd i n m) (phase.Gone own) after sent (numbers.Gone there) is timely of_plan partner st stands ends asks =
+    unchanged plan inputs role (phase.Gone own) after sent (numbers.Gone there) stands ends.0 ends.1
+end_comes plan inputs role (node.Replica stage part which) inc count (ChunkEnd i n m) (phase.Gathering g) after sent (numbers.Gathering x) is timely of_plan partner st stands ends asks =
+    subst (λ k. ComesTo plan inputs role after sent (takes_end (partition_of role) k n m (numbers.Gathering x))) st.0
+    (subst (λ k. ComesTo plan inputs role after sent (takes_end (partition_of role) inc k m (numbers.Gathering x))) st.1
+    (end_gathers plan inputs role g x is timely of_plan stands inc count m after sent ends (λ own. asks.same_move.0 (sym st.0 ∙ own)) (st.1 ∙ asks.same_move.1)
+    (subst (λ (p : Partition). MoveBound (flow_of plan inputs) p m) (from_partner role stage part partner.0 partner.1) asks.bound)))
+end_comes plan inputs role from inc count (ChunkEnd i n m) (phase.Gathering g) after sent (numbers.Gathering x) is timely of_plan partner st stands ends asks = absurd partner
+end_comes plan inputs role from inc count (ChunkEnd i n m) p after sent x is timely of_plan partner st stands ends asks = absurd stands
+end_comes plan inputs role from inc count m p after sent x is timely of_plan partner st stands ends asks = absurd st
 
 -- ---- the beginning, and a stop
 
-incs_agree : (plan : PlanView) (rows : List Input) (p : Partition) (f : Phase) (x : Replica) → PhaseStands plan rows p f x → inc_in f ≡ inc_of x
-incs_agree plan rows p (phase.Running r) (numbers.Running x) stands = stands.inc
-incs_agree plan rows p (phase.Gathering g) (numbers.Gathering x) stands = stands.inc
-incs_agree plan rows p (phase.Gone own) (numbers.Gone there) stands = stands
-incs_agree plan rows p f x stands = absurd stands
+incs_agree : (plan : PlanView) (inputs : List Input) (p : Partition) (f : Phase) (x : Replica) → PhaseStands plan inputs p f x → inc_in f ≡ inc_of x
+incs_agree plan inputs p (phase.Running r) (numbers.Running x) stands = stands.inc
+incs_agree plan inputs p (phase.Gathering g) (numbers.Gathering x) stands = stands.inc
+incs_agree plan inputs p (phase.Gone own) (numbers.Gone there) stands = stands
+incs_agree plan inputs p f x stands = absurd stands
 
 none_held : (n q : ℕ) → slice_index_or {A = List (ℕ × Item)} (replicate n []) q [] ≡ []
 none_held zero q = refl
@@ -161,45 +161,45 @@ none_held (suc n) zero = refl
 none_held (suc n) (suc q) = none_held n q
 
 -- a newcomer that has nothing
-begun_gathers : (plan : PlanView) (rows : List Input) (role : Role) (inc : ℕ) → IsOfPlan plan role
-    → GatheringStands plan rows (partition_of role) (begun inc role.sources) (record { inc = inc; taken = 0; moved = None; held = λ q. [] })
-begun_gathers plan rows role inc of_plan = record {
+begun_gathers : (plan : PlanView) (inputs : List Input) (role : Role) (inc : ℕ) → IsOfPlan plan role
+    → GatheringStands plan inputs (partition_of role) (begun inc role.sources) (record { inc = inc; taken = 0; moved = None; held = λ q. [] })
+begun_gathers plan inputs role inc of_plan = record {
   inc = refl;
   count = refl;
   taken = refl;
   held = record {
     sources = length-replicate role.sources [] ∙ of_plan.sources;
-    items = λ q below. subst (λ es. All (IsItemOf (items_on plan rows (in_edge (partition_of role) q))) es) (sym (none_held role.sources q)) (All-nil (IsItemOf (items_on plan rows (in_edge (partition_of role) q))));
+    items = λ q below. subst (λ es. All (IsItemOf (items_on plan inputs (in_edge (partition_of role) q))) es) (sym (none_held role.sources q)) (All-nil (IsItemOf (items_on plan inputs (in_edge (partition_of role) q))));
     under = λ q below. ap (λ es. map (λ e. e.0) es) (none_held role.sources q);
   };
   rising = λ q below. subst (λ es. IsRising es) (sym (none_held role.sources q)) tt;
 }
 
 -- An order to begin makes of a replica what it makes of the machine's.
-pub begin_comes : (plan : PlanView) (rows : List Input) (role : Role) (from : NodeId) (inc : ℕ) (m : Message) (p : Phase) (x : Replica)
-    → IsOfPlan plan role → BodyStands plan rows (link from (node_of role)) (body.Begin inc) m → PhaseStands plan rows (partition_of role) p x
-    → ComesTo plan rows role (begin_taken role.sources inc p) [] (replica_takes (flow_of plan rows) (partition_of role) from m x)
-begin_comes plan rows role from inc (Begin i) p x of_plan st stands =
-    subst (λ k. ComesTo plan rows role (begin_taken role.sources inc p) [] (takes_begin k x, [])) st
-    (subst (λ t. ComesTo plan rows role (begin_taken role.sources inc p) [] (if t then numbers.Gathering (record { inc = inc; taken = 0; moved = None; held = λ q. [] }) else x, []))
-    (ap (λ k. nat_lt k inc) (incs_agree plan rows (partition_of role) p x stands)) (by_test (nat_lt (inc_in p) inc)))
+pub begin_comes : (plan : PlanView) (inputs : List Input) (role : Role) (from : NodeId) (inc : ℕ) (m : Message) (p : Phase) (x : Replica)
+    → IsOfPlan plan role → BodyStands plan inputs (link from (node_of role)) (body.Begin inc) m → PhaseStands plan inputs (partition_of role) p x
+    → ComesTo plan inputs role (begin_taken role.sources inc p) [] (replica_takes (flow_of plan inputs) (partition_of role) from m x)
+begin_comes plan inputs role from inc (Begin i) p x of_plan st stands =
+    subst (λ k. ComesTo plan inputs role (begin_taken role.sources inc p) [] (takes_begin k x, [])) st
+    (subst (λ t. ComesTo plan inputs role (begin_taken role.sources inc p) [] (if t then numbers.Gathering (record { inc = inc; taken = 0; moved = None; held = λ q. [] }) else x, []))
+    (ap (λ k. nat_lt k inc) (incs_agree plan inputs (partition_of role) p x stands)) (by_test (nat_lt (inc_in p) inc)))
   where
-    by_test : (t : Bool) → ComesTo plan rows role (if t then phase.Gathering (begun inc role.sources) else p) [] (if t then numbers.Gathering (record { inc = inc; taken = 0; moved = None; held = λ q. [] }) else x, [])
-    by_test true = record { stands = begun_gathers plan rows role inc of_plan; packets = tt }
+    by_test : (t : Bool) → ComesTo plan inputs role (if t then phase.Gathering (begun inc role.sources) else p) [] (if t then numbers.Gathering (record { inc = inc; taken = 0; moved = None; held = λ q. [] }) else x, [])
+    by_test true = record { stands = begun_gathers plan inputs role inc of_plan; packets = tt }
     by_test false = record { stands = stands; packets = tt }
-begin_comes plan rows role from inc m p x of_plan st stands = absurd st
+begin_comes plan inputs role from inc m p x of_plan st stands = absurd st
 
 -- An order to stop makes of a replica what it makes of the machine's.
-pub stop_comes : (plan : PlanView) (rows : List Input) (role : Role) (from : NodeId) (inc : ℕ) (m : Message) (p : Phase) (x : Replica)
-    → BodyStands plan rows (link from (node_of role)) (body.Stop inc) m → PhaseStands plan rows (partition_of role) p x
-    → ComesTo plan rows role (stop_taken inc p) [] (replica_takes (flow_of plan rows) (partition_of role) from m x)
-stop_comes plan rows role from inc (Stop i) p x st stands =
-    subst (λ k. ComesTo plan rows role (stop_taken inc p) [] (takes_stop k x, [])) st
-    (subst (λ t. ComesTo plan rows role (stop_taken inc p) [] (if t then numbers.Gone (inc_of x) else x, []))
+pub stop_comes : (plan : PlanView) (inputs : List Input) (role : Role) (from : NodeId) (inc : ℕ) (m : Message) (p : Phase) (x : Replica)
+    → BodyStands plan inputs (link from (node_of role)) (body.Stop inc) m → PhaseStands plan inputs (partition_of role) p x
+    → ComesTo plan inputs role (stop_taken inc p) [] (replica_takes (flow_of plan inputs) (partition_of role) from m x)
+stop_comes plan inputs role from inc (Stop i) p x st stands =
+    subst (λ k. ComesTo plan inputs role (stop_taken inc p) [] (takes_stop k x, [])) st
+    (subst (λ t. ComesTo plan inputs role (stop_taken inc p) [] (if t then numbers.Gone (inc_of x) else x, []))
     (ap (λ k. inc == k) same) (by_test (inc == inc_in p)))
   where
     same : inc_in p ≡ inc_of x
-    same = incs_agree plan rows (partition_of role) p x stands
+    same = incs_agree plan inputs (partition_of role) p x stands
 
     by_test : (t : Bool) → ComesTo plan rows role (if t then phase.Gone (inc_in p) else p) [] (if t then numbers.Gone (inc_of x) else x, [])
     by_test true = record { stands = same; packets = tt }

@@ -20,10 +20,10 @@ use Rattle.replica_node.specs.declared.role.Role.{Role}
 use Rattle.replica_node.proofs.Courses.{done_course}
 use Rattle.replica_node.proofs.Steps.{ComesTo}
 
-module _ (plan : PlanView) (rows : List Input) (role : Role) where
-  pub dies_come : (p : Phase) (x : Replica) → (mode_in p ≡ mode.Gone → ⊥) → PhaseStands plan rows (partition_of role) p x
+module _ (plan : PlanView) (inputs : List Input) (role : Role) where
+  pub dies_come : (p : Phase) (x : Replica) → (mode_in p ≡ mode.Gone → ⊥) → PhaseStands plan inputs (partition_of role) p x
       → (d : Replica × List Envelope) × (replica_dies (partition_of role) x ≡ Ok d)
-      × ComesTo plan rows role (phase.Gone (inc_in p)) ((control_at (partition_of role), body.Down (inc_in p)) ∷ []) d
+      × ComesTo plan inputs role (phase.Gone (inc_in p)) ((control_at (partition_of role), body.Down (inc_in p)) ∷ []) d
   dies_come (phase.Running r) (numbers.Running x) there stands = (_, refl, record { stands = stands.inc; packets = ((refl, stands.inc), tt) })
   dies_come (phase.Gathering g) (numbers.Gathering x) there stands = (_, refl, record { stands = stands.inc; packets = ((refl, stands.inc), tt) })
   dies_come (phase.Gone inc) x there stands = absurd (there refl)
@@ -32,18 +32,18 @@ module _ (plan : PlanView) (rows : List Input) (role : Role) where
   dies_come (phase.Gathering g) (numbers.Running x) there stands = absurd stands
   dies_come (phase.Gathering g) (Gone own) there stands = absurd stands
 
-  pub stops_come : (p : Phase) (x : Replica) → mode_in p ≡ mode.Running → PhaseStands plan rows (partition_of role) p x
+  pub stops_come : (p : Phase) (x : Replica) → mode_in p ≡ mode.Running → PhaseStands plan inputs (partition_of role) p x
       → (d : Replica × List Envelope) × (replica_asks (partition_of role) (λ i. AskStop i) x ≡ Ok d)
-      × ComesTo plan rows role p ((control_at (partition_of role), body.AskStop (inc_in p)) ∷ []) d
+      × ComesTo plan inputs role p ((control_at (partition_of role), body.AskStop (inc_in p)) ∷ []) d
   stops_come (phase.Running r) (numbers.Running x) runs stands = (_, refl, record { stands = stands; packets = ((refl, stands.inc), tt) })
   stops_come (phase.Running r) (numbers.Gathering x) runs stands = absurd stands
   stops_come (phase.Running r) (Gone own) runs stands = absurd stands
   stops_come (phase.Gathering g) x runs stands = let z : ⊥ = cc runs in absurd z
   stops_come (phase.Gone inc) x runs stands = let z : ⊥ = cc runs in absurd z
 
-  pub backs_come : (p : Phase) (x : Replica) → mode_in p ≡ mode.Running → PhaseStands plan rows (partition_of role) p x
+  pub backs_come : (p : Phase) (x : Replica) → mode_in p ≡ mode.Running → PhaseStands plan inputs (partition_of role) p x
       → (d : Replica × List Envelope) × (replica_asks (partition_of role) (λ i. AskBack) x ≡ Ok d)
-      × ComesTo plan rows role p ((control_at (partition_of role), body.AskBack) ∷ []) d
+      × ComesTo plan inputs role p ((control_at (partition_of role), body.AskBack) ∷ []) d
   backs_come (phase.Running r) (numbers.Running x) runs stands = (_, refl, record { stands = stands; packets = ((refl, tt), tt) })
   backs_come (phase.Running r) (numbers.Gathering x) runs stands = absurd stands
   backs_come (phase.Running r) (Gone own) runs stands = absurd stands
@@ -52,18 +52,18 @@ module _ (plan : PlanView) (rows : List Input) (role : Role) where
 
 -- ---- in a course
 
-pub kill_course : (old new : ReplicaView) → new ≡ dying old → (mode_in old.phase ≡ mode.Gone → ⊥) → (plan : PlanView) (rows : List Input)
-    → IsDone plan rows old new (down_sent old) (event.Kill (node_of old.role))
-kill_course old new is there plan rows =
-    subst (λ (v : ReplicaView). IsDone plan rows old v (down_sent old) (event.Kill (node_of old.role))) (sym is)
-    (done_course plan rows old (dying old) refl (down_sent old) (event.Kill (node_of old.role)) Dies (λ a e. e) (λ x of stands bound. dies_come plan rows old.role old.phase x there stands))
+pub kill_course : (old new : ReplicaView) → new ≡ dying old → (mode_in old.phase ≡ mode.Gone → ⊥) → (plan : PlanView) (inputs : List Input)
+    → IsDone plan inputs old new (down_sent old) (event.Kill (node_of old.role))
+kill_course old new is there plan inputs =
+    subst (λ (v : ReplicaView). IsDone plan inputs old v (down_sent old) (event.Kill (node_of old.role))) (sym is)
+    (done_course plan inputs old (dying old) refl (down_sent old) (event.Kill (node_of old.role)) Dies (λ a e. e) (λ x of stands bound. dies_come plan inputs old.role old.phase x there stands))
 
-pub stop_course : (v : ReplicaView) → mode_in v.phase ≡ mode.Running → (plan : PlanView) (rows : List Input)
-    → IsDone plan rows v v (stop_asked v) (event.AskStop (node_of v.role))
-stop_course v runs plan rows =
-    done_course plan rows v v refl (stop_asked v) (event.AskStop (node_of v.role)) AsksStop (λ a e. e) (λ x of stands bound. stops_come plan rows v.role v.phase x runs stands)
+pub stop_course : (v : ReplicaView) → mode_in v.phase ≡ mode.Running → (plan : PlanView) (inputs : List Input)
+    → IsDone plan inputs v v (stop_asked v) (event.AskStop (node_of v.role))
+stop_course v runs plan inputs =
+    done_course plan inputs v v refl (stop_asked v) (event.AskStop (node_of v.role)) AsksStop (λ a e. e) (λ x of stands bound. stops_come plan inputs v.role v.phase x runs stands)
 
-pub back_course : (v : ReplicaView) → mode_in v.phase ≡ mode.Running → (plan : PlanView) (rows : List Input)
-    → IsDone plan rows v v (back_asked v) (event.AskBack (partner_of v.role))
-back_course v runs plan rows =
-    done_course plan rows v v refl (back_asked v) (event.AskBack (partner_of v.role)) AsksBack (λ a e. e) (λ x of stands bound. backs_come plan rows v.role v.phase x runs stands)
+pub back_course : (v : ReplicaView) → mode_in v.phase ≡ mode.Running → (plan : PlanView) (inputs : List Input)
+    → IsDone plan inputs v v (back_asked v) (event.AskBack (partner_of v.role))
+back_course v runs plan inputs =
+    done_course plan inputs v v refl (back_asked v) (event.AskBack (partner_of v.role)) AsksBack (λ a e. e) (λ x of stands bound. backs_come plan inputs v.role v.phase x runs stands)

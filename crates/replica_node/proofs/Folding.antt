@@ -51,17 +51,17 @@ count_below : (n : ℕ) (x : Consumer) (held : List (List (ℕ × Item))) → (b
 count_below zero x held = refl
 count_below (suc n) x held = count_all n (below_to n x held) (slice_index_or held n []) ∙ count_below n x held
 
-module _ (plan : PlanView) (rows : List Input) (p : Partition) (merging : IsMerging (flow_of plan rows) p) where
-  one_edge : (q : ℕ) (held : List (ℕ × Item)) (x : Consumer) (y : ConsumerView) → q < sources_of plan p.stage → All (IsItemOf (items_on plan rows (in_edge p q))) held
-      → ConsumerStands plan rows p x y → ConsumerStands plan rows p (all_to q x held) (with_merge y (rebuild.all_offered q y.merge held))
+module _ (plan : PlanView) (inputs : List Input) (p : Partition) (merging : IsMerging (flow_of plan inputs) p) where
+  one_edge : (q : ℕ) (held : List (ℕ × Item)) (x : Consumer) (y : ConsumerView) → q < sources_of plan p.stage → All (IsItemOf (items_on plan inputs (in_edge p q))) held
+      → ConsumerStands plan inputs p x y → ConsumerStands plan inputs p (all_to q x held) (with_merge y (rebuild.all_offered q y.merge held))
   one_edge q [] x y inside items stands = stands
   one_edge q (e ∷ held) x y inside items stands =
       one_edge q held (offered x q e.0) (with_merge y (after_offer y.merge q e.0 e.1)) inside (λ k d below. items (suc k) d (omega (arith, below)))
-      (offers plan rows p x y q e.0 e.1 merging inside (λ next. items zero e (omega arith)) stands)
+      (offers plan inputs p x y q e.0 e.1 merging inside (λ next. items zero e (omega arith)) stands)
 
   all_edges : (n : ℕ) (held : List (List (ℕ × Item))) (x : Consumer) (y : ConsumerView) → n ≤ sources_of plan p.stage
-      → ((q : ℕ) → q < n → All (IsItemOf (items_on plan rows (in_edge p q))) (slice_index_or held q []))
-      → ConsumerStands plan rows p x y → ConsumerStands plan rows p (below_to n x held) (with_merge y (rebuild.folded_below n y.merge held))
+      → ((q : ℕ) → q < n → All (IsItemOf (items_on plan inputs (in_edge p q))) (slice_index_or held q []))
+      → ConsumerStands plan inputs p x y → ConsumerStands plan inputs p (below_to n x held) (with_merge y (rebuild.folded_below n y.merge held))
   all_edges zero held x y inside items stands = stands
   all_edges (suc n) held x y inside items stands =
       one_edge n (slice_index_or held n []) (below_to n x held) (with_merge y (rebuild.folded_below n y.merge held)) (omega (arith, inside)) (items n (omega arith))
@@ -69,9 +69,9 @@ module _ (plan : PlanView) (rows : List Input) (p : Partition) (merging : IsMerg
 
   -- the consumer that has caught up
   pub consumer_stands : (inc : ℕ) (n : MoveNumbers) (numbers : ℕ → List ℕ) (merge : MergeView) (held : List (List (ℕ × Item)))
-      → ConsumerStands plan rows p (record { marks = n.marks; told = λ q. 0; count = n.count }) (over merge)
-      → HoldsNumbers plan rows p held numbers → AllRising held (length held)
-      → ConsumerStands plan rows p (caught_up inc n numbers).consumer (over (rebuild.folded merge held))
+      → ConsumerStands plan inputs p (record { marks = n.marks; told = λ q. 0; count = n.count }) (over merge)
+      → HoldsNumbers plan inputs p held numbers → AllRising held (length held)
+      → ConsumerStands plan inputs p (caught_up inc n numbers).consumer (over (rebuild.folded merge held))
   consumer_stands inc n numbers merge held stands holds rising =
       record {
         edges = after.edges;
@@ -88,7 +88,7 @@ module _ (plan : PlanView) (rows : List Input) (p : Partition) (merging : IsMerg
       sources : length held ≡ sources_of plan p.stage
       sources = holds.sources
 
-      after : ConsumerStands plan rows p (below_to (length held) start held) (with_merge (over merge) (rebuild.folded merge held))
+      after : ConsumerStands plan inputs p (below_to (length held) start held) (with_merge (over merge) (rebuild.folded merge held))
       after = all_edges (length held) held start (over merge) (omega (arith, sources)) holds.items stands
 
       mark_is : (q : ℕ) → q < sources_of plan p.stage → mark_of (rebuild.folded merge held) q ≡ run_up (length (numbers q)) (n.marks q) (numbers q)

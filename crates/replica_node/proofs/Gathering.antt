@@ -127,8 +127,8 @@ numbers_kept k (e ∷ es) rising held = by_order (nat_cmp k e.0) refl (numbers_k
 abbrev pub with_number : (ℕ → List ℕ) → ℕ → ℕ → ℕ → List ℕ
 with_number numbers q number j = if j == q then insert_in number (numbers q) else numbers j
 
-module _ (plan : PlanView) (rows : List Input) (role : Role) (g : NewcomerView) (x : GatheringNumbers) (stands : GatheringStands plan rows (partition_of role) g x)
-    (q number : ℕ) (i : Item) (inside : q < length g.held) (here : item_at (items_on plan rows (in_edge (partition_of role) q)) number ≡ Some i) where
+module _ (plan : PlanView) (inputs : List Input) (role : Role) (g : NewcomerView) (x : GatheringNumbers) (stands : GatheringStands plan inputs (partition_of role) g x)
+    (q number : ℕ) (i : Item) (inside : q < length g.held) (here : item_at (items_on plan inputs (in_edge (partition_of role) q)) number ≡ Some i) where
   rises : IsRising (held_of g q)
   rises = stands.rising q inside
 
@@ -136,7 +136,7 @@ module _ (plan : PlanView) (rows : List Input) (role : Role) (g : NewcomerView) 
   names = stands.held.under q inside
 
   -- it is held already
-  repeated : is_held g q number ≡ true → GatheringStands plan rows (partition_of role) g (record { inc = x.inc; taken = x.taken; moved = x.moved; held = with_number x.held q number })
+  repeated : is_held g q number ≡ true → GatheringStands plan inputs (partition_of role) g (record { inc = x.inc; taken = x.taken; moved = x.moved; held = with_number x.held q number })
   repeated is = record {
     inc = stands.inc;
     count = stands.count;
@@ -156,7 +156,7 @@ module _ (plan : PlanView) (rows : List Input) (role : Role) (g : NewcomerView) 
       by_edge j below false other = rw other (stands.held.under j below)
 
   -- it is held from now on
-  newly : GatheringStands plan rows (partition_of role) (record { inc = g.inc; taken = g.taken; held = slice_set g.held q (with_held (held_of g q) number i) })
+  newly : GatheringStands plan inputs (partition_of role) (record { inc = g.inc; taken = g.taken; held = slice_set g.held q (with_held (held_of g q) number i) })
       (record { inc = x.inc; taken = x.taken; moved = x.moved; held = with_number x.held q number })
   newly = record {
     inc = stands.inc;
@@ -180,13 +180,13 @@ module _ (plan : PlanView) (rows : List Input) (role : Role) (g : NewcomerView) 
       other_at j other = get_or-set_other g.held q j (with_held (held_of g q) number i) [] (λ at. let z : true ≡ false = sym (eq-eqb j q at) ∙ other in cc)
 
       items_by : (j : ℕ) → j < length g.held → (t : Bool) → (j == q) ≡ t
-          → All (IsItemOf (items_on plan rows (in_edge (partition_of role) j))) (slice_index_or (slice_set g.held q (with_held (held_of g q) number i)) j [])
+          → All (IsItemOf (items_on plan inputs (in_edge (partition_of role) j))) (slice_index_or (slice_set g.held q (with_held (held_of g q) number i)) j [])
       items_by j below true same =
-          subst (λ es. All (IsItemOf (items_on plan rows (in_edge (partition_of role) j))) es) (sym (same_at j same))
-          (subst (λ k. All (IsItemOf (items_on plan rows (in_edge (partition_of role) k))) (with_held (held_of g q) number i)) (sym (eqb-true j q same))
-          (all_put (IsItemOf (items_on plan rows (in_edge (partition_of role) q))) number i (held_of g q) here (stands.held.items q inside)))
+          subst (λ es. All (IsItemOf (items_on plan inputs (in_edge (partition_of role) j))) es) (sym (same_at j same))
+          (subst (λ k. All (IsItemOf (items_on plan inputs (in_edge (partition_of role) k))) (with_held (held_of g q) number i)) (sym (eqb-true j q same))
+          (all_put (IsItemOf (items_on plan inputs (in_edge (partition_of role) q))) number i (held_of g q) here (stands.held.items q inside)))
       items_by j below false other =
-          subst (λ es. All (IsItemOf (items_on plan rows (in_edge (partition_of role) j))) es) (sym (other_at j other)) (stands.held.items j below)
+          subst (λ es. All (IsItemOf (items_on plan inputs (in_edge (partition_of role) j))) es) (sym (other_at j other)) (stands.held.items j below)
 
       under_by : (j : ℕ) → j < length g.held → (t : Bool) → (j == q) ≡ t
           → map (λ e. e.0) (slice_index_or (slice_set g.held q (with_held (held_of g q) number i)) j []) ≡ with_number x.held q number j
@@ -198,22 +198,22 @@ module _ (plan : PlanView) (rows : List Input) (role : Role) (g : NewcomerView) 
       rising_by j below true same = subst (λ es. IsRising es) (sym (same_at j same)) (rising_kept number i (held_of g q) rises)
       rising_by j below false other = subst (λ es. IsRising es) (sym (other_at j other)) (stands.rising j below)
 
-  pub held_stands : GatheringStands plan rows (partition_of role) (after_hold g q number i) (record { inc = x.inc; taken = x.taken; moved = x.moved; held = with_number x.held q number })
+  pub held_stands : GatheringStands plan inputs (partition_of role) (after_hold g q number i) (record { inc = x.inc; taken = x.taken; moved = x.moved; held = with_number x.held q number })
   held_stands = by_test (is_held g q number) refl
     where
       by_test : (t : Bool) → is_held g q number ≡ t
-          → GatheringStands plan rows (partition_of role) (if t then g else record g { held = slice_set g.held q (with_held (held_of g q) number i) }) (record { inc = x.inc; taken = x.taken; moved = x.moved; held = with_number x.held q number })
+          → GatheringStands plan inputs (partition_of role) (if t then g else record g { held = slice_set g.held q (with_held (held_of g q) number i) }) (record { inc = x.inc; taken = x.taken; moved = x.moved; held = with_number x.held q number })
       by_test true is = repeated is
       by_test false is = newly
 
 -- a replica that gathers holds the items of the edges into its partition by their numbers
-pub tuple_gathers : (plan : PlanView) (rows : List Input) (role : Role) (e : EdgeId) (number : ℕ) (i : Item) (g : NewcomerView) (x : GatheringNumbers)
-    → IsOfPlan plan role → IsIntoHere role e → item_at (items_on plan rows e) number ≡ Some i → GatheringStands plan rows (partition_of role) g x
-    → GatheringStands plan rows (partition_of role) (after_hold g e.from number i)
+pub tuple_gathers : (plan : PlanView) (inputs : List Input) (role : Role) (e : EdgeId) (number : ℕ) (i : Item) (g : NewcomerView) (x : GatheringNumbers)
+    → IsOfPlan plan role → IsIntoHere role e → item_at (items_on plan inputs e) number ≡ Some i → GatheringStands plan inputs (partition_of role) g x
+    → GatheringStands plan inputs (partition_of role) (after_hold g e.from number i)
     (record { inc = x.inc; taken = x.taken; moved = x.moved; held = λ j. if j == e.from then insert_in number (x.held e.from) else x.held j })
-tuple_gathers plan rows role e number i g x of_plan into item stands =
-    held_stands plan rows role g x stands e.from number i there
-    (subst (λ (edge : EdgeId). item_at (items_on plan rows edge) number ≡ Some i) (sym (into_is role e into)) item)
+tuple_gathers plan inputs role e number i g x of_plan into item stands =
+    held_stands plan inputs role g x stands e.from number i there
+    (subst (λ (edge : EdgeId). item_at (items_on plan inputs edge) number ≡ Some i) (sym (into_is role e into)) item)
   where
     there : e.from < length g.held
     there =
@@ -301,45 +301,45 @@ first_of_six us bs cs ds es fs =
     ap (λ xs. xs ++ fs) (ap (λ xs. xs ++ es) (ap (λ xs. xs ++ ds) (append_assoc us bs cs) ∙ append_assoc us (bs ++ cs) ds) ∙ append_assoc us (bs ++ cs ++ ds) es)
     ∙ append_assoc us (bs ++ cs ++ ds ++ es) fs
 
-module _ (plan : PlanView) (rows : List Input) (p : Partition) (m : MoveNumbers) where
+module _ (plan : PlanView) (inputs : List Input) (p : Partition) (m : MoveNumbers) where
   abbrev heads_of : ℕ → List Entry
-  heads_of q = numbered (λ n i. entry.Head q n i) (used_of plan rows p q m.count) (waiting plan rows p m.count q (m.marks q))
+  heads_of q = numbered (λ n i. entry.Head q n i) (used_of plan inputs p q m.count) (waiting plan inputs p m.count q (m.marks q))
 
   abbrev low_of : ℕ → List Entry
-  low_of t = entry.Low t (m.lows t) (made_on plan rows (out_edge p t) m.count) ∷ []
+  low_of t = entry.Low t (m.lows t) (made_on plan inputs (out_edge p t) m.count) ∷ []
 
   abbrev kept_of : ℕ → List Entry
-  kept_of t = numbered (λ n i. entry.Kept t n i) (m.lows t) (kept plan rows p m.count t (m.lows t))
+  kept_of t = numbered (λ n i. entry.Kept t n i) (m.lows t) (kept plan inputs p m.count t (m.lows t))
 
   -- a move's list after its marks
   abbrev after_marks : List Entry
   after_marks =
       (entry.Count m.count ∷ []) ++ each_below (sources_of plan p.stage) heads_of ++ each_below (parts_of plan (p.stage + 1)) low_of
-      ++ each_below (parts_of plan (p.stage + 1)) kept_of ++ entries_after plan rows p m.count
+      ++ each_below (parts_of plan (p.stage + 1)) kept_of ++ entries_after plan inputs p m.count
 
-  marks_first : move_list plan rows p m ≡ marks_below (sources_of plan p.stage) m.marks ++ after_marks
+  marks_first : move_list plan inputs p m ≡ marks_below (sources_of plan p.stage) m.marks ++ after_marks
   marks_first =
       first_of_six (marks_below (sources_of plan p.stage) m.marks) (entry.Count m.count ∷ []) (each_below (sources_of plan p.stage) heads_of)
-      (each_below (parts_of plan (p.stage + 1)) low_of) (each_below (parts_of plan (p.stage + 1)) kept_of) (entries_after plan rows p m.count)
+      (each_below (parts_of plan (p.stage + 1)) low_of) (each_below (parts_of plan (p.stage + 1)) kept_of) (entries_after plan inputs p m.count)
 
   no_marks_after : NoMarks after_marks
   no_marks_after =
       none_append ((entry.Count m.count ∷ []) ++ each_below (sources_of plan p.stage) heads_of ++ each_below (parts_of plan (p.stage + 1)) low_of ++ each_below (parts_of plan (p.stage + 1)) kept_of)
-      (entries_after plan rows p m.count)
+      (entries_after plan inputs p m.count)
       (none_append ((entry.Count m.count ∷ []) ++ each_below (sources_of plan p.stage) heads_of ++ each_below (parts_of plan (p.stage + 1)) low_of) (each_below (parts_of plan (p.stage + 1)) kept_of)
       (none_append ((entry.Count m.count ∷ []) ++ each_below (sources_of plan p.stage) heads_of) (each_below (parts_of plan (p.stage + 1)) low_of)
       (none_append (entry.Count m.count ∷ []) (each_below (sources_of plan p.stage) heads_of) (refl, tt)
-      (none_below (sources_of plan p.stage) heads_of (λ q. none_numbered (λ n i. entry.Head q n i) (λ n i. refl) (used_of plan rows p q m.count) (waiting plan rows p m.count q (m.marks q)))))
+      (none_below (sources_of plan p.stage) heads_of (λ q. none_numbered (λ n i. entry.Head q n i) (λ n i. refl) (used_of plan inputs p q m.count) (waiting plan inputs p m.count q (m.marks q)))))
       (none_below (parts_of plan (p.stage + 1)) low_of (λ t. (refl, tt))))
-      (none_below (parts_of plan (p.stage + 1)) kept_of (λ t. none_numbered (λ n i. entry.Kept t n i) (λ n i. refl) (m.lows t) (kept plan rows p m.count t (m.lows t)))))
-      (none_by (slice_get plan.stages (p.stage - 1)) (merged_first plan rows p m.count))
+      (none_below (parts_of plan (p.stage + 1)) kept_of (λ t. none_numbered (λ n i. entry.Kept t n i) (λ n i. refl) (m.lows t) (kept plan inputs p m.count t (m.lows t)))))
+      (none_by (slice_get plan.stages (p.stage - 1)) (merged_first plan inputs p m.count))
 
   -- the first entries of a move are the marks of the in-edges
-  pub mark_at : (k : ℕ) → k < sources_of plan p.stage → slice_get (move_list plan rows p m) k ≡ Some (entry.Mark k (m.marks k))
+  pub mark_at : (k : ℕ) → k < sources_of plan p.stage → slice_get (move_list plan inputs p m) k ≡ Some (entry.Mark k (m.marks k))
   mark_at k below = ap (λ es. slice_get es k) marks_first ∙ mark_within (sources_of plan p.stage) m.marks after_marks k below
 
   -- and no other entry is a mark
-  no_more_marks : (k : ℕ) (e : Entry) → sources_of plan p.stage ≤ k → slice_get (move_list plan rows p m) k ≡ Some e → is_mark e ≡ false
+  no_more_marks : (k : ℕ) (e : Entry) → sources_of plan p.stage ≤ k → slice_get (move_list plan inputs p m) k ≡ Some e → is_mark e ≡ false
   no_more_marks k e past is =
       no_mark_at after_marks (k - sources_of plan p.stage) e no_marks_after
       (sym (past_marks (sources_of plan p.stage) m.marks after_marks (k - sources_of plan p.stage))
@@ -368,12 +368,12 @@ not_wanting p (entry.Kept t number i) none = refl
 not_wanting p (entry.Keyed k slot a b c) none = refl
 
 -- what a chunk's entry wants stands for what the machine's chunk wants
-module _ (plan : PlanView) (rows : List Input) (sender : NodeId) (p : Partition) where
-  wants_stand : (q from : ℕ) → ArePacketsFor (BodyStands plan rows) sender (wants_of p q from) (to_producers p q (Want (in_edge p q) from))
+module _ (plan : PlanView) (inputs : List Input) (sender : NodeId) (p : Partition) where
+  wants_stand : (q from : ℕ) → ArePacketsFor (BodyStands plan inputs) sender (wants_of p q from) (to_producers p q (Want (in_edge p q) from))
   wants_stand q from = by_first (p.stage == 1)
     where
       by_first : (t : Bool)
-          → ArePacketsFor (BodyStands plan rows) sender
+          → ArePacketsFor (BodyStands plan inputs) sender
           (if t then (node.Ingress, body.Want (in_edge p q) from) ∷ []
           else (node.Replica (p.stage - 1) q A, body.Want (in_edge p q) from) ∷ (node.Replica (p.stage - 1) q B, body.Want (in_edge p q) from) ∷ [])
           (if t then envelope node.Ingress (Want (in_edge p q) from) ∷ []
@@ -381,68 +381,68 @@ module _ (plan : PlanView) (rows : List Input) (sender : NodeId) (p : Partition)
       by_first true = ((refl, (refl, refl)), tt)
       by_first false = ((refl, (refl, refl)), ((refl, (refl, refl)), tt))
 
-  chunk_wants_stand : (m : MoveNumbers) (n k : ℕ) (e : Entry) → n ≡ k + 1 → slice_get (move_list plan rows p m) k ≡ Some e
-      → ArePacketsFor (BodyStands plan rows) sender (wants_by p took.Taken e) (chunk_wants (flow_of plan rows) p n m)
-  chunk_wants_stand m n k e next is = by_test (nat_le n ((flow_of plan rows).sources p.stage)) refl
+  chunk_wants_stand : (m : MoveNumbers) (n k : ℕ) (e : Entry) → n ≡ k + 1 → slice_get (move_list plan inputs p m) k ≡ Some e
+      → ArePacketsFor (BodyStands plan inputs) sender (wants_by p took.Taken e) (chunk_wants (flow_of plan inputs) p n m)
+  chunk_wants_stand m n k e next is = by_test (nat_le n ((flow_of plan inputs).sources p.stage)) refl
     where
-      by_test : (t : Bool) → nat_le n ((flow_of plan rows).sources p.stage) ≡ t
-          → ArePacketsFor (BodyStands plan rows) sender (wants_by p took.Taken e) (if t then to_producers p (n - 1) (Want (in_edge p (n - 1)) (m.marks (n - 1) + 1)) else [])
+      by_test : (t : Bool) → nat_le n ((flow_of plan inputs).sources p.stage) ≡ t
+          → ArePacketsFor (BodyStands plan inputs) sender (wants_by p took.Taken e) (if t then to_producers p (n - 1) (Want (in_edge p (n - 1)) (m.marks (n - 1) + 1)) else [])
       by_test true within =
-          let upto : n ≤ (flow_of plan rows).sources p.stage = grind (arith, nat_tests, within) in
-          let all = sources_at plan rows p.stage in
+          let upto : n ≤ (flow_of plan inputs).sources p.stage = grind (arith, nat_tests, within) in
+          let all = sources_at plan inputs p.stage in
           let here : k < sources_of plan p.stage = omega (arith, upto, all, next) in
           let place : k ≡ n - 1 = omega (arith, next) in
-          let marks : Some (entry.Mark k (m.marks k)) ≡ Some e = sym (mark_at plan rows p m k here) ∙ is in
+          let marks : Some (entry.Mark k (m.marks k)) ≡ Some e = sym (mark_at plan inputs p m k here) ∙ is in
           let same : entry.Mark k (m.marks k) ≡ e = cc marks in
-          subst (λ d. ArePacketsFor (BodyStands plan rows) sender (wants_by p took.Taken d) (to_producers p (n - 1) (Want (in_edge p (n - 1)) (m.marks (n - 1) + 1)))) same
-          (subst (λ j. ArePacketsFor (BodyStands plan rows) sender (wants_of p k (m.marks k + 1)) (to_producers p j (Want (in_edge p j) (m.marks j + 1)))) place
+          subst (λ d. ArePacketsFor (BodyStands plan inputs) sender (wants_by p took.Taken d) (to_producers p (n - 1) (Want (in_edge p (n - 1)) (m.marks (n - 1) + 1)))) same
+          (subst (λ j. ArePacketsFor (BodyStands plan inputs) sender (wants_of p k (m.marks k + 1)) (to_producers p j (Want (in_edge p j) (m.marks j + 1)))) place
           (wants_stand k (m.marks k + 1)))
       by_test false past =
-          let over : (flow_of plan rows).sources p.stage < n = grind (arith, nat_tests, past) in
-          let all = sources_at plan rows p.stage in
+          let over : (flow_of plan inputs).sources p.stage < n = grind (arith, nat_tests, past) in
+          let all = sources_at plan inputs p.stage in
           let there : sources_of plan p.stage ≤ k = omega (arith, over, all, next) in
-          subst (λ ps. ArePacketsFor (BodyStands plan rows) sender ps []) (sym (not_wanting p e (no_more_marks plan rows p m k e there is))) tt
+          subst (λ ps. ArePacketsFor (BodyStands plan inputs) sender ps []) (sym (not_wanting p e (no_more_marks plan inputs p m k e there is))) tt
 
 -- the entries that were taken are the first of this move's list, if it is the same move
-pub taken_front : (plan : PlanView) (rows : List Input) (p : Partition) (taken : List Entry) (count : ℕ) (moved : Option MoveNumbers) (m : MoveNumbers)
-    → length taken ≡ count → TakenStands plan rows p taken count moved → ((before : MoveNumbers) → moved ≡ Some before → m ≡ before) → taken ≡ take count (move_list plan rows p m)
-taken_front plan rows p taken count None m long is same =
+pub taken_front : (plan : PlanView) (inputs : List Input) (p : Partition) (taken : List Entry) (count : ℕ) (moved : Option MoveNumbers) (m : MoveNumbers)
+    → length taken ≡ count → TakenStands plan inputs p taken count moved → ((before : MoveNumbers) → moved ≡ Some before → m ≡ before) → taken ≡ take count (move_list plan inputs p m)
+taken_front plan inputs p taken count None m long is same =
     let none : count ≡ 0 = sym long ∙ ap length is in
-    is ∙ sym (ap (λ k. take k (move_list plan rows p m)) none)
-taken_front plan rows p taken count (Some before) m long is same = is ∙ ap (λ n. take count (move_list plan rows p n)) (sym (same before refl))
+    is ∙ sym (ap (λ k. take k (move_list plan inputs p m)) none)
+taken_front plan inputs p taken count (Some before) m long is same = is ∙ ap (λ n. take count (move_list plan inputs p n)) (sym (same before refl))
 
-module _ (plan : PlanView) (rows : List Input) (role : Role) (g : NewcomerView) (x : GatheringNumbers) (stands : GatheringStands plan rows (partition_of role) g x) where
-  chunk_added : (number : ℕ) (e : Entry) (m : MoveNumbers) → nth_from_one (move_list plan rows (partition_of role) m) number ≡ Some e
+module _ (plan : PlanView) (inputs : List Input) (role : Role) (g : NewcomerView) (x : GatheringNumbers) (stands : GatheringStands plan inputs (partition_of role) g x) where
+  chunk_added : (number : ℕ) (e : Entry) (m : MoveNumbers) → nth_from_one (move_list plan inputs (partition_of role) m) number ≡ Some e
       → ((before : MoveNumbers) → x.moved ≡ Some before → m ≡ before) → number ≡ length g.taken + 1
-      → GatheringStands plan rows (partition_of role) (record { inc = g.inc; taken = g.taken ++ e ∷ []; held = g.held }) (record { inc = x.inc; taken = number; moved = Some m; held = x.held })
+      → GatheringStands plan inputs (partition_of role) (record { inc = g.inc; taken = g.taken ++ e ∷ []; held = g.held }) (record { inc = x.inc; taken = number; moved = Some m; held = x.held })
   chunk_added number e m is same next = record {
     inc = stands.inc;
     count = let long : length (g.taken ++ e ∷ []) ≡ length g.taken + 1 = length-append g.taken (e ∷ []) in long ∙ sym next;
     taken =
-        ap (λ es. es ++ e ∷ []) (taken_front plan rows (partition_of role) g.taken x.taken x.moved m stands.count stands.taken same ∙ ap (λ k. take k (move_list plan rows (partition_of role) m)) (sym stands.count))
-        ∙ sym (front_grows (length g.taken) (move_list plan rows (partition_of role) m) e (at_place (move_list plan rows (partition_of role) m) number (length g.taken) e next is))
-        ∙ ap (λ k. take k (move_list plan rows (partition_of role) m)) (let place : suc (length g.taken) ≡ number = omega (arith, next) in place);
+        ap (λ es. es ++ e ∷ []) (taken_front plan inputs (partition_of role) g.taken x.taken x.moved m stands.count stands.taken same ∙ ap (λ k. take k (move_list plan inputs (partition_of role) m)) (sym stands.count))
+        ∙ sym (front_grows (length g.taken) (move_list plan inputs (partition_of role) m) e (at_place (move_list plan inputs (partition_of role) m) number (length g.taken) e next is))
+        ∙ ap (λ k. take k (move_list plan inputs (partition_of role) m)) (let place : suc (length g.taken) ≡ number = omega (arith, next) in place);
     held = stands.held;
     rising = stands.rising;
   }
 
-  stays : ComesTo plan rows role (phase.Gathering g) [] (numbers.Gathering x, [])
+  stays : ComesTo plan inputs role (phase.Gathering g) [] (numbers.Gathering x, [])
   stays = record { stands = stands; packets = tt }
 
-  chunk_gathers : (inc number : ℕ) (e : Entry) (m : MoveNumbers) → nth_from_one (move_list plan rows (partition_of role) m) number ≡ Some e
+  chunk_gathers : (inc number : ℕ) (e : Entry) (m : MoveNumbers) → nth_from_one (move_list plan inputs (partition_of role) m) number ≡ Some e
       → (inc ≡ x.inc → (before : MoveNumbers) → x.moved ≡ Some before → m ≡ before)
-      → ComesTo plan rows role (phase.Gathering (after_chunk g inc number e)) (wants_by (partition_of role) (took_of g inc number) e) (takes_chunk (flow_of plan rows) (partition_of role) inc number m (numbers.Gathering x))
+      → ComesTo plan inputs role (phase.Gathering (after_chunk g inc number e)) (wants_by (partition_of role) (took_of g inc number) e) (takes_chunk (flow_of plan inputs) (partition_of role) inc number m (numbers.Gathering x))
   chunk_gathers inc number e m is same =
-      subst (λ t. ComesTo plan rows role (phase.Gathering (after_chunk g inc number e)) (wants_by (partition_of role) (took_of g inc number) e)
-      (if t then (numbers.Gathering (record x { taken = number; moved = Some m }), chunk_wants (flow_of plan rows) (partition_of role) number m) else (numbers.Gathering x, [])))
+      subst (λ t. ComesTo plan inputs role (phase.Gathering (after_chunk g inc number e)) (wants_by (partition_of role) (took_of g inc number) e)
+      (if t then (numbers.Gathering (record x { taken = number; moved = Some m }), chunk_wants (flow_of plan inputs) (partition_of role) number m) else (numbers.Gathering x, [])))
       (λ j. (inc == stands.inc j) && (number == stands.count j + 1))
       (by_tests (inc == g.inc) (nat_le number (length g.taken)) (number == length g.taken + 1) refl refl refl)
     where
       by_tests : (own before next : Bool) → (inc == g.inc) ≡ own → nat_le number (length g.taken) ≡ before → (number == length g.taken + 1) ≡ next
-          → ComesTo plan rows role
+          → ComesTo plan inputs role
           (phase.Gathering (taken_by (if own then (if before then took.Repeat else if next then took.Taken else took.Ahead) else took.OtherInc) g e))
           (wants_by (partition_of role) (if own then (if before then took.Repeat else if next then took.Taken else took.Ahead) else took.OtherInc) e)
-          (if own && next then (numbers.Gathering (record x { taken = number; moved = Some m }), chunk_wants (flow_of plan rows) (partition_of role) number m) else (numbers.Gathering x, []))
+          (if own && next then (numbers.Gathering (record x { taken = number; moved = Some m }), chunk_wants (flow_of plan inputs) (partition_of role) number m) else (numbers.Gathering x, []))
       by_tests true true true own before next =
           let under : number ≤ length g.taken = grind (arith, nat_tests, before) in
           let above : number ≡ length g.taken + 1 = grind (arith, nat_tests, next) in
@@ -454,8 +454,8 @@ module _ (plan : PlanView) (rows : List Input) (role : Role) (g : NewcomerView) 
           record {
             stands = chunk_added number e m is (same (here ∙ stands.inc)) above;
             packets =
-                chunk_wants_stand plan rows (node_of role) (partition_of role) m number (length g.taken) e above
-                (at_place (move_list plan rows (partition_of role) m) number (length g.taken) e above is);
+                chunk_wants_stand plan inputs (node_of role) (partition_of role) m number (length g.taken) e above
+                (at_place (move_list plan inputs (partition_of role) m) number (length g.taken) e above is);
           }
       by_tests true false false own before next = stays
       by_tests false before_it next_it own before next = stays
@@ -466,21 +466,21 @@ pub from_partner : (role : Role) (stage part : ℕ) → stage ≡ role.stage →
 from_partner role stage part same_stage same_part = λ j. record { stage = same_stage j; part = same_part j }
 
 -- A chunk makes of a replica what it makes of the machine's.
-pub chunk_comes : (plan : PlanView) (rows : List Input) (role : Role) (from : NodeId) (inc number : ℕ) (e : Entry) (m : Message) (p : Phase) (x : Replica)
-    → IsPartner role from → BodyStands plan rows (link from (node_of role)) (body.Chunk inc number e) m → PhaseStands plan rows (partition_of role) p x
-    → TakenAsks (flow_of plan rows) (node_of role) (ReplicaNode x) from m
-    → ComesTo plan rows role (chunk_taken inc number e p) (wants_in (partition_of role) inc number e p) (replica_takes (flow_of plan rows) (partition_of role) from m x)
-chunk_comes plan rows role from inc number e (Chunk i n m) (phase.Running r) (numbers.Running x) partner st stands asks = record { stands = stands; packets = tt }
-chunk_comes plan rows role from inc number e (Chunk i n m) (phase.Gone own) (numbers.Gone there) partner st stands asks = record { stands = stands; packets = tt }
-chunk_comes plan rows role (node.Replica stage part which) inc number e (Chunk i n m) (phase.Gathering g) (numbers.Gathering x) partner st stands asks =
-    subst (λ k. ComesTo plan rows role (phase.Gathering (after_chunk g inc number e)) (wants_by (partition_of role) (took_of g inc number) e) (takes_chunk (flow_of plan rows) (partition_of role) k n m (numbers.Gathering x))) st.0
-    (subst (λ k. ComesTo plan rows role (phase.Gathering (after_chunk g inc number e)) (wants_by (partition_of role) (took_of g inc number) e) (takes_chunk (flow_of plan rows) (partition_of role) inc k m (numbers.Gathering x))) st.1
-    (chunk_gathers plan rows role g x stands inc number e m is (λ own. asks.same_move (sym st.0 ∙ own))))
+pub chunk_comes : (plan : PlanView) (inputs : List Input) (role : Role) (from : NodeId) (inc number : ℕ) (e : Entry) (m : Message) (p : Phase) (x : Replica)
+    → IsPartner role from → BodyStands plan inputs (link from (node_of role)) (body.Chunk inc number e) m → PhaseStands plan inputs (partition_of role) p x
+    → TakenAsks (flow_of plan inputs) (node_of role) (ReplicaNode x) from m
+    → ComesTo plan inputs role (chunk_taken inc number e p) (wants_in (partition_of role) inc number e p) (replica_takes (flow_of plan inputs) (partition_of role) from m x)
+chunk_comes plan inputs role from inc number e (Chunk i n m) (phase.Running r) (numbers.Running x) partner st stands asks = record { stands = stands; packets = tt }
+chunk_comes plan inputs role from inc number e (Chunk i n m) (phase.Gone own) (numbers.Gone there) partner st stands asks = record { stands = stands; packets = tt }
+chunk_comes plan inputs role (node.Replica stage part which) inc number e (Chunk i n m) (phase.Gathering g) (numbers.Gathering x) partner st stands asks =
+    subst (λ k. ComesTo plan inputs role (phase.Gathering (after_chunk g inc number e)) (wants_by (partition_of role) (took_of g inc number) e) (takes_chunk (flow_of plan inputs) (partition_of role) k n m (numbers.Gathering x))) st.0
+    (subst (λ k. ComesTo plan inputs role (phase.Gathering (after_chunk g inc number e)) (wants_by (partition_of role) (took_of g inc number) e) (takes_chunk (flow_of plan inputs) (partition_of role) inc k m (numbers.Gathering x))) st.1
+    (chunk_gathers plan inputs role g x stands inc number e m is (λ own. asks.same_move (sym st.0 ∙ own))))
   where
-    is : nth_from_one (move_list plan rows (partition_of role) m) number ≡ Some e
+    is : nth_from_one (move_list plan inputs (partition_of role) m) number ≡ Some e
     is =
-        subst (λ k. nth_from_one (move_list plan rows (partition_of role) m) k ≡ Some e) (sym st.1)
-        (subst (λ (p : Partition). nth_from_one (move_list plan rows p m) n ≡ Some e) (from_partner role stage part partner.0 partner.1) st.2)
-chunk_comes plan rows role from inc number e (Chunk i n m) (phase.Gathering g) (numbers.Gathering x) partner st stands asks = absurd partner
-chunk_comes plan rows role from inc number e (Chunk i n m) p x partner st stands asks = absurd stands
-chunk_comes plan rows role from inc number e m p x partner st stands asks = absurd st
+        subst (λ k. nth_from_one (move_list plan inputs (partition_of role) m) k ≡ Some e) (sym st.1)
+        (subst (λ (p : Partition). nth_from_one (move_list plan inputs p m) n ≡ Some e) (from_partner role stage part partner.0 partner.1) st.2)
+chunk_comes plan inputs role from inc number e (Chunk i n m) (phase.Gathering g) (numbers.Gathering x) partner st stands asks = absurd partner
+chunk_comes plan inputs role from inc number e (Chunk i n m) p x partner st stands asks = absurd stands
+chunk_comes plan inputs role from inc number e m p x partner st stands asks = absurd st

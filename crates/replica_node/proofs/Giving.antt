@@ -71,11 +71,11 @@ nothing_at zero q = refl
 nothing_at (suc n) zero = refl
 nothing_at (suc n) (suc q) = nothing_at n q
 
-module _ (plan : PlanView) (rows : List Input) (role : Role) (is_of : IsOfPlan plan role) where
+module _ (plan : PlanView) (inputs : List Input) (role : Role) (is_of : IsOfPlan plan role) where
   -- ---- a move begins
 
-  pieces_are : (r : Running) (x : RunningNumbers) → RunningStands plan rows (partition_of role) r x
-      → ArePieces plan rows (partition_of role) (numbers_of x) is_of.own.op r.consumer.merge r.producer (merged_first plan rows (partition_of role) x.consumer.count)
+  pieces_are : (r : Running) (x : RunningNumbers) → RunningStands plan inputs (partition_of role) r x
+      → ArePieces plan inputs (partition_of role) (numbers_of x) is_of.own.op r.consumer.merge r.producer (merged_first plan inputs (partition_of role) x.consumer.count)
   pieces_are r x s = record {
     consumer = record {
       edges = s.consumer.edges;
@@ -88,14 +88,14 @@ module _ (plan : PlanView) (rows : List Input) (role : Role) (is_of : IsOfPlan p
     sender = x.producer;
     sends = s.producer;
     lows = λ t. refl;
-    entries = ap (λ o. entries_by o (merged_first plan rows (partition_of role) x.consumer.count)) (sym is_of.own_is);
+    entries = ap (λ o. entries_by o (merged_first plan inputs (partition_of role) x.consumer.count)) (sym is_of.own_is);
   }
 
-  begun_stands : (r : Running) (x : RunningNumbers) (target : ℕ) → RunningStands plan rows (partition_of role) r x
-      → RunningStands plan rows (partition_of role) (serving target r) (begun target x)
+  begun_stands : (r : Running) (x : RunningNumbers) (target : ℕ) → RunningStands plan inputs (partition_of role) r x
+      → RunningStands plan inputs (partition_of role) (serving target r) (begun target x)
   begun_stands r x target s =
-      let held : HoldNumbers plan rows (partition_of role) (numbers_of x) r.consumer.merge r.producer =
-      pieces_hold plan rows (partition_of role) (numbers_of x) is_of.own.op r.consumer.merge r.producer (merged_first plan rows (partition_of role) x.consumer.count) (merges plan rows role is_of) (pieces_are r x s) in
+      let held : HoldNumbers plan inputs (partition_of role) (numbers_of x) r.consumer.merge r.producer =
+      pieces_hold plan inputs (partition_of role) (numbers_of x) is_of.own.op r.consumer.merge r.producer (merged_first plan inputs (partition_of role) x.consumer.count) (merges plan inputs role is_of) (pieces_are r x s) in
       record {
         inc = s.inc;
         consumer = s.consumer;
@@ -106,19 +106,19 @@ module _ (plan : PlanView) (rows : List Input) (role : Role) (is_of : IsOfPlan p
           target = refl;
           sent = refl;
           kept = ap Some s.entries;
-          list = moves_tell plan rows (partition_of role) (numbers_of x) r.consumer.merge r.producer held;
+          list = moves_tell plan inputs (partition_of role) (numbers_of x) r.consumer.merge r.producer held;
         };
       }
 
-  serves_or_not : (r : Running) (x : RunningNumbers) (target : ℕ) → RunningStands plan rows (partition_of role) r x → (own same : Bool) → own ≡ same
-      → ComesTo plan rows role (if own then phase.Running (serving target r) else phase.Running r) [] ((if same then numbers.Running (begun target x) else numbers.Running x), [])
+  serves_or_not : (r : Running) (x : RunningNumbers) (target : ℕ) → RunningStands plan inputs (partition_of role) r x → (own same : Bool) → own ≡ same
+      → ComesTo plan inputs role (if own then phase.Running (serving target r) else phase.Running r) [] ((if same then numbers.Running (begun target x) else numbers.Running x), [])
   serves_or_not r x target s true true e = record { stands = begun_stands r x target s; packets = tt }
   serves_or_not r x target s false false e = record { stands = s; packets = tt }
   serves_or_not r x target s true false e = let z : ⊥ = cc e in absurd z
   serves_or_not r x target s false true e = let z : ⊥ = cc e in absurd z
 
-  served_comes : (p : Phase) (x : Replica) (inc target : ℕ) → PhaseStands plan rows (partition_of role) p x
-      → ComesTo plan rows role (serve_taken inc target p) [] (takes_serve inc target x, [])
+  served_comes : (p : Phase) (x : Replica) (inc target : ℕ) → PhaseStands plan inputs (partition_of role) p x
+      → ComesTo plan inputs role (serve_taken inc target p) [] (takes_serve inc target x, [])
   served_comes (phase.Running r) (numbers.Running x) inc target s =
       serves_or_not r x target s ((inc == r.inc) && nat_lt r.served target) ((inc == x.inc) && nat_lt x.served target) (λ i. (inc == s.inc i) && nat_lt (s.served i) target)
   served_comes (phase.Gathering g) (numbers.Gathering x) inc target s = record { stands = s; packets = tt }
@@ -126,23 +126,23 @@ module _ (plan : PlanView) (rows : List Input) (role : Role) (is_of : IsOfPlan p
   served_comes p x inc target s = absurd s
 
   pub serve_comes : (p : Phase) (x : Replica) (from : NodeId) (inc target : ℕ) (m : Message)
-      → BodyStands plan rows (link from (node_of role)) (body.Serve inc target) m → PhaseStands plan rows (partition_of role) p x
-      → ComesTo plan rows role (serve_taken inc target p) [] (replica_takes (flow_of plan rows) (partition_of role) from m x)
+      → BodyStands plan inputs (link from (node_of role)) (body.Serve inc target) m → PhaseStands plan inputs (partition_of role) p x
+      → ComesTo plan inputs role (serve_taken inc target p) [] (replica_takes (flow_of plan inputs) (partition_of role) from m x)
   serve_comes p x from inc target (Serve i t) st s =
-      subst (λ (z : ℕ × ℕ). ComesTo plan rows role (serve_taken inc target p) [] (takes_serve z.0 z.1 x, [])) (λ j. (st.0 j, st.1 j)) (served_comes p x inc target s)
+      subst (λ (z : ℕ × ℕ). ComesTo plan inputs role (serve_taken inc target p) [] (takes_serve z.0 z.1 x, [])) (λ j. (st.0 j, st.1 j)) (served_comes p x inc target s)
   serve_comes p x from inc target m st s = absurd st
 
   -- ---- a part of a move is given
 
-  chunk_comes : (r after : Running) (sent : List (NodeId × Body)) (x : RunningNumbers) (m : MoverView) (mv : Move) (e : Entry) → RunningStands plan rows (partition_of role) r x
-      → MoverStands plan rows (partition_of role) m r.state.old mv → m.sent < total_of m → length (move_list plan rows (partition_of role) mv.numbers) ≡ size (flow_of plan rows) (partition_of role) mv.numbers
-      → slice_get (move_list plan rows (partition_of role) mv.numbers) mv.sent ≡ Some e
-      → after ≡ part_given (after_next m (entries_after plan rows (partition_of role) mv.numbers.count)) (moved.Chunk (mv.sent + 1) e) r
+  chunk_comes : (r after : Running) (sent : List (NodeId × Body)) (x : RunningNumbers) (m : MoverView) (mv : Move) (e : Entry) → RunningStands plan inputs (partition_of role) r x
+      → MoverStands plan inputs (partition_of role) m r.state.old mv → m.sent < total_of m → length (move_list plan inputs (partition_of role) mv.numbers) ≡ size (flow_of plan inputs) (partition_of role) mv.numbers
+      → slice_get (move_list plan inputs (partition_of role) mv.numbers) mv.sent ≡ Some e
+      → after ≡ part_given (after_next m (entries_after plan inputs (partition_of role) mv.numbers.count)) (moved.Chunk (mv.sent + 1) e) r
       → sent ≡ part_sent role m (moved.Chunk (mv.sent + 1) e)
-      → ComesTo plan rows role (phase.Running after) sent (moves_on (flow_of plan rows) (partition_of role) (replica_at (partition_of role) (other role.which)) x mv)
+      → ComesTo plan inputs role (phase.Running after) sent (moves_on (flow_of plan inputs) (partition_of role) (replica_at (partition_of role) (other role.which)) x mv)
   chunk_comes r after sent x m mv e s stands more long at after_is sent_is =
-      subst (λ (b : Bool). ComesTo plan rows role (phase.Running after) sent (if b then chunk else end)) (sym goes_on)
-      (subst (λ (z : Running × List (NodeId × Body)). ComesTo plan rows role (phase.Running z.0) z.1 chunk) (λ i. (sym after_so i, sym sent_is i)) (record {
+      subst (λ (b : Bool). ComesTo plan inputs role (phase.Running after) sent (if b then chunk else end)) (sym goes_on)
+      (subst (λ (z : Running × List (NodeId × Body)). ComesTo plan inputs role (phase.Running z.0) z.1 chunk) (λ i. (sym after_so i, sym sent_is i)) (record {
         stands = record {
           inc = s.inc;
           consumer = s.consumer;
@@ -155,10 +155,10 @@ module _ (plan : PlanView) (rows : List Input) (role : Role) (is_of : IsOfPlan p
       }))
     where
       old : List Entry
-      old = entries_after plan rows (partition_of role) mv.numbers.count
+      old = entries_after plan inputs (partition_of role) mv.numbers.count
 
       list : List Entry
-      list = move_list plan rows (partition_of role) mv.numbers
+      list = move_list plan inputs (partition_of role) mv.numbers
 
       chunk : Replica × List Envelope
       chunk = (
@@ -169,16 +169,16 @@ module _ (plan : PlanView) (rows : List Input) (role : Role) (is_of : IsOfPlan p
       end : Replica × List Envelope
       end = (
         numbers.Running (record x { move = None }),
-        envelope (replica_at (partition_of role) (other role.which)) (ChunkEnd mv.target (size (flow_of plan rows) (partition_of role) mv.numbers) mv.numbers) ∷ [],
+        envelope (replica_at (partition_of role) (other role.which)) (ChunkEnd mv.target (size (flow_of plan inputs) (partition_of role) mv.numbers) mv.numbers) ∷ [],
       )
 
       number : mv.sent + 1 ≡ suc mv.sent
       number = omega arith
 
-      goes_on : nat_lt mv.sent (size (flow_of plan rows) (partition_of role) mv.numbers) ≡ true
+      goes_on : nat_lt mv.sent (size (flow_of plan inputs) (partition_of role) mv.numbers) ≡ true
       goes_on =
-          lt-ltb mv.sent (size (flow_of plan rows) (partition_of role) mv.numbers)
-          (subst (λ n. mv.sent < n) long (slice_get_within (move_list plan rows (partition_of role) mv.numbers) mv.sent e at))
+          lt-ltb mv.sent (size (flow_of plan inputs) (partition_of role) mv.numbers)
+          (subst (λ n. mv.sent < n) long (slice_get_within (move_list plan inputs (partition_of role) mv.numbers) mv.sent e at))
 
       after_so : after ≡ record r { mover = Some (record m { sent = m.sent + 1; last = last_place (keyed_among m (m.sent + 1)) old }) }
       after_so =
@@ -186,15 +186,15 @@ module _ (plan : PlanView) (rows : List Input) (role : Role) (is_of : IsOfPlan p
           ∙ ap (λ (b : Bool). record r { mover = Some (if b then record m { sent = m.sent + 1; last = last_place (keyed_among m (m.sent + 1)) old } else m) })
           (lt-ltb m.sent (total_of m) more)
 
-  end_comes : (r after : Running) (sent : List (NodeId × Body)) (x : RunningNumbers) (m : MoverView) (mv : Move) → RunningStands plan rows (partition_of role) r x
-      → MoverStands plan rows (partition_of role) m r.state.old mv → length (move_list plan rows (partition_of role) mv.numbers) ≡ size (flow_of plan rows) (partition_of role) mv.numbers
-      → length (move_list plan rows (partition_of role) mv.numbers) ≤ mv.sent
+  end_comes : (r after : Running) (sent : List (NodeId × Body)) (x : RunningNumbers) (m : MoverView) (mv : Move) → RunningStands plan inputs (partition_of role) r x
+      → MoverStands plan inputs (partition_of role) m r.state.old mv → length (move_list plan inputs (partition_of role) mv.numbers) ≡ size (flow_of plan inputs) (partition_of role) mv.numbers
+      → length (move_list plan inputs (partition_of role) mv.numbers) ≤ mv.sent
       → after ≡ record r { mover = None; state = record r.state { old = None } }
-      → sent ≡ part_sent role m (moved.End (length (move_list plan rows (partition_of role) mv.numbers)))
-      → ComesTo plan rows role (phase.Running after) sent (moves_on (flow_of plan rows) (partition_of role) (replica_at (partition_of role) (other role.which)) x mv)
+      → sent ≡ part_sent role m (moved.End (length (move_list plan inputs (partition_of role) mv.numbers)))
+      → ComesTo plan inputs role (phase.Running after) sent (moves_on (flow_of plan inputs) (partition_of role) (replica_at (partition_of role) (other role.which)) x mv)
   end_comes r after sent x m mv s stands long past after_is sent_is =
-      subst (λ (b : Bool). ComesTo plan rows role (phase.Running after) sent (if b then chunk else end)) (sym ended)
-      (subst (λ (z : Running × List (NodeId × Body)). ComesTo plan rows role (phase.Running z.0) z.1 end) (λ i. (sym after_is i, sym sent_is i)) (record {
+      subst (λ (b : Bool). ComesTo plan inputs role (phase.Running after) sent (if b then chunk else end)) (sym ended)
+      (subst (λ (z : Running × List (NodeId × Body)). ComesTo plan inputs role (phase.Running z.0) z.1 end) (λ i. (sym after_is i, sym sent_is i)) (record {
         stands = record { inc = s.inc; consumer = s.consumer; producer = s.producer; entries = s.entries; served = s.served; move = tt };
         packets = ((refl, (stands.target, long)), tt);
       }))
@@ -208,57 +208,57 @@ module _ (plan : PlanView) (rows : List Input) (role : Role) (is_of : IsOfPlan p
       end : Replica × List Envelope
       end = (
         numbers.Running (record x { move = None }),
-        envelope (replica_at (partition_of role) (other role.which)) (ChunkEnd mv.target (size (flow_of plan rows) (partition_of role) mv.numbers) mv.numbers) ∷ [],
+        envelope (replica_at (partition_of role) (other role.which)) (ChunkEnd mv.target (size (flow_of plan inputs) (partition_of role) mv.numbers) mv.numbers) ∷ [],
       )
 
-      ended : nat_lt mv.sent (size (flow_of plan rows) (partition_of role) mv.numbers) ≡ false
+      ended : nat_lt mv.sent (size (flow_of plan inputs) (partition_of role) mv.numbers) ≡ false
       ended =
-          let within : size (flow_of plan rows) (partition_of role) mv.numbers ≤ mv.sent = subst (λ n. n ≤ mv.sent) long past in
-          not_less mv.sent (size (flow_of plan rows) (partition_of role) mv.numbers) within
+          let within : size (flow_of plan inputs) (partition_of role) mv.numbers ≤ mv.sent = subst (λ n. n ≤ mv.sent) long past in
+          not_less mv.sent (size (flow_of plan inputs) (partition_of role) mv.numbers) within
 
   -- what a mover gives is what comes next of its list
-  given_comes : (r after : Running) (sent : List (NodeId × Body)) (x : RunningNumbers) (m : MoverView) (mv : Move) → RunningStands plan rows (partition_of role) r x
-      → MoverStands plan rows (partition_of role) m r.state.old mv → m.sent < total_of m → length (move_list plan rows (partition_of role) mv.numbers) ≡ size (flow_of plan rows) (partition_of role) mv.numbers
-      → (given : Moved) → after ≡ part_given (after_next m (entries_after plan rows (partition_of role) mv.numbers.count)) given r → sent ≡ part_sent role m given
-      → Some given ≡ moved_at (move_list plan rows (partition_of role) mv.numbers) mv.sent
-      → ComesTo plan rows role (phase.Running after) sent (moves_on (flow_of plan rows) (partition_of role) (replica_at (partition_of role) (other role.which)) x mv)
+  given_comes : (r after : Running) (sent : List (NodeId × Body)) (x : RunningNumbers) (m : MoverView) (mv : Move) → RunningStands plan inputs (partition_of role) r x
+      → MoverStands plan inputs (partition_of role) m r.state.old mv → m.sent < total_of m → length (move_list plan inputs (partition_of role) mv.numbers) ≡ size (flow_of plan inputs) (partition_of role) mv.numbers
+      → (given : Moved) → after ≡ part_given (after_next m (entries_after plan inputs (partition_of role) mv.numbers.count)) given r → sent ≡ part_sent role m given
+      → Some given ≡ moved_at (move_list plan inputs (partition_of role) mv.numbers) mv.sent
+      → ComesTo plan inputs role (phase.Running after) sent (moves_on (flow_of plan inputs) (partition_of role) (replica_at (partition_of role) (other role.which)) x mv)
   given_comes r after sent x m mv s stands more long given after_is sent_is next = by_entry (slice_get list mv.sent) refl next
     where
       list : List Entry
-      list = move_list plan rows (partition_of role) mv.numbers
+      list = move_list plan inputs (partition_of role) mv.numbers
 
       old : List Entry
-      old = entries_after plan rows (partition_of role) mv.numbers.count
+      old = entries_after plan inputs (partition_of role) mv.numbers.count
 
-      by_end : (b : Bool) → length (move_list plan rows (partition_of role) mv.numbers) ≤ mv.sent → Some given ≡ (if b then Some (moved.End (length (move_list plan rows (partition_of role) mv.numbers))) else None)
-          → ComesTo plan rows role (phase.Running after) sent (moves_on (flow_of plan rows) (partition_of role) (replica_at (partition_of role) (other role.which)) x mv)
+      by_end : (b : Bool) → length (move_list plan inputs (partition_of role) mv.numbers) ≤ mv.sent → Some given ≡ (if b then Some (moved.End (length (move_list plan inputs (partition_of role) mv.numbers))) else None)
+          → ComesTo plan inputs role (phase.Running after) sent (moves_on (flow_of plan inputs) (partition_of role) (replica_at (partition_of role) (other role.which)) x mv)
       by_end true past next =
           let same : given ≡ moved.End (length list) = cc next in
           end_comes r after sent x m mv s stands long past (after_is ∙ ap (λ g. part_given (after_next m old) g r) same) (sent_is ∙ ap (part_sent role m) same)
       by_end false past next = let z : ⊥ = cc next in absurd z
 
-      by_entry : (o : Option Entry) → slice_get (move_list plan rows (partition_of role) mv.numbers) mv.sent ≡ o → Some given ≡ moved_from mv.sent (length (move_list plan rows (partition_of role) mv.numbers)) o
-          → ComesTo plan rows role (phase.Running after) sent (moves_on (flow_of plan rows) (partition_of role) (replica_at (partition_of role) (other role.which)) x mv)
+      by_entry : (o : Option Entry) → slice_get (move_list plan inputs (partition_of role) mv.numbers) mv.sent ≡ o → Some given ≡ moved_from mv.sent (length (move_list plan inputs (partition_of role) mv.numbers)) o
+          → ComesTo plan inputs role (phase.Running after) sent (moves_on (flow_of plan inputs) (partition_of role) (replica_at (partition_of role) (other role.which)) x mv)
       by_entry (Some e) at next =
           let same : given ≡ moved.Chunk (mv.sent + 1) e = cc next in
           chunk_comes r after sent x m mv e s stands more long at (after_is ∙ ap (λ g. part_given (after_next m old) g r) same) (sent_is ∙ ap (part_sent role m) same)
       by_entry None at next = by_end (mv.sent == length list) (none_past list mv.sent at) next
 
-  pub moves_come : IsPlan plan → (m : MoverView) (r after : Running) (sent : List (NodeId × Body)) (x : RunningNumbers) (mv : Move) → Moves role m r after sent → RunningStands plan rows (partition_of role) r x
-      → x.move ≡ Some mv → r.mover ≡ Some m → MoverBound (flow_of plan rows) (partition_of role) x.move → IsMoving r.mover r.state.old
-      → ComesTo plan rows role (phase.Running after) sent (moves_on (flow_of plan rows) (partition_of role) (replica_at (partition_of role) (other role.which)) x mv)
+  pub moves_come : IsPlan plan → (m : MoverView) (r after : Running) (sent : List (NodeId × Body)) (x : RunningNumbers) (mv : Move) → Moves role m r after sent → RunningStands plan inputs (partition_of role) r x
+      → x.move ≡ Some mv → r.mover ≡ Some m → MoverBound (flow_of plan inputs) (partition_of role) x.move → IsMoving r.mover r.state.old
+      → ComesTo plan inputs role (phase.Running after) sent (moves_on (flow_of plan inputs) (partition_of role) (replica_at (partition_of role) (other role.which)) x mv)
   moves_come is_plan m r after sent x mv moves s of_move of_mover bound moving =
-      let stands : MoverStands plan rows (partition_of role) m r.state.old mv =
-      subst (λ (z : Option MoverView × Option Move). MoveStands plan rows (partition_of role) z.0 r.state.old z.1) (λ i. (of_mover i, of_move i)) s.move in
-      let old : List Entry = entries_after plan rows (partition_of role) mv.numbers.count in
+      let stands : MoverStands plan inputs (partition_of role) m r.state.old mv =
+      subst (λ (z : Option MoverView × Option Move). MoveStands plan inputs (partition_of role) z.0 r.state.old z.1) (λ i. (of_mover i, of_move i)) s.move in
+      let old : List Entry = entries_after plan inputs (partition_of role) mv.numbers.count in
       let midway : IsMoving (Some m) (Some old) = subst (λ (z : Option MoverView × Option (List Entry)). IsMoving z.0 z.1) (λ i. (of_mover i, stands.kept i)) moving in
-      let within : MoverBound (flow_of plan rows) (partition_of role) (Some mv) = subst (MoverBound (flow_of plan rows) (partition_of role)) of_move bound in
-      given_comes r after sent x m mv s stands midway.1 (have_their_size plan rows is_plan (partition_of role) mv.numbers (of_stage plan rows role is_of) within.0) moves.part (moves.given old stands.kept) moves.sent_is
+      let within : MoverBound (flow_of plan inputs) (partition_of role) (Some mv) = subst (MoverBound (flow_of plan inputs) (partition_of role)) of_move bound in
+      given_comes r after sent x m mv s stands midway.1 (have_their_size plan inputs is_plan (partition_of role) mv.numbers (of_stage plan inputs role is_of) within.0) moves.part (moves.given old stands.kept) moves.sent_is
       (moves.next old stands.kept ∙ (λ i. moved_at (stands.list i) (stands.sent i)))
 
   -- ---- an item is sent
 
-  receiver_is : (d : Sending) → receiver_of role role.next d ≡ consumer_of (flow_of plan rows) (partition_of role) (due_in d)
+  receiver_is : (d : Sending) → receiver_of role role.next d ≡ consumer_of (flow_of plan inputs) (partition_of role) (due_in d)
   unfolding flow_of
   receiver_is d = by_next role.next is_of.next
     where
@@ -273,43 +273,43 @@ module _ (plan : PlanView) (rows : List Input) (role : Role) (is_of : IsOfPlan p
           sym (ap (λ (b : Bool). if b then node.Egress else node.Replica (role.stage + 1) d.to (which_at d.copy))
           (nat_not role.stage (length plan.stages) (λ same. let z : ⊥ = omega (arith, within, same) in z)))
 
-  pub due_is : (r : Running) (x : RunningNumbers) (d : Option Sending) → RunningStands plan rows (partition_of role) r x → due_of r.producer ≡ d
-      → due (flow_of plan rows) (partition_of role) (made_by (flow_of plan rows) (partition_of role) x.consumer.count) x.producer ≡ any_due_in d
+  pub due_is : (r : Running) (x : RunningNumbers) (d : Option Sending) → RunningStands plan inputs (partition_of role) r x → due_of r.producer ≡ d
+      → due (flow_of plan inputs) (partition_of role) (made_by (flow_of plan inputs) (partition_of role) x.consumer.count) x.producer ≡ any_due_in d
   unfolding flow_of
   due_is r x d s found =
-      sym (producers.due_is (flow_of plan rows) (items_on plan rows) (partition_of role) (few_in_pairs plan rows) (λ t. made_on plan rows (out_edge (partition_of role) t) x.consumer.count) x.producer r.producer s.producer)
+      sym (producers.due_is (flow_of plan inputs) (items_on plan inputs) (partition_of role) (few_in_pairs plan inputs) (λ t. made_on plan inputs (out_edge (partition_of role) t) x.consumer.count) x.producer r.producer s.producer)
       ∙ ap any_due_in found
 
   -- the item that is due is held
   item_held : (r : Running) (x : RunningNumbers) (d : Sending) → ProducerBound x.producer
-      → SendsDue (flow_of plan rows) (items_on plan rows) (partition_of role) (λ t. made_on plan rows (out_edge (partition_of role) t) x.consumer.count) x.producer r.producer d
+      → SendsDue (flow_of plan inputs) (items_on plan inputs) (partition_of role) (λ t. made_on plan inputs (out_edge (partition_of role) t) x.consumer.count) x.producer r.producer d
       → (i : Item) × (buffer.item_at (buffer_at r.producer d.to) d.number ≡ Some i)
   item_held r x d bound sends =
       sends.held (bound.above d.to d.copy)
-      (made_most plan rows role.stage role.part d.to x.consumer.count is_of.first is_of.last (let same : role.stage ≡ role.stage + 1 - 1 = omega arith in subst (λ n. role.part < parts_of plan n) same is_of.part))
+      (made_most plan inputs role.stage role.part d.to x.consumer.count is_of.first is_of.last (let same : role.stage ≡ role.stage + 1 - 1 = omega arith in subst (λ n. role.part < parts_of plan n) same is_of.part))
 
-  pub sends_come : (r : Running) (x : RunningNumbers) (d : Sending) → RunningStands plan rows (partition_of role) r x → ProducerBound x.producer → due_of r.producer ≡ Some d
-      → ComesTo plan rows role (phase.Running (sent_due d r)) (tuples_of role d (buffer.item_at (buffer_at r.producer d.to) d.number))
-      (numbers.Running (record x { producer = machine.sent_on x.producer (due_in d) }), sends_due (flow_of plan rows) (partition_of role) (due_in d))
+  pub sends_come : (r : Running) (x : RunningNumbers) (d : Sending) → RunningStands plan inputs (partition_of role) r x → ProducerBound x.producer → due_of r.producer ≡ Some d
+      → ComesTo plan inputs role (phase.Running (sent_due d r)) (tuples_of role d (buffer.item_at (buffer_at r.producer d.to) d.number))
+      (numbers.Running (record x { producer = machine.sent_on x.producer (due_in d) }), sends_due (flow_of plan inputs) (partition_of role) (due_in d))
   sends_come r x d s bound found =
-      let sends : SendsDue (flow_of plan rows) (items_on plan rows) (partition_of role) (λ t. made_on plan rows (out_edge (partition_of role) t) x.consumer.count) x.producer r.producer d =
-      producers.sends (flow_of plan rows) (items_on plan rows) (partition_of role) (few_in_pairs plan rows) (λ t. made_on plan rows (out_edge (partition_of role) t) x.consumer.count) x.producer r.producer d found s.producer in
+      let sends : SendsDue (flow_of plan inputs) (items_on plan inputs) (partition_of role) (λ t. made_on plan inputs (out_edge (partition_of role) t) x.consumer.count) x.producer r.producer d =
+      producers.sends (flow_of plan inputs) (items_on plan inputs) (partition_of role) (few_in_pairs plan inputs) (λ t. made_on plan inputs (out_edge (partition_of role) t) x.consumer.count) x.producer r.producer d found s.producer in
       let held = item_held r x d bound sends in
       record {
         stands = record { inc = s.inc; consumer = s.consumer; producer = sends.sent; entries = s.entries; served = s.served; move = s.move };
-        packets = subst (λ (o : Option Item). ArePacketsFor (BodyStands plan rows) (node_of role) (tuples_of role d o) (sends_due (flow_of plan rows) (partition_of role) (due_in d))) (sym held.1)
+        packets = subst (λ (o : Option Item). ArePacketsFor (BodyStands plan inputs) (node_of role) (tuples_of role d o) (sends_due (flow_of plan inputs) (partition_of role) (due_in d))) (sym held.1)
             ((receiver_is d, (refl, refl, sends.item held.0 held.1)), tt);
       }
 
   -- ---- a mark is reported
 
-  pub reports_come : (r : Running) (x : RunningNumbers) (report : ℕ × ℕ) → RunningStands plan rows (partition_of role) r x → report_of r.consumer ≡ Some report
-      → (untold (flow_of plan rows) (partition_of role) x.consumer ≡ Some report.0) × ComesTo plan rows role (phase.Running (told_one report r)) (report_sent role r report) (
+  pub reports_come : (r : Running) (x : RunningNumbers) (report : ℕ × ℕ) → RunningStands plan inputs (partition_of role) r x → report_of r.consumer ≡ Some report
+      → (untold (flow_of plan inputs) (partition_of role) x.consumer ≡ Some report.0) × ComesTo plan inputs role (phase.Running (told_one report r)) (report_sent role r report) (
         numbers.Running (record x { consumer = telling x.consumer report.0 }),
         envelope (control_at (partition_of role)) (Report x.inc (in_edge (partition_of role) report.0) (x.consumer.marks report.0)) ∷ [],
       )
   reports_come r x report s found =
-      let tells = consumers.tells plan rows (partition_of role) x.consumer r.consumer report found s.consumer in (
+      let tells = consumers.tells plan inputs (partition_of role) x.consumer r.consumer report found s.consumer in (
         tells.first,
         record {
           stands = record { inc = s.inc; consumer = tells.told; producer = s.producer; entries = s.entries; served = s.served; move = s.move };
@@ -317,5 +317,5 @@ module _ (plan : PlanView) (rows : List Input) (role : Role) (is_of : IsOfPlan p
         },
       )
 
-  pub none_untold : (r : Running) (x : RunningNumbers) → RunningStands plan rows (partition_of role) r x → report_of r.consumer ≡ None → untold (flow_of plan rows) (partition_of role) x.consumer ≡ None
-  none_untold r x s none = sym (consumers.reports plan rows (partition_of role) x.consumer r.consumer s.consumer) ∙ ap edge_in none
+  pub none_untold : (r : Running) (x : RunningNumbers) → RunningStands plan inputs (partition_of role) r x → report_of r.consumer ≡ None → untold (flow_of plan inputs) (partition_of role) x.consumer ≡ None
+  none_untold r x s none = sym (consumers.reports plan inputs (partition_of role) x.consumer r.consumer s.consumer) ∙ ap edge_in none

@@ -24,7 +24,7 @@ use Rattle.replica_node.specs.declared.phase.Running.{Running}
 use Rattle.replica_node.specs.declared.role.Role.{Role}
 use Rattle.replica_node.proofs.Roles.{merges}
 
-module _ (plan : PlanView) (rows : List Input) (role : Role) (is_plan : IsPlan plan) (of_plan : IsOfPlan plan role) where
+module _ (plan : PlanView) (inputs : List Input) (role : Role) (is_plan : IsPlan plan) (of_plan : IsOfPlan plan role) where
   -- what its partition does, as the plan has it
   abbrev task_of : Task
   task_of = record { op = role.op; next = role.next }
@@ -37,11 +37,11 @@ module _ (plan : PlanView) (rows : List Input) (role : Role) (is_plan : IsPlan p
   parts_of_run r = record { consumer = r.consumer; state = r.state; producer = r.producer }
 
   pub merge_stands : (r s : Running) (x : RunningNumbers) (i : Item) → item_of (least r.consumer.merge.waiting) ≡ Some i → r.state.spec ≡ role.op → Merges role i r s
-      → RunningStands plan rows (partition_of role) r x
-      → RunningStands plan rows (partition_of role) s (record { inc = x.inc; consumer = merged_one x.consumer; producer = x.producer; served = x.served; move = x.move })
+      → RunningStands plan inputs (partition_of role) r x
+      → RunningStands plan inputs (partition_of role) s (record { inc = x.inc; consumer = merged_one x.consumer; producer = x.producer; served = x.served; move = x.move })
   merge_stands r s x i found op m stands =
       let after =
-      step.merge_stands plan rows (partition_of role) task_of is_plan here (flow_of plan rows) (parts_of_run r) (parts_of_run s) x.consumer x.producer i found op
+      step.merge_stands plan inputs (partition_of role) task_of is_plan here (flow_of plan inputs) (parts_of_run r) (parts_of_run s) x.consumer x.producer i found op
       (record { consumer = m.consumer; rows = m.rows; made = m.made; answers = m.answers; stands = m.stands; spec = m.spec; old = m.old })
       (record { consumer = stands.consumer; producer = stands.producer; entries = stands.entries }) in
       record {
@@ -50,18 +50,18 @@ module _ (plan : PlanView) (rows : List Input) (role : Role) (is_plan : IsPlan p
         producer = after.producer;
         entries = after.entries;
         served = m.served ∙ stands.served;
-        move = subst (λ mover. MoveStands plan rows (partition_of role) mover s.state.old x.move) (sym m.move) (subst (λ old. MoveStands plan rows (partition_of role) r.mover old x.move) (sym m.old) stands.move);
+        move = subst (λ mover. MoveStands plan inputs (partition_of role) mover s.state.old x.move) (sym m.move) (subst (λ old. MoveStands plan inputs (partition_of role) r.mover old x.move) (sym m.old) stands.move);
       }
 
   pub merges_come : (r : Running) (x : RunningNumbers) → IsRunning role r → (i : Item) (s : Running) → item_of (least r.consumer.merge.waiting) ≡ Some i → Merges role i r s
-      → RunningStands plan rows (partition_of role) r x → RunningStands plan rows (partition_of role) s (record x { consumer = merged_one x.consumer })
+      → RunningStands plan inputs (partition_of role) r x → RunningStands plan inputs (partition_of role) s (record x { consumer = merged_one x.consumer })
   merges_come r x is i s found m stands = merge_stands r s x i found is.op m stands
 
   -- ---- it is ready just where the machine says so
 
-  pub ready_so : (r : Running) (x : RunningNumbers) → RunningStands plan rows (partition_of role) r x
-      → is_some (item_of (least r.consumer.merge.waiting)) ≡ is_ready (flow_of plan rows) (partition_of role) x.consumer
-  ready_so r x stands = consumers.gives plan rows (partition_of role) x.consumer r.consumer is_plan (merges plan rows role of_plan) stands.consumer
+  pub ready_so : (r : Running) (x : RunningNumbers) → RunningStands plan inputs (partition_of role) r x
+      → is_some (item_of (least r.consumer.merge.waiting)) ≡ is_ready (flow_of plan inputs) (partition_of role) x.consumer
+  ready_so r x stands = consumers.gives plan inputs (partition_of role) x.consumer r.consumer is_plan (merges plan inputs role of_plan) stands.consumer
 
 -- what runs, and merges, has the edges and the operator of its partition as before
 pub running_kept : (role : Role) (i : Item) (r s : Running) → item_of (least r.consumer.merge.waiting) ≡ Some i → Merges role i r s → IsRunning role r → IsRunning role s

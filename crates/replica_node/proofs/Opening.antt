@@ -52,29 +52,29 @@ first_is : (w : Which) → first_term w ≡ (if leads_first w then 1 else 0)
 first_is A = refl
 first_is B = refl
 
-module _ (plan : PlanView) (rows : List Input) (is : IsPlan plan) (role : Role) (here : IsOfPlan plan role) where
-  none_made : (t : ℕ) → made_on plan rows (out_edge (partition_of role) t) 0 ≡ 0
+module _ (plan : PlanView) (inputs : List Input) (is : IsPlan plan) (role : Role) (here : IsOfPlan plan role) where
+  none_made : (t : ℕ) → made_on plan inputs (out_edge (partition_of role) t) 0 ≡ 0
   unfolding flow_of
-  none_made t = ((all_made plan rows is).by_parts (partition_of role) t (of_stage plan rows role here)).none
+  none_made t = ((all_made plan inputs is).by_parts (partition_of role) t (of_stage plan inputs role here)).none
 
-  producer_opens : ProducerStands (flow_of plan rows) (items_on plan rows) (partition_of role) (λ t. made_on plan rows (out_edge (partition_of role) t) 0)
+  producer_opens : ProducerStands (flow_of plan inputs) (items_on plan inputs) (partition_of role) (λ t. made_on plan inputs (out_edge (partition_of role) t) 0)
       (new_producer (first_term role.which) (leads_first role.which)) (opening role).producer
   producer_opens =
-      let f = flow_of plan rows in
+      let f = flow_of plan inputs in
       let p = partition_of role in
       let x = new_producer (first_term role.which) (leads_first role.which) in
       let leads = leads_first role.which in
-      let opened = producers.opens f (items_on plan rows) p (first_term role.which) leads (first_is role.which) in
-      subst (λ made. ProducerStands f (items_on plan rows) p made x (opening role).producer) (λ i t. sym (none_made t) i)
-      (subst (λ n. ProducerStands f (items_on plan rows) p (λ t. 0) x (producer.opening role.stage role.part (targets_of role.next) n leads)) (many_copies plan rows role here)
-      (subst (λ n. ProducerStands f (items_on plan rows) p (λ t. 0) x (producer.opening role.stage role.part n (copies f p) leads)) (many_targets plan rows role here) opened))
+      let opened = producers.opens f (items_on plan inputs) p (first_term role.which) leads (first_is role.which) in
+      subst (λ made. ProducerStands f (items_on plan inputs) p made x (opening role).producer) (λ i t. sym (none_made t) i)
+      (subst (λ n. ProducerStands f (items_on plan inputs) p (λ t. 0) x (producer.opening role.stage role.part (targets_of role.next) n leads)) (many_copies plan inputs role here)
+      (subst (λ n. ProducerStands f (items_on plan inputs) p (λ t. 0) x (producer.opening role.stage role.part n (copies f p) leads)) (many_targets plan inputs role here) opened))
 
-  consumer_opens : ConsumerStands plan rows (partition_of role) new_consumer (opening role).consumer
+  consumer_opens : ConsumerStands plan inputs (partition_of role) new_consumer (opening role).consumer
   consumer_opens =
-      subst (λ n. ConsumerStands plan rows (partition_of role) new_consumer (over (merge.opening n))) (sym here.sources)
-      (consumers.begins plan rows (partition_of role) is (merges plan rows role here))
+      subst (λ n. ConsumerStands plan inputs (partition_of role) new_consumer (over (merge.opening n))) (sym here.sources)
+      (consumers.begins plan inputs (partition_of role) is (merges plan inputs role here))
 
-  running_opens : RunningStands plan rows (partition_of role) (opening role) (new_running role.which)
+  running_opens : RunningStands plan inputs (partition_of role) (opening role) (new_running role.which)
   running_opens = record {
     inc = refl;
     consumer = consumer_opens;
@@ -84,25 +84,25 @@ module _ (plan : PlanView) (rows : List Input) (is : IsPlan plan) (role : Role) 
     move = tt;
   }
 
-  pub opens_stand : (v : ReplicaView) → v ≡ record { role = role; phase = phase.Running (opening role) } → StandsFor plan rows v (new_node (node_of role))
-  opens_stand v same = subst (λ z. StandsFor plan rows z (new_node (node_of role))) (sym same) (record { of_plan = here; phase_stands = running_opens })
+  pub opens_stand : (v : ReplicaView) → v ≡ record { role = role; phase = phase.Running (opening role) } → StandsFor plan inputs v (new_node (node_of role))
+  opens_stand v same = subst (λ z. StandsFor plan inputs z (new_node (node_of role))) (sym same) (record { of_plan = here; phase_stands = running_opens })
 
 -- ---- a pull
 
 -- in each plan where it is the edge's next item, the machine's replica takes it
 abbrev pub PullsIn : ReplicaView → ReplicaView → ℕ → Item → Type 0
 PullsIn old new q i =
-    (plan : PlanView) (rows : List Input) (x : RunningNumbers) (n : Node) → IsPlan plan → StandsFor plan rows old n → replica_in n ≡ numbers.Running x
-    → item_at (items_on plan rows (in_edge (partition_of old.role) q)) (x.consumer.marks q + 1) ≡ Some i
-    → StandsFor plan rows new (ReplicaNode (numbers.Running (record x { consumer = pulled x.consumer q })))
+    (plan : PlanView) (inputs : List Input) (x : RunningNumbers) (n : Node) → IsPlan plan → StandsFor plan inputs old n → replica_in n ≡ numbers.Running x
+    → item_at (items_on plan inputs (in_edge (partition_of old.role) q)) (x.consumer.marks q + 1) ≡ Some i
+    → StandsFor plan inputs new (ReplicaNode (numbers.Running (record x { consumer = pulled x.consumer q })))
 
-module _ (plan : PlanView) (rows : List Input) (role : Role) (here : IsOfPlan plan role) (q : ℕ) (i : Item) (there : q < role.sources) (x : RunningNumbers)
-    (item : item_at (items_on plan rows (in_edge (partition_of role) q)) (x.consumer.marks q + 1) ≡ Some i) where
-  phase_pulls : (own : Phase) → PhaseStands plan rows (partition_of role) own (numbers.Running x)
-      → PhaseStands plan rows (partition_of role) (item_pulled q i own) (numbers.Running (record x { consumer = pulled x.consumer q }))
+module _ (plan : PlanView) (inputs : List Input) (role : Role) (here : IsOfPlan plan role) (q : ℕ) (i : Item) (there : q < role.sources) (x : RunningNumbers)
+    (item : item_at (items_on plan inputs (in_edge (partition_of role) q)) (x.consumer.marks q + 1) ≡ Some i) where
+  phase_pulls : (own : Phase) → PhaseStands plan inputs (partition_of role) own (numbers.Running x)
+      → PhaseStands plan inputs (partition_of role) (item_pulled q i own) (numbers.Running (record x { consumer = pulled x.consumer q }))
   phase_pulls (phase.Running r) s = record {
     inc = s.inc;
-    consumer = consumers.pulls plan rows (partition_of role) x.consumer r.consumer q i (merges plan rows role here) (subst (λ n. q < n) here.sources there) item s.consumer;
+    consumer = consumers.pulls plan inputs (partition_of role) x.consumer r.consumer q i (merges plan inputs role here) (subst (λ n. q < n) here.sources there) item s.consumer;
     producer = s.producer;
     entries = s.entries;
     served = s.served;

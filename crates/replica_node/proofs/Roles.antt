@@ -68,16 +68,16 @@ targets_are plan role here = places.targets_are plan (partition_of role) (record
 
 -- ---- its place in the machine
 
-module _ (plan : PlanView) (rows : List Input) where
-  pub stages_are : (flow_of plan rows).stages ≡ length plan.stages
+module _ (plan : PlanView) (inputs : List Input) where
+  pub stages_are : (flow_of plan inputs).stages ≡ length plan.stages
   unfolding flow_of
   stages_are = refl
 
-  pub sources_at : (s : ℕ) → (flow_of plan rows).sources s ≡ sources_of plan s
+  pub sources_at : (s : ℕ) → (flow_of plan inputs).sources s ≡ sources_of plan s
   unfolding flow_of
   sources_at s = refl
 
-  pub targets_at : (s : ℕ) → (flow_of plan rows).targets s ≡ parts_of plan (s + 1)
+  pub targets_at : (s : ℕ) → (flow_of plan inputs).targets s ≡ parts_of plan (s + 1)
   unfolding flow_of
   targets_at s = refl
 
@@ -87,32 +87,32 @@ into_is role e into =
     let before : role.stage - 1 ≡ e.stage = let next : e.stage + 1 ≡ role.stage = into.0 in omega (arith, next) in
     λ i. record { stage = before i; from = e.from; to = sym into.1 i }
 
-module _ (plan : PlanView) (rows : List Input) (role : Role) (here : IsOfPlan plan role) where
-  pub merges : IsMerging (flow_of plan rows) (partition_of role)
+module _ (plan : PlanView) (inputs : List Input) (role : Role) (here : IsOfPlan plan role) where
+  pub merges : IsMerging (flow_of plan inputs) (partition_of role)
   unfolding flow_of
   merges = record { first = here.first; last = let l = here.last in omega arith }
 
-  pairs_are : (flow_of plan rows).replicas ≡ 2
+  pairs_are : (flow_of plan inputs).replicas ≡ 2
   unfolding flow_of
   pairs_are = refl
 
-  pub of_stage : IsOfStage (flow_of plan rows) (partition_of role)
+  pub of_stage : IsOfStage (flow_of plan inputs) (partition_of role)
   unfolding flow_of
   of_stage = record { first = here.first; last = here.last; part = subst (λ n. role.part < parts_of plan n) (let z : role.stage ≡ role.stage + 1 - 1 = omega arith in z) here.part }
 
-  pub many_targets : (flow_of plan rows).targets role.stage ≡ targets_of role.next
-  many_targets = targets_at plan rows role.stage ∙ targets_are plan role here
+  pub many_targets : (flow_of plan inputs).targets role.stage ≡ targets_of role.next
+  many_targets = targets_at plan inputs role.stage ∙ targets_are plan role here
 
   -- after the last stage there is one copy of egress, and of each other partition there are two
-  pub many_copies : copies (flow_of plan rows) (partition_of role) ≡ copies_of role.next
+  pub many_copies : copies (flow_of plan inputs) (partition_of role) ≡ copies_of role.next
   many_copies = by role.next refl
     where
-      by : (next : Option Stage) → role.next ≡ next → copies (flow_of plan rows) (partition_of role) ≡ copies_of next
+      by : (next : Option Stage) → role.next ≡ next → copies (flow_of plan inputs) (partition_of role) ≡ copies_of next
       by None e =
           let most = here.last in
-          let last : role.stage ≡ (flow_of plan rows).stages = let all = stages_are plan rows in let least = none_past plan.stages role.stage (here.next ∙ e) in omega arith in
-          ap (λ b. if b then 1 else (flow_of plan rows).replicas) (eq-eqb role.stage (flow_of plan rows).stages last)
+          let last : role.stage ≡ (flow_of plan inputs).stages = let all = stages_are plan inputs in let least = none_past plan.stages role.stage (here.next ∙ e) in omega arith in
+          ap (λ b. if b then 1 else (flow_of plan inputs).replicas) (eq-eqb role.stage (flow_of plan inputs).stages last)
       by (Some next) e =
-          let all = stages_are plan rows in
+          let all = stages_are plan inputs in
           let before = slice_get_within plan.stages role.stage next (here.next ∙ e) in
-          ap (λ b. if b then 1 else (flow_of plan rows).replicas) (nat_not role.stage (flow_of plan rows).stages (λ at. let z : ⊥ = omega arith in z)) ∙ pairs_are
+          ap (λ b. if b then 1 else (flow_of plan inputs).replicas) (nat_not role.stage (flow_of plan inputs).stages (λ at. let z : ⊥ = omega arith in z)) ∙ pairs_are

@@ -13,6 +13,6 @@ use Rattle.replica_node.specs.StandsFor.{PhaseStands}
 use Rattle.replica_node.specs.declared.phase.Phase.{Phase}
 use Rattle.replica_node.specs.declared.role.Role.{Role}
 
-pub record ComesTo (plan : PlanView) (rows : List Input) (role : Role) (after : Phase) (sent : List (NodeId × Body)) (d : Replica × List Envelope) : Type 0 where
-  pub stands : PhaseStands plan rows (partition_of role) after d.0
-  pub packets : ArePacketsFor (BodyStands plan rows) (node_of role) sent d.1
+pub record ComesTo (plan : PlanView) (inputs : List Input) (role : Role) (after : Phase) (sent : List (NodeId × Body)) (d : Replica × List Envelope) : Type 0 where
+  pub stands : PhaseStands plan inputs (partition_of role) after d.0
+  pub packets : ArePacketsFor (BodyStands plan inputs) (node_of role) sent d.1

@@ -26,27 +26,27 @@ use Rattle.replica_node.specs.declared.phase.Running.{Running}
 use Rattle.replica_node.proofs.WorkLinks.{works_few, works_linked}
 use Rattle.replica_node.proofs.WorkSteps.{MergesSo, WorksSo, work_comes}
 
-module _ (plan : PlanView) (rows : List Input) (old : ReplicaView) (after : Phase) (sent : List (NodeId × Body)) where
+module _ (plan : PlanView) (inputs : List Input) (old : ReplicaView) (after : Phase) (sent : List (NodeId × Body)) where
   -- whatever numbers it stands for, it works as they do
-  worked_so : (did : Worked) → ((x : Node) → StandsFor plan rows old x → WorksSo plan rows old.role old.phase (replica_in x) after sent did)
-      → IsWorked plan rows old (record { role = old.role; phase = after }) sent did
+  worked_so : (did : Worked) → ((x : Node) → StandsFor plan inputs old x → WorksSo plan inputs old.role old.phase (replica_in x) after sent did)
+      → IsWorked plan inputs old (record { role = old.role; phase = after }) sent did
   worked_so worked.Idle works = λ n s. ap as_replica (works n s).0
   worked_so worked.Did works = λ clock a act n s asks.
       let so = works n s asks.0 in (
         (ReplicaNode so.0.0, so.0.1),
-        (λ j. does (flow_of plan rows) (node_of old.role) (act j) n) ∙ ap as_replica so.1,
+        (λ j. does (flow_of plan inputs) (node_of old.role) (act j) n) ∙ ap as_replica so.1,
         record { of_plan = s.of_plan; phase_stands = so.2.stands },
-        λ to. delivered (BodyStands plan rows) (node_of old.role) clock to sent so.0.1 so.2.packets,
+        λ to. delivered (BodyStands plan inputs) (node_of old.role) clock to sent so.0.1 so.2.packets,
       )
 
 -- the rule of a merge is another one's
-pub work_course : (plan : PlanView) (rows : List Input) → IsPlan plan → (old new : ReplicaView) (sent : List (NodeId × Body)) (did : Worked)
-    → ((x : RunningNumbers) (r : Running) → IsOfPlan plan old.role → IsRunning old.role r → MergesSo plan rows old.role r x)
-    → IsReplica old → IsWorkOf old new sent did → IsWorked plan rows old new sent did
-work_course plan rows is_plan old new sent did merges sound work =
-    subst (λ (v : ReplicaView). IsWorked plan rows old v sent did) (λ i. record { role = sym work.role i; phase = new.phase })
-    (worked_so plan rows old new.phase sent did (λ n s.
-    work_comes plan rows old.role is_plan s.of_plan (λ r x running. merges x r s.of_plan running) old.phase (replica_in n) sound.1 s.phase_stands new.phase sent did work.works))
+pub work_course : (plan : PlanView) (inputs : List Input) → IsPlan plan → (old new : ReplicaView) (sent : List (NodeId × Body)) (did : Worked)
+    → ((x : RunningNumbers) (r : Running) → IsOfPlan plan old.role → IsRunning old.role r → MergesSo plan inputs old.role r x)
+    → IsReplica old → IsWorkOf old new sent did → IsWorked plan inputs old new sent did
+work_course plan inputs is_plan old new sent did merges sound work =
+    subst (λ (v : ReplicaView). IsWorked plan inputs old v sent did) (λ i. record { role = sym work.role i; phase = new.phase })
+    (worked_so plan inputs old new.phase sent did (λ n s.
+    work_comes plan inputs old.role is_plan s.of_plan (λ r x running. merges x r s.of_plan running) old.phase (replica_in n) sound.1 s.phase_stands new.phase sent did work.works))
 
 -- ---- of a call, which may have wanted memory
 
@@ -54,9 +54,9 @@ none_appended : (before later : List (NodeId × Body)) → later ≡ before → 
 none_appended before later same = ap (drop (length before)) (same ∙ sym (append-nil before)) ∙ drop_at before [] (length before) refl
 
 pub work_done : (r : Result Worked OutOfMemory) (old new : ReplicaView) (sent : List (NodeId × Body))
-    → ((plan : PlanView) (rows : List Input) → IsPlan plan → IsOfPlan plan old.role → (r : Running) (x : RunningNumbers) → IsRunning old.role r → MergesSo plan rows old.role r x)
-    → IsReplica old → IfOk r (IsWorkOf old new sent) → IfOk r (λ did. (plan : PlanView) (rows : List Input) → IsPlan plan → IsWorked plan rows old new sent did)
-work_done (Ok did) old new sent merges sound work = λ plan rows is_plan. work_course plan rows is_plan old new sent did (λ x r of_plan running. merges plan rows is_plan of_plan r x running) sound work
+    → ((plan : PlanView) (inputs : List Input) → IsPlan plan → IsOfPlan plan old.role → (r : Running) (x : RunningNumbers) → IsRunning old.role r → MergesSo plan inputs old.role r x)
+    → IsReplica old → IfOk r (IsWorkOf old new sent) → IfOk r (λ did. (plan : PlanView) (inputs : List Input) → IsPlan plan → IsWorked plan inputs old new sent did)
+work_done (Ok did) old new sent merges sound work = λ plan inputs is_plan. work_course plan inputs is_plan old new sent did (λ x r of_plan running. merges plan inputs is_plan of_plan r x running) sound work
 work_done (Err e) old new sent merges sound work = tt
 
 pub work_linked : (r : Result Worked OutOfMemory) (old new : ReplicaView) (before later : List (NodeId × Body)) → IsReplica old → IfOk r (IsWorkOf old new (appended before later))
@@ -86,10 +86,10 @@ waited_worked (Ok worked.Idle) rise P sure = λ did. let z : ⊥ = cc in absurd 
 waited_worked (Err e) rise P sure = tt
 
 pub waited_done : (r : Result Worked OutOfMemory) (rise : ℕ) (old new : ReplicaView) (sent : List (NodeId × Body))
-    → ((plan : PlanView) (rows : List Input) → IsPlan plan → IsOfPlan plan old.role → (r : Running) (x : RunningNumbers) → IsRunning old.role r → MergesSo plan rows old.role r x)
-    → IsReplica old → IfOk r (λ w. IsSure rise w → IsWorkOf old new sent w) → IfOk r (λ w. IsSure rise w → (plan : PlanView) (rows : List Input) → IsPlan plan → IsWorked plan rows old new sent w)
-waited_done (Ok w) rise old new sent merges sound work = λ sure plan rows is_plan.
-    work_course plan rows is_plan old new sent w (λ x r of_plan running. merges plan rows is_plan of_plan r x running) sound (work sure)
+    → ((plan : PlanView) (inputs : List Input) → IsPlan plan → IsOfPlan plan old.role → (r : Running) (x : RunningNumbers) → IsRunning old.role r → MergesSo plan inputs old.role r x)
+    → IsReplica old → IfOk r (λ w. IsSure rise w → IsWorkOf old new sent w) → IfOk r (λ w. IsSure rise w → (plan : PlanView) (inputs : List Input) → IsPlan plan → IsWorked plan inputs old new sent w)
+waited_done (Ok w) rise old new sent merges sound work = λ sure plan inputs is_plan.
+    work_course plan inputs is_plan old new sent w (λ x r of_plan running. merges plan inputs is_plan of_plan r x running) sound (work sure)
 waited_done (Err e) rise old new sent merges sound work = tt
 
 -- what waited sent nothing

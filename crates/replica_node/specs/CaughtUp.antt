@@ -33,36 +33,36 @@ abbrev pub IsItemOf : List Item → ℕ × Item → Type 0
 IsItemOf edge e = item_at edge e.0 ≡ Some e.1
 
 -- what is held of each in-edge are items of that edge, under the numbers that the machine says
-pub record HoldsNumbers (plan : PlanView) (rows : List Input) (p : Partition) (held : List (List (ℕ × Item))) (numbers : ℕ → List ℕ) : Type 0 where
+pub record HoldsNumbers (plan : PlanView) (inputs : List Input) (p : Partition) (held : List (List (ℕ × Item))) (numbers : ℕ → List ℕ) : Type 0 where
   pub sources : length held ≡ sources_of plan p.stage
-  pub items : (q : ℕ) → q < length held → All (IsItemOf (items_on plan rows (in_edge p q))) (slice_index_or held q [])
+  pub items : (q : ℕ) → q < length held → All (IsItemOf (items_on plan inputs (in_edge p q))) (slice_index_or held q [])
   pub under : (q : ℕ) → q < length held → map (λ e. e.0) (slice_index_or held q []) ≡ numbers q
 
 -- A merge, a producer and an operator are those of a move's numbers, as its partner had them when the move began.
-pub record ArePieces (plan : PlanView) (rows : List Input) (p : Partition) (n : MoveNumbers) (spec : OpSpec) (merge : MergeView) (producer : ProducerView) (items : List Item) : Type 0 where
-  pub consumer : ConsumerStands plan rows p (record { marks = n.marks; told = λ q. 0; count = n.count }) (over merge)
+pub record ArePieces (plan : PlanView) (inputs : List Input) (p : Partition) (n : MoveNumbers) (spec : OpSpec) (merge : MergeView) (producer : ProducerView) (items : List Item) : Type 0 where
+  pub consumer : ConsumerStands plan inputs p (record { marks = n.marks; told = λ q. 0; count = n.count }) (over merge)
   pub sender : Producer
-  pub sends : ProducerStands (flow_of plan rows) (items_on plan rows) p (λ t. made_on plan rows (out_edge p t) n.count) sender producer
+  pub sends : ProducerStands (flow_of plan inputs) (items_on plan inputs) p (λ t. made_on plan inputs (out_edge p t) n.count) sender producer
   pub lows : (t : ℕ) → sender.lows t ≡ n.lows t
-  pub entries : entries spec items ≡ entries_after plan rows p n.count
+  pub entries : entries spec items ≡ entries_after plan inputs p n.count
 
 -- The pieces of a move hold what its numbers say, so that the list of the move is that of its numbers.
 abbrev pub PiecesHoldNumbers : Type 0
-PiecesHoldNumbers = (plan : PlanView) (rows : List Input) (p : Partition) (n : MoveNumbers) (spec : OpSpec) (merge : MergeView) (producer : ProducerView) (items : List Item)
-    → IsMerging (flow_of plan rows) p → ArePieces plan rows p n spec merge producer items → HoldNumbers plan rows p n merge producer
+PiecesHoldNumbers = (plan : PlanView) (inputs : List Input) (p : Partition) (n : MoveNumbers) (spec : OpSpec) (merge : MergeView) (producer : ProducerView) (items : List Item)
+    → IsMerging (flow_of plan inputs) p → ArePieces plan inputs p n spec merge producer items → HoldNumbers plan inputs p n merge producer
 
 -- a replica that has caught up has what the machine's one has
-pub record StandsCaughtUp (plan : PlanView) (rows : List Input) (p : Partition) (inc : ℕ) (n : MoveNumbers) (numbers : ℕ → List ℕ) (c : CaughtUp) : Type 0 where
-  pub consumer : ConsumerStands plan rows p (caught_up inc n numbers).consumer c.consumer
-  pub producer : ProducerStands (flow_of plan rows) (items_on plan rows) p (λ t. made_on plan rows (out_edge p t) n.count) (caught_up inc n numbers).producer c.producer
-  pub entries : c.state.entries ≡ entries_after plan rows p n.count
+pub record StandsCaughtUp (plan : PlanView) (inputs : List Input) (p : Partition) (inc : ℕ) (n : MoveNumbers) (numbers : ℕ → List ℕ) (c : CaughtUp) : Type 0 where
+  pub consumer : ConsumerStands plan inputs p (caught_up inc n numbers).consumer c.consumer
+  pub producer : ProducerStands (flow_of plan inputs) (items_on plan inputs) p (λ t. made_on plan inputs (out_edge p t) n.count) (caught_up inc n numbers).producer c.producer
+  pub entries : c.state.entries ≡ entries_after plan inputs p n.count
   pub unwatched : c.state.old ≡ None
 
 -- A newcomer that took the list of a move of these numbers, and held items of its in-edges, stands at its end for the machine's replica that
 -- has caught up.
 abbrev pub NewcomersCatchUp : Type 0
-NewcomersCatchUp = (plan : PlanView) (rows : List Input) (p : Partition) (inc : ℕ) (n : MoveNumbers) (numbers : ℕ → List ℕ)
+NewcomersCatchUp = (plan : PlanView) (inputs : List Input) (p : Partition) (inc : ℕ) (n : MoveNumbers) (numbers : ℕ → List ℕ)
     (newcomer : NewcomerView) (spec : OpSpec) (c : CaughtUp) (merge : MergeView) (producer : ProducerView) (items : List Item)
-    → IsMerging (flow_of plan rows) p → ArePieces plan rows p n spec merge producer items → HoldsNumbers plan rows p newcomer.held numbers
-    → IsCaughtUp newcomer spec p.stage p.part (copies (flow_of plan rows) p) c merge producer items
-    → StandsCaughtUp plan rows p inc n numbers c
+    → IsMerging (flow_of plan inputs) p → ArePieces plan inputs p n spec merge producer items → HoldsNumbers plan inputs p newcomer.held numbers
+    → IsCaughtUp newcomer spec p.stage p.part (copies (flow_of plan inputs) p) c merge producer items
+    → StandsCaughtUp plan inputs p inc n numbers c

@@ -23,25 +23,25 @@ use Rattle.replica_node.specs.StandsFor.{StandsFor}
 
 -- the times of the inputs are within their limits
 abbrev pub AreTimely : List Input → Type 0
-AreTimely rows = All (λ (input : Input). IsTime input.row.time) rows
+AreTimely inputs = All (λ (input : Input). IsTime input.row.time) inputs
 
 -- to take this packet from a node, and send these
 abbrev pub IsTaken : PlanView → List Input → ReplicaView → ReplicaView → NodeId → Body → List (NodeId × Body) → Type 0
-IsTaken plan rows old new from b sent =
-    (clock at index : ℕ) → IsStep (flow_of plan rows) (BodyStands plan rows) (Asks (flow_of plan rows)) (node_of old.role) (StandsFor plan rows old) (StandsFor plan rows new)
+IsTaken plan inputs old new from b sent =
+    (clock at index : ℕ) → IsStep (flow_of plan inputs) (BodyStands plan inputs) (Asks (flow_of plan inputs)) (node_of old.role) (StandsFor plan inputs old) (StandsFor plan inputs new)
     (event.Take (link from (node_of old.role)) index) (Some (record { at = at; body = b })) (λ to. packets_to clock to sent)
 
 -- an event that takes no packet, and sends these
 abbrev pub IsDone : PlanView → List Input → ReplicaView → ReplicaView → List (NodeId × Body) → Event → Type 0
-IsDone plan rows old new sent e =
-    (clock : ℕ) → IsStep (flow_of plan rows) (BodyStands plan rows) (Asks (flow_of plan rows)) (node_of old.role) (StandsFor plan rows old) (StandsFor plan rows new) e None
+IsDone plan inputs old new sent e =
+    (clock : ℕ) → IsStep (flow_of plan inputs) (BodyStands plan inputs) (Asks (flow_of plan inputs)) (node_of old.role) (StandsFor plan inputs old) (StandsFor plan inputs new) e None
     (λ to. packets_to clock to sent)
 
 -- an act that the machine refuses
 abbrev pub IsRefused : PlanView → List Input → ReplicaView → Act → Refusal → Type 0
-IsRefused plan rows old a r = (n : Node) → StandsFor plan rows old n → does (flow_of plan rows) (node_of old.role) a n ≡ Err r
+IsRefused plan inputs old a r = (n : Node) → StandsFor plan inputs old n → does (flow_of plan inputs) (node_of old.role) a n ≡ Err r
 
 -- a piece of work; where there was none, nothing was due
 abbrev pub IsWorked : PlanView → List Input → ReplicaView → ReplicaView → List (NodeId × Body) → Worked → Type 0
-IsWorked plan rows old new sent worked.Did = IsDone plan rows old new sent (event.Work (node_of old.role))
-IsWorked plan rows old new sent worked.Idle = IsRefused plan rows old Works NothingDue
+IsWorked plan inputs old new sent worked.Did = IsDone plan inputs old new sent (event.Work (node_of old.role))
+IsWorked plan inputs old new sent worked.Idle = IsRefused plan inputs old Works NothingDue

@@ -13,18 +13,18 @@ use Rattle.move_list.specs.MoveList.{move_list, used_of}
 
 -- The merge and the buffers are those of the numbers: marks, count and lows; what waits are the items numbered above what was merged up to the
 -- mark, and what is kept those above low up to what was made.
-pub record HoldNumbers (plan : PlanView) (rows : List Input) (p : Partition) (n : MoveNumbers) (m : MergeView) (producer : ProducerView) : Type 0 where
+pub record HoldNumbers (plan : PlanView) (inputs : List Input) (p : Partition) (n : MoveNumbers) (m : MergeView) (producer : ProducerView) : Type 0 where
   pub sources : length m.marks ≡ sources_of plan p.stage
   pub marks : (q : ℕ) → q < length m.marks → mark_of m q ≡ n.marks q
   pub count : m.count ≡ n.count
-  pub used : (q : ℕ) → q < length m.marks → used_of m q ≡ counts.used_of plan rows p q n.count
-  pub waits : (q : ℕ) → q < length m.marks → waiting_of m q ≡ contents.waiting plan rows p n.count q (n.marks q)
+  pub used : (q : ℕ) → q < length m.marks → used_of m q ≡ counts.used_of plan inputs p q n.count
+  pub waits : (q : ℕ) → q < length m.marks → waiting_of m q ≡ contents.waiting plan inputs p n.count q (n.marks q)
   pub targets : length producer.edges ≡ parts_of plan (p.stage + 1)
   pub lows : (t : ℕ) → t < length producer.edges → (buffer_at producer t).low ≡ n.lows t
-  pub made : (t : ℕ) → t < length producer.edges → (buffer_at producer t).produced ≡ made_on plan rows (out_edge p t) n.count
-  pub kept : (t : ℕ) → t < length producer.edges → (buffer_at producer t).items ≡ contents.kept plan rows p n.count t (n.lows t)
+  pub made : (t : ℕ) → t < length producer.edges → (buffer_at producer t).produced ≡ made_on plan inputs (out_edge p t) n.count
+  pub kept : (t : ℕ) → t < length producer.edges → (buffer_at producer t).items ≡ contents.kept plan inputs p n.count t (n.lows t)
 
 -- the list of a move is that of its numbers
 abbrev pub MovesTellTheirNumbers : Type 0
-MovesTellTheirNumbers = (plan : PlanView) (rows : List Input) (p : Partition) (n : MoveNumbers) (m : MergeView) (producer : ProducerView)
-    → HoldNumbers plan rows p n m producer → move_list m producer (entries_after plan rows p n.count) ≡ contents.move_list plan rows p n
+MovesTellTheirNumbers = (plan : PlanView) (inputs : List Input) (p : Partition) (n : MoveNumbers) (m : MergeView) (producer : ProducerView)
+    → HoldNumbers plan inputs p n m producer → move_list m producer (entries_after plan inputs p n.count) ≡ contents.move_list plan inputs p n

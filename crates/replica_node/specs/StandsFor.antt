@@ -34,13 +34,13 @@ pub record IsOfPlan (plan : PlanView) (role : Role) : Type 0 where
   pub op : own.op ≡ role.op
   pub next : slice_get plan.stages role.stage ≡ role.next
 
-module _ (plan : PlanView) (rows : List Input) (p : Partition) where
+module _ (plan : PlanView) (inputs : List Input) (p : Partition) where
   -- A mover stands for a move: it gives the list of the move's numbers, and gave as many chunks as the numbers say.
   pub record MoverStands (m : MoverView) (old : Option (List Entry)) (x : Move) : Type 0 where
     pub target : m.target ≡ x.target
     pub sent : m.sent ≡ x.sent
-    pub kept : old ≡ Some (entries_after plan rows p x.numbers.count)
-    pub list : m.fixed ++ entries_after plan rows p x.numbers.count ≡ move_list plan rows p x.numbers
+    pub kept : old ≡ Some (entries_after plan inputs p x.numbers.count)
+    pub list : m.fixed ++ entries_after plan inputs p x.numbers.count ≡ move_list plan inputs p x.numbers
 
   -- a replica's move stands for that of its numbers, and where it makes none these have none
   abbrev pub MoveStands : Option MoverView → Option (List Entry) → Option Move → Type 0
@@ -51,23 +51,23 @@ module _ (plan : PlanView) (rows : List Input) (p : Partition) where
   -- one that runs
   pub record RunningStands (r : Running) (x : RunningNumbers) : Type 0 where
     pub inc : r.inc ≡ x.inc
-    pub consumer : ConsumerStands plan rows p x.consumer r.consumer
-    pub producer : ProducerStands (flow_of plan rows) (items_on plan rows) p (λ t. made_on plan rows (out_edge p t) x.consumer.count) x.producer r.producer
-    pub entries : r.state.entries ≡ entries_after plan rows p x.consumer.count
+    pub consumer : ConsumerStands plan inputs p x.consumer r.consumer
+    pub producer : ProducerStands (flow_of plan inputs) (items_on plan inputs) p (λ t. made_on plan inputs (out_edge p t) x.consumer.count) x.producer r.producer
+    pub entries : r.state.entries ≡ entries_after plan inputs p x.consumer.count
     pub served : r.served ≡ x.served
     pub move : MoveStands r.mover r.state.old x.move
 
   -- the entries that a newcomer took are the first of its move's list; before it took one it knows no move
   abbrev pub TakenStands : List Entry → ℕ → Option MoveNumbers → Type 0
   TakenStands taken count None = taken ≡ []
-  TakenStands taken count (Some m) = taken ≡ take count (move_list plan rows p m)
+  TakenStands taken count (Some m) = taken ≡ take count (move_list plan inputs p m)
 
   -- one that gathers
   pub record GatheringStands (g : NewcomerView) (x : GatheringNumbers) : Type 0 where
     pub inc : g.inc ≡ x.inc
     pub count : length g.taken ≡ x.taken
     pub taken : TakenStands g.taken x.taken x.moved
-    pub held : HoldsNumbers plan rows p g.held x.held
+    pub held : HoldsNumbers plan inputs p g.held x.held
     pub rising : AllRising g.held (length g.held)
 
   -- a replica in its mode stands for numbers of the same mode
@@ -78,6 +78,6 @@ module _ (plan : PlanView) (rows : List Input) (p : Partition) where
   PhaseStands p x = ⊥
 
 -- a replica of the plan stands for a node's numbers
-pub record StandsFor (plan : PlanView) (rows : List Input) (v : ReplicaView) (n : Node) : Type 0 where
+pub record StandsFor (plan : PlanView) (inputs : List Input) (v : ReplicaView) (n : Node) : Type 0 where
   pub of_plan : IsOfPlan plan v.role
-  pub phase_stands : PhaseStands plan rows (partition_of v.role) v.phase (replica_in n)
+  pub phase_stands : PhaseStands plan inputs (partition_of v.role) v.phase (replica_in n)

@@ -143,12 +143,12 @@ impl Replica {
         ensures exact { IsTrue result ↔ (IsTrue (has_link plan.now (link from (node_of self.now.role)))
             × IsAdmitted self.now from body.now) }
         // Every packet that a sound machine has sent there is admitted, for inputs whose times are within their limits.
-        ensures complete { (rows : List Input) (s : State) (m : Message) →
-            let f = flow_of plan.now rows in
+        ensures complete { (inputs : List Input) (s : State) (m : Message) →
+            let f = flow_of plan.now inputs in
             let here = node_of self.now.role in
-            IsPlan plan.now → AreTimely rows → IsSound f s → StandsFor plan.now rows self.now (s.nodes here)
+            IsPlan plan.now → AreTimely inputs → IsSound f s → StandsFor plan.now inputs self.now (s.nodes here)
             → EachOfMessage (λ n. n < number_limit) m → Among m (s.sent (link from here))
-            → BodyStands plan.now rows (link from here) body.now m → IsTrue result }
+            → BodyStands plan.now inputs (link from here) body.now m → IsTrue result }
     {
         let to = self.id();
         plan.links(LinkId { from, to }) && self.may_take(from, body)

@@ -73,7 +73,7 @@ impl Replica {
         requires there { IsTrue (has_node plan.now (node.Replica stage part which)) }
         ensures named { IfOk result (λ r. node_of r.role ≡ node.Replica stage part which) }
         ensures of_plan { IfOk result (λ r. IsOfPlan plan.now r.role) }
-        ensures stands { IfOk result (λ r. (rows : List Input) → StandsFor plan.now rows r (new_node (node_of r.role))) }
+        ensures stands { IfOk result (λ r. (inputs : List Input) → StandsFor plan.now inputs r (new_node (node_of r.role))) }
     {
         let role = role_in(plan, stage, part, which);
         let running = Running::opening(alloc, &role)?;
@@ -108,8 +108,8 @@ impl Replica {
             → GoOverLinks plan (node_of self.old.role) (appended out.old.packets out.new.packets) }
         ensures role { self.new.role ≡ self.old.role }
         // For the machine's laws: in each plan, whatever message the body stands for.
-        ensures course { OnOk result ((plan : PlanView) (rows : List Input) → IsPlan plan → AreTimely rows
-            → IsTaken plan rows self.old self.new from body.now (appended out.old.packets out.new.packets)) }
+        ensures course { OnOk result ((plan : PlanView) (inputs : List Input) → IsPlan plan → AreTimely inputs
+            → IsTaken plan inputs self.old self.new from body.now (appended out.old.packets out.new.packets)) }
     {
         self.take(from, body, out)
     }
@@ -129,8 +129,8 @@ impl Replica {
             → GoOverLinks plan (node_of self.old.role) (appended out.old.packets out.new.packets) }
         ensures role { self.new.role ≡ self.old.role }
         // For the machine's laws, in each plan.
-        ensures course { IfOk result (λ w. (plan : PlanView) (rows : List Input) → IsPlan plan
-            → IsWorked plan rows self.old self.new (appended out.old.packets out.new.packets) w) }
+        ensures course { IfOk result (λ w. (plan : PlanView) (inputs : List Input) → IsPlan plan
+            → IsWorked plan inputs self.old self.new (appended out.old.packets out.new.packets) w) }
     {
         self.do_first(1, out)
     }
@@ -152,8 +152,8 @@ impl Replica {
             → GoOverLinks plan (node_of self.old.role) (appended out.old.packets out.new.packets) }
         ensures role { self.new.role ≡ self.old.role }
         // For the machine's laws, in each plan.
-        ensures course { IfOk result (λ w. IsSure rise w → (plan : PlanView) (rows : List Input) → IsPlan plan
-            → IsWorked plan rows self.old self.new (appended out.old.packets out.new.packets) w) }
+        ensures course { IfOk result (λ w. IsSure rise w → (plan : PlanView) (inputs : List Input) → IsPlan plan
+            → IsWorked plan inputs self.old self.new (appended out.old.packets out.new.packets) w) }
     {
         self.do_first(rise, out)
     }
@@ -178,7 +178,7 @@ impl Replica {
         ensures gone { self.new ≡ dying self.old }
         ensures packets { out.new.packets ≡ out.old.packets ++ down_sent self.old }
         ensures linked { (plan : PlanView) → IsOfPlan plan self.old.role → GoOverLinks plan (node_of self.old.role) (down_sent self.old) }
-        ensures course { (plan : PlanView) (rows : List Input) → IsDone plan rows self.old self.new (down_sent self.old) (event.Kill (node_of self.old.role)) }
+        ensures course { (plan : PlanView) (inputs : List Input) → IsDone plan inputs self.old self.new (down_sent self.old) (event.Kill (node_of self.old.role)) }
     {
         let inc = self.phase.inc();
         self.phase.die();
@@ -192,7 +192,7 @@ impl Replica {
         ensures unchanged { self.new ≡ self.old }
         ensures packets { out.new.packets ≡ out.old.packets ++ stop_asked self.old }
         ensures linked { (plan : PlanView) → IsOfPlan plan self.old.role → GoOverLinks plan (node_of self.old.role) (stop_asked self.old) }
-        ensures course { (plan : PlanView) (rows : List Input) → IsDone plan rows self.old self.new (stop_asked self.old) (event.AskStop (node_of self.old.role)) }
+        ensures course { (plan : PlanView) (inputs : List Input) → IsDone plan inputs self.old self.new (stop_asked self.old) (event.AskStop (node_of self.old.role)) }
     {
         let inc = self.phase.inc();
         out.push(self.role.controller(), Body::AskStop { inc });
@@ -205,7 +205,7 @@ impl Replica {
         ensures unchanged { self.new ≡ self.old }
         ensures packets { out.new.packets ≡ out.old.packets ++ back_asked self.old }
         ensures linked { (plan : PlanView) → IsOfPlan plan self.old.role → GoOverLinks plan (node_of self.old.role) (back_asked self.old) }
-        ensures course { (plan : PlanView) (rows : List Input) → IsDone plan rows self.old self.new (back_asked self.old) (event.AskBack (partner_of self.old.role)) }
+        ensures course { (plan : PlanView) (inputs : List Input) → IsDone plan inputs self.old self.new (back_asked self.old) (event.AskBack (partner_of self.old.role)) }
     {
         out.push(self.role.controller(), Body::AskBack);
     }
@@ -220,9 +220,9 @@ impl Replica {
         ensures unchanged { OnErr result (self.new ≡ self.old) }
         ensures role { self.new.role ≡ self.old.role }
         // In each plan where that is the edge's next item, the machine's replica takes it.
-        ensures stands { OnOk result ((plan : PlanView) (rows : List Input) (x : RunningNumbers) (n : Node) → IsPlan plan → StandsFor plan rows self.old n
-            → replica_in n ≡ numbers.Running x → item_at (items_on plan rows (in_edge (partition_of self.old.role) edge)) (x.consumer.marks edge + 1) ≡ Some item
-            → StandsFor plan rows self.new (ReplicaNode (numbers.Running (record x { consumer = pulled x.consumer edge })))) }
+        ensures stands { OnOk result ((plan : PlanView) (inputs : List Input) (x : RunningNumbers) (n : Node) → IsPlan plan → StandsFor plan inputs self.old n
+            → replica_in n ≡ numbers.Running x → item_at (items_on plan inputs (in_edge (partition_of self.old.role) edge)) (x.consumer.marks edge + 1) ≡ Some item
+            → StandsFor plan inputs self.new (ReplicaNode (numbers.Running (record x { consumer = pulled x.consumer edge })))) }
     {
         self.phase.pull(edge, item)
     }

@@ -24,8 +24,8 @@ use Rattle.run_watch.specs.declared.happening.Told.{Told}
 use Rattle.run_rehearsal.specs.Merged.{merged_at, merged_by, merged_in, merged_seen, merged_so_far}
 use Rattle.run_rehearsal.specs.RehearsalText.{rehearsal_text}
 
-module _ (plan : PlanView) (rows : List Input) where
-  phase_merged : (p : Partition) (v : Phase) (r : Replica) → PhaseStands plan rows p v r → merged_so_far v ≡ merged_by r
+module _ (plan : PlanView) (inputs : List Input) where
+  phase_merged : (p : Partition) (v : Phase) (r : Replica) → PhaseStands plan inputs p v r → merged_so_far v ≡ merged_by r
   phase_merged p (phase.Running r) (Running x) h = ap Some h.consumer.count
   phase_merged p (phase.Running r) (Gathering x) h = absurd h
   phase_merged p (phase.Running r) (Gone i) h = absurd h
@@ -36,7 +36,7 @@ module _ (plan : PlanView) (rows : List Input) where
   phase_merged p (phase.Gone inc) (Gathering x) h = absurd h
   phase_merged p (phase.Gone inc) (Gone i) h = refl
 
-  node_merged : (n : NodeId) (o : Option NodeState) (x : Node) → is_replica n ≡ true → ContentStands plan rows n o x → merged_at o ≡ merged_by (replica_in x)
+  node_merged : (n : NodeId) (o : Option NodeState) (x : Node) → is_replica n ≡ true → ContentStands plan inputs n o x → merged_at o ≡ merged_by (replica_in x)
   node_merged n None x e h = absurd h
   node_merged n (Some (state.Ingress i)) x e h = let z : is_replica node.Ingress ≡ true = subst (λ m. is_replica m ≡ true) (sym h.0) e in absurd (let y : ⊥ = cc z in y)
   node_merged n (Some (state.Replica v)) x e h = phase_merged (partition_of v.role) v.phase (replica_in x) h.1.phase_stands

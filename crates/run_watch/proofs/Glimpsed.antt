@@ -47,20 +47,20 @@ sum_same (suc n) f g h = λ j. sum_same n f g (λ q l. h q (omega (arith, l))) j
 pub held_next : (g : NewcomerView) (n : ℕ) → held_below g (n + 1) ≡ held_below g n + length (held_of g n)
 held_next g n = ap (held_below g) {x = n + 1} {y = suc n} (omega arith)
 
-module _ (plan : PlanView) (rows : List Input) (p : Partition) where
-  mover_same : (m : Option MoverView) (old : Option (List Entry)) (x : Option Move) → MoveStands plan rows p m old x → mover_seen m ≡ moving_of x
+module _ (plan : PlanView) (inputs : List Input) (p : Partition) where
+  mover_same : (m : Option MoverView) (old : Option (List Entry)) (x : Option Move) → MoveStands plan inputs p m old x → mover_seen m ≡ moving_of x
   mover_same None old None h = refl
   mover_same None old (Some x) h = absurd h
   mover_same (Some m) old None h = absurd h
   mover_same (Some m) old (Some x) h = λ j. Some (record { target = h.target j; sent = h.sent j })
 
-  held_same : (g : NewcomerView) (x : GatheringNumbers) → GatheringStands plan rows p g x → held_below g (length g.held) ≡ sum_below (sources_of plan p.stage) (λ q. length (x.held q))
+  held_same : (g : NewcomerView) (x : GatheringNumbers) → GatheringStands plan inputs p g x → held_below g (length g.held) ≡ sum_below (sources_of plan p.stage) (λ q. length (x.held q))
   held_same g x h =
       sum_same (length g.held) (λ q. length (held_of g q)) (λ q. length (x.held q))
       (λ q l. sym (length-map-of (λ (e : ℕ × Item). e.0) (held_of g q)) ∙ ap length (h.held.under q l))
       ∙ ap (λ n. sum_below n (λ q. length (x.held q))) h.held.sources
 
-  pub phase_same : (v : Phase) (r : Replica) → PhaseStands plan rows p v r → phase_seen v ≡ replica_seen (sources_of plan p.stage) r
+  pub phase_same : (v : Phase) (r : Replica) → PhaseStands plan inputs p v r → phase_seen v ≡ replica_seen (sources_of plan p.stage) r
   phase_same (phase.Running r) (Running x) h = λ j. glimpse.Running (h.inc j) (h.producer.leads j) (h.producer.term j) (mover_same r.mover r.state.old x.move h.move j)
   phase_same (phase.Running r) (Gathering x) h = absurd h
   phase_same (phase.Running r) (Gone i) h = absurd h
@@ -71,7 +71,7 @@ module _ (plan : PlanView) (rows : List Input) (p : Partition) where
   phase_same (phase.Gone inc) (Gathering x) h = absurd h
   phase_same (phase.Gone inc) (Gone i) h = ap glimpse.Gone h
 
-  pub held_edges : (v : Phase) (x : Replica) (edges : ℕ) → PhaseStands plan rows p v x → edges ≡ sources_of plan p.stage → HasHeld edges v
+  pub held_edges : (v : Phase) (x : Replica) (edges : ℕ) → PhaseStands plan inputs p v x → edges ≡ sources_of plan p.stage → HasHeld edges v
   held_edges (phase.Running r) x edges h e = tt
   held_edges (phase.Gathering g) (Running x) edges h e = absurd h
   held_edges (phase.Gathering g) (Gathering x) edges h e = e ∙ sym h.held.sources

@@ -61,9 +61,9 @@ known core is = known_of core core.whole is.known
 
 -- ---- a pair
 
-pub pair_named : (plan : PlanView) (rows : List Input) (stage part : ℕ) → 1 ≤ stage → stage ≤ length plan.stages → part < sources_of plan (stage + 1) → has_pair plan stage part ≡ true
+pub pair_named : (plan : PlanView) (inputs : List Input) (stage part : ℕ) → 1 ≤ stage → stage ≤ length plan.stages → part < sources_of plan (stage + 1) → has_pair plan stage part ≡ true
 unfolding flow_of
-pair_named plan rows stage part low high within = (nodes_named plan rows (node.Control stage part)).named ((low, high), within)
+pair_named plan inputs stage part low high within = (nodes_named plan inputs (node.Control stage part)).named ((low, high), within)
 
 module _ (core : CoreView) (is : IsCore core) (stage part : ℕ) (named : has_pair core.plan stage part ≡ true) where
   has : (w : Which) → HasNode (flow_in core) (node.Replica stage part w)
@@ -126,7 +126,7 @@ pub ingress_lines : (core : CoreView) (i : IngressView) → Some (state.Ingress 
 ingress_lines core i same s stands = ingress_same core.plan (inputs_of core) i (s.nodes node.Ingress) (given_stands core s stands node.Ingress (tt, tt) (state.Ingress i) same).1
 
 pub egress_lines : (core : CoreView) → IsCore core → (e : EgressView) (done : Bool) → Some (state.Egress e) ≡ (station core node.Egress).content → done ≡ e.done
-    → ((plan : PlanView) (rows : List Input) (n : Node) → IsPlan plan → egress.StandsFor plan rows e n → IsTrue done ↔ ((egress_in n).count ≡ (flow_of plan rows).total (egress_partition (flow_of plan rows))))
+    → ((plan : PlanView) (inputs : List Input) (n : Node) → IsPlan plan → egress.StandsFor plan inputs e n → IsTrue done ↔ ((egress_in n).count ≡ (flow_of plan inputs).total (egress_partition (flow_of plan inputs))))
     → (s : State) → StandsFor core s → egress_shown e ≡ egress_text (flow_in core) (egress_in (s.nodes node.Egress))
 egress_lines core is e done same read all s stands =
     let h = given_stands core s stands node.Egress (tt, tt) (state.Egress e) same in

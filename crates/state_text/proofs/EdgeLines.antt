@@ -25,10 +25,10 @@ use Rattle.state_text.proofs.Below.{lines_of}
 mark_line : Word → ℕ → ℕ → ℕ → List ℕ
 mark_line name q mark told = name ++ codes " < " ++ decimal q ++ codes " mark=" ++ decimal mark ++ codes " told=" ++ decimal told ++ codes "\n"
 
-pub in_edges_same : (plan : PlanView) (rows : List Input) (p : Partition) (x : Consumer) (code : ConsumerView) (name : Word) → ConsumerStands plan rows p x code
-    → in_edges_shown name code ≡ lines_below ((flow_of plan rows).sources p.stage) (in_edge_line name x)
+pub in_edges_same : (plan : PlanView) (inputs : List Input) (p : Partition) (x : Consumer) (code : ConsumerView) (name : Word) → ConsumerStands plan inputs p x code
+    → in_edges_shown name code ≡ lines_below ((flow_of plan inputs).sources p.stage) (in_edge_line name x)
 unfolding flow_of mark_line
-in_edges_same plan rows p x code name h =
+in_edges_same plan inputs p x code name h =
     lines_of _ _ (in_edge_line name (consumer_numbers code)) (in_edge_line name x) h.edges
     (λ q l. let below = subst (λ n. q < n) h.edges l in (λ j. mark_line name q (h.marks q below j) (h.told q below j)))
 

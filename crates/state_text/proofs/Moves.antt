@@ -87,18 +87,18 @@ low_in (entry.Low t low produced) = low
 low_in (entry.Kept t number i) = 0
 low_in (entry.Keyed k slot a b c) = 0
 
-module _ (plan : PlanView) (rows : List Input) (p : Partition) where
+module _ (plan : PlanView) (inputs : List Input) (p : Partition) where
   waits : MoveNumbers → ℕ → List Entry
-  waits m q = numbered (λ n x. entry.Head q n x) (used_of plan rows p q m.count) (waiting plan rows p m.count q (m.marks q))
+  waits m q = numbered (λ n x. entry.Head q n x) (used_of plan inputs p q m.count) (waiting plan inputs p m.count q (m.marks q))
 
   low_at : MoveNumbers → ℕ → Entry
-  low_at m t = entry.Low t (m.lows t) (made_on plan rows (out_edge p t) m.count)
+  low_at m t = entry.Low t (m.lows t) (made_on plan inputs (out_edge p t) m.count)
 
   kept_on : MoveNumbers → List Entry
-  kept_on m = each_below (parts_of plan (p.stage + 1)) (λ t. numbered (λ n x. entry.Kept t n x) (m.lows t) (kept plan rows p m.count t (m.lows t)))
+  kept_on m = each_below (parts_of plan (p.stage + 1)) (λ t. numbered (λ n x. entry.Kept t n x) (m.lows t) (kept plan inputs p m.count t (m.lows t)))
 
   keeps : MoveNumbers → List Entry
-  keeps m = kept_on m ++ entries_after plan rows p m.count
+  keeps m = kept_on m ++ entries_after plan inputs p m.count
 
   lows_on : MoveNumbers → List Entry
   lows_on m = each_below (parts_of plan (p.stage + 1)) (λ t. low_at m t ∷ []) ++ keeps m
@@ -109,14 +109,14 @@ module _ (plan : PlanView) (rows : List Input) (p : Partition) where
   after_marks : MoveNumbers → List Entry
   after_marks m = entry.Count m.count ∷ (each_below (sources_of plan p.stage) (waits m) ++ lows_on m)
 
-  list_is : (m : MoveNumbers) → move_list plan rows p m ≡ marks_on m ++ after_marks m
+  list_is : (m : MoveNumbers) → move_list plan inputs p m ≡ marks_on m ++ after_marks m
   unfolding waits low_at kept_on keeps lows_on marks_on after_marks
   list_is m =
       regrouped (marks_on m) (entry.Count m.count ∷ []) (each_below (sources_of plan p.stage) (waits m)) (each_below (parts_of plan (p.stage + 1)) (λ t. low_at m t ∷ [])) (kept_on m)
-      (entries_after plan rows p m.count)
+      (entries_after plan inputs p m.count)
 
   -- moves of one list have one size
-  same_size : (m n : MoveNumbers) → move_list plan rows p m ≡ move_list plan rows p n → size (flow_of plan rows) p m ≡ size (flow_of plan rows) p n
+  same_size : (m n : MoveNumbers) → move_list plan inputs p m ≡ move_list plan inputs p n → size (flow_of plan inputs) p m ≡ size (flow_of plan inputs) p n
   unfolding flow_of waits low_at keeps lows_on marks_on after_marks mark_in count_in low_in first_or without_first
   same_size m n e =
       let sources = sources_of plan p.stage in
@@ -126,36 +126,36 @@ module _ (plan : PlanView) (rows : List Input) (p : Partition) where
       let count : m.count ≡ n.count = ap (λ es. count_in (first_or (entry.Count 0) es)) marks_front.after in
       let waits_same : each_below sources (waits m) ≡ each_below sources (waits n) =
       entries_same sources (waits m) (waits n)
-      (λ q l. λ j. numbered (λ n x. entry.Head q n x) (used_of plan rows p q (count j)) (waiting plan rows p (count j) q (marks q l j))) in
+      (λ q l. λ j. numbered (λ n x. entry.Head q n x) (used_of plan inputs p q (count j)) (waiting plan inputs p (count j) q (marks q l j))) in
       let lows_front = same_front targets (low_at m) (low_at n) (keeps m) (keeps n)
       (append_cancel_left (each_below sources (waits m)) (lows_on m) (lows_on n) (ap without_first marks_front.after ∙ ap (λ w. w ++ lows_on n) (sym waits_same))) in
       let lows : (t : ℕ) → t < targets → m.lows t ≡ n.lows t = λ t l. ap low_in (lows_front.front t l) in
-      let waiting_sum = sums_same sources (λ q. m.marks q - used_of plan rows p q m.count) (λ q. n.marks q - used_of plan rows p q n.count) (λ q l. λ j. marks q l j - used_of plan rows p q (count j)) in
-      let kept_sum = sums_same targets (λ t. made_on plan rows (out_edge p t) m.count - m.lows t) (λ t. made_on plan rows (out_edge p t) n.count - n.lows t) (λ t l. λ j. made_on plan rows (out_edge p t) (count j) - lows t l j) in
-      (λ j. sources + 1 + waiting_sum j + targets + kept_sum j + length (entries_after plan rows p (count j)))
+      let waiting_sum = sums_same sources (λ q. m.marks q - used_of plan inputs p q m.count) (λ q. n.marks q - used_of plan inputs p q n.count) (λ q l. λ j. marks q l j - used_of plan inputs p q (count j)) in
+      let kept_sum = sums_same targets (λ t. made_on plan inputs (out_edge p t) m.count - m.lows t) (λ t. made_on plan inputs (out_edge p t) n.count - n.lows t) (λ t l. λ j. made_on plan inputs (out_edge p t) (count j) - lows t l j) in
+      (λ j. sources + 1 + waiting_sum j + targets + kept_sum j + length (entries_after plan inputs p (count j)))
 
   -- ---- chunks
 
-  list_length : (m : MoverView) (old : List Entry) (x : Move) → IsMoving (Some m) (Some old) → MoverStands plan rows p m (Some old) x → length (move_list plan rows p x.numbers) + 1 ≡ total_of m
+  list_length : (m : MoverView) (old : List Entry) (x : Move) → IsMoving (Some m) (Some old) → MoverStands plan inputs p m (Some old) x → length (move_list plan inputs p x.numbers) + 1 ≡ total_of m
   list_length m old x moving h =
-      let entries : old ≡ entries_after plan rows p x.numbers.count = ap (λ o. unwrap_or o old) h.kept in
-      let whole : length m.fixed + length (entries_after plan rows p x.numbers.count) ≡ length (move_list plan rows p x.numbers) =
-      sym (length-append m.fixed (entries_after plan rows p x.numbers.count)) ∙ ap length h.list in
-      let many : length (entries_after plan rows p x.numbers.count) ≡ m.entries = ap length (sym entries) ∙ moving.0.count in
+      let entries : old ≡ entries_after plan inputs p x.numbers.count = ap (λ o. unwrap_or o old) h.kept in
+      let whole : length m.fixed + length (entries_after plan inputs p x.numbers.count) ≡ length (move_list plan inputs p x.numbers) =
+      sym (length-append m.fixed (entries_after plan inputs p x.numbers.count)) ∙ ap length h.list in
+      let many : length (entries_after plan inputs p x.numbers.count) ≡ m.entries = ap length (sym entries) ∙ moving.0.count in
       omega (arith, whole, many)
 
-  one_list : (m : MoverView) (old : List Entry) (x y : Move) → MoverStands plan rows p m (Some old) x → MoverStands plan rows p m (Some old) y
-      → move_list plan rows p x.numbers ≡ move_list plan rows p y.numbers
+  one_list : (m : MoverView) (old : List Entry) (x y : Move) → MoverStands plan inputs p m (Some old) x → MoverStands plan inputs p m (Some old) y
+      → move_list plan inputs p x.numbers ≡ move_list plan inputs p y.numbers
   one_list m old x y h k =
-      let entries : entries_after plan rows p x.numbers.count ≡ entries_after plan rows p y.numbers.count = ap (λ o. unwrap_or o old) (sym h.kept ∙ k.kept) in
+      let entries : entries_after plan inputs p x.numbers.count ≡ entries_after plan inputs p y.numbers.count = ap (λ o. unwrap_or o old) (sym h.kept ∙ k.kept) in
       sym h.list ∙ ap (λ es. m.fixed ++ es) entries ∙ k.list
 
   -- A mover stands for one move whose numbers are within their lengths; so whatever move it stands for, it has as many chunks.
-  pub chunks_are : IsPlan plan → IsOfStage (flow_of plan rows) p → (m : MoverView) (old : Option (List Entry)) (x y : Move) → IsMoving (Some m) old
-      → MoverStands plan rows p m old x → MoveBound (flow_of plan rows) p x.numbers → MoverStands plan rows p m old y → total_of m ≡ size (flow_of plan rows) p y.numbers + 1
+  pub chunks_are : IsPlan plan → IsOfStage (flow_of plan inputs) p → (m : MoverView) (old : Option (List Entry)) (x y : Move) → IsMoving (Some m) old
+      → MoverStands plan inputs p m old x → MoveBound (flow_of plan inputs) p x.numbers → MoverStands plan inputs p m old y → total_of m ≡ size (flow_of plan inputs) p y.numbers + 1
   chunks_are is_plan there m None x y moving h bound k = absurd moving
   chunks_are is_plan there m (Some old) x y moving h bound k =
       let total = list_length m old x moving h in
-      let size_x = have_their_size plan rows is_plan p x.numbers there bound in
+      let size_x = have_their_size plan inputs is_plan p x.numbers there bound in
       let size_y = same_size x.numbers y.numbers (one_list m old x y h k) in
       sym total ∙ ap (λ n. n + 1) (size_x ∙ size_y)

@@ -38,15 +38,15 @@ use Rattle.state_text.proofs.Moves.{chunks_are}
 
 -- ---- ingress
 
-pub ingress_same : (plan : PlanView) (rows : List Input) (i : IngressView) (n : Node) → ingress.StandsFor plan rows i n → ingress_shown i ≡ ingress_text (flow_of plan rows) (ingress_in n)
+pub ingress_same : (plan : PlanView) (inputs : List Input) (i : IngressView) (n : Node) → ingress.StandsFor plan inputs i n → ingress_shown i ≡ ingress_text (flow_of plan inputs) (ingress_in n)
 unfolding flow_of
-ingress_same plan rows i n h =
-    let f = flow_of plan rows in
+ingress_same plan inputs i n h =
+    let f = flow_of plan inputs in
     let x = ingress_in n in
     let sources = lines_of (length i.producers) plan.version (λ q. out_edges_shown (source_name (length i.producers) q) (producer_at i q))
     (λ q. out_edges_text f (source_name plan.version q) (ingress_source q) (source_made f x q) (x.producers q)) h.sources
     (λ q l. ap (λ many. out_edges_shown (source_name many q) (producer_at i q)) h.sources
-    ∙ out_edges_same f (items_on plan rows) (ingress_source q) (source_made f x q) (x.producers q) (producer_at i q) (source_name plan.version q) (h.producers q (subst (λ k. q < k) h.sources l))) in
+    ∙ out_edges_same f (items_on plan inputs) (ingress_source q) (source_made f x q) (x.producers q) (producer_at i q) (source_name plan.version q) (h.producers q (subst (λ k. q < k) h.sources l))) in
     (λ j. makes_line (h.makes j) ++ sources j)
 
 -- ---- egress
@@ -55,39 +55,39 @@ done_same : (b : Bool) (count total : ℕ) → (IsTrue b ↔ (count ≡ total)) 
 done_same true count total h = sym (eq-eqb count total (h.0 refl))
 done_same false count total h = sym (ne_eqb count total (iff_false h refl))
 
-pub egress_same : (plan : PlanView) (rows : List Input) (e : EgressView) (n : Node) → egress.StandsFor plan rows e n
-    → (IsTrue e.done ↔ ((egress_in n).count ≡ (flow_of plan rows).total (egress_partition (flow_of plan rows)))) → egress_shown e ≡ egress_text (flow_of plan rows) (egress_in n)
-egress_same plan rows e n h all =
-    let f = flow_of plan rows in
+pub egress_same : (plan : PlanView) (inputs : List Input) (e : EgressView) (n : Node) → egress.StandsFor plan inputs e n
+    → (IsTrue e.done ↔ ((egress_in n).count ≡ (flow_of plan inputs).total (egress_partition (flow_of plan inputs)))) → egress_shown e ≡ egress_text (flow_of plan inputs) (egress_in n)
+egress_same plan inputs e n h all =
+    let f = flow_of plan inputs in
     let x = egress_in n in
     let done = done_same e.done x.count (f.total (egress_partition f)) all in
-    let edges = in_edges_same plan rows (egress_partition f) x e.consumer (codes "out") h.consumer in
+    let edges = in_edges_same plan inputs (egress_partition f) x e.consumer (codes "out") h.consumer in
     (λ j. out_line (h.consumer.count j) (done j) ++ edges j)
 
 -- ---- a replica
 
-module _ (plan : PlanView) (rows : List Input) (p : Partition) (name : Word) (is_plan : IsPlan plan) (there : IsOfStage (flow_of plan rows) p) where
-  move_same : (m : Option MoverView) (old : Option (List Entry)) (x y : Option Move) → IsMoving m old → MoveStands plan rows p m old x → MoverBound (flow_of plan rows) p x → MoveStands plan rows p m old y
-      → move_shown name m ≡ move_text name (size (flow_of plan rows) p) y
+module _ (plan : PlanView) (inputs : List Input) (p : Partition) (name : Word) (is_plan : IsPlan plan) (there : IsOfStage (flow_of plan inputs) p) where
+  move_same : (m : Option MoverView) (old : Option (List Entry)) (x y : Option Move) → IsMoving m old → MoveStands plan inputs p m old x → MoverBound (flow_of plan inputs) p x → MoveStands plan inputs p m old y
+      → move_shown name m ≡ move_text name (size (flow_of plan inputs) p) y
   move_same None old x None moving h bound k = refl
   move_same None old x (Some y) moving h bound k = absurd k
   move_same (Some m) old None y moving h bound k = absurd h
   move_same (Some m) old (Some x) None moving h bound k = absurd k
   move_same (Some m) old (Some x) (Some y) moving h bound k =
-      let chunks = chunks_are plan rows p is_plan there m old x y moving h bound.0 k in
+      let chunks = chunks_are plan inputs p is_plan there m old x y moving h bound.0 k in
       (λ j. move_line name (k.target j) (k.sent j) (chunks j))
 
-  running_same : (r : part.Running) (x y : RunningNumbers) → IsMoving r.mover r.state.old → RunningStands plan rows p r x → MoverBound (flow_of plan rows) p x.move → RunningStands plan rows p r y
-      → running_shown name r ≡ replica_text (flow_of plan rows) name p (Running y)
+  running_same : (r : part.Running) (x y : RunningNumbers) → IsMoving r.mover r.state.old → RunningStands plan inputs p r x → MoverBound (flow_of plan inputs) p x.move → RunningStands plan inputs p r y
+      → running_shown name r ≡ replica_text (flow_of plan inputs) name p (Running y)
   unfolding flow_of
   running_same r x y moving h bound k =
-      let f = flow_of plan rows in
-      let into = in_edges_same plan rows p y.consumer r.consumer name k.consumer in
-      let out = out_edges_same f (items_on plan rows) p (made_by f p y.consumer.count) y.producer r.producer name k.producer in
+      let f = flow_of plan inputs in
+      let into = in_edges_same plan inputs p y.consumer r.consumer name k.consumer in
+      let out = out_edges_same f (items_on plan inputs) p (made_by f p y.consumer.count) y.producer r.producer name k.producer in
       let move = move_same r.mover r.state.old x.move y.move moving h.move bound k.move in
       (λ j. running_line name (k.inc j) (k.producer.term j) (k.producer.leads j) (k.served j) (k.consumer.count j) ++ into j ++ out j ++ move j)
 
-  gathering_same : (g : NewcomerView) (y : GatheringNumbers) → GatheringStands plan rows p g y → gathering_shown name g ≡ replica_text (flow_of plan rows) name p (Gathering y)
+  gathering_same : (g : NewcomerView) (y : GatheringNumbers) → GatheringStands plan inputs p g y → gathering_shown name g ≡ replica_text (flow_of plan inputs) name p (Gathering y)
   unfolding flow_of
   gathering_same g y k =
       let held = lines_of _ _ (held_line name (held_numbers g)) (held_line name y.held) k.held.sources
@@ -96,7 +96,7 @@ module _ (plan : PlanView) (rows : List Input) (p : Partition) (name : Word) (is
 
   -- A replica stands for numbers that are within their lengths; so whatever numbers it stands for, their lines are its own.
   pub phase_same : (v : Phase) (x y : Replica) → ((r : part.Running) → running_in v ≡ Some r → IsMoving r.mover r.state.old)
-      → PhaseStands plan rows p v x → ReplicaBound (flow_of plan rows) p x → PhaseStands plan rows p v y → phase_shown name v ≡ replica_text (flow_of plan rows) name p y
+      → PhaseStands plan inputs p v x → ReplicaBound (flow_of plan inputs) p x → PhaseStands plan inputs p v y → phase_shown name v ≡ replica_text (flow_of plan inputs) name p y
   phase_same (phase.Running r) (Running x) (Running y) moving h bound k = running_same r x y (moving r refl) h bound.2 k
   phase_same (phase.Running r) (Running x) (Gathering y) moving h bound k = absurd k
   phase_same (phase.Running r) (Running x) (Gone y) moving h bound k = absurd k
@@ -109,7 +109,7 @@ module _ (plan : PlanView) (rows : List Input) (p : Partition) (name : Word) (is
   phase_same (phase.Gone inc) x (Gathering y) moving h bound k = absurd k
   phase_same (phase.Gone inc) x (Gone y) moving h bound k = ap (gone_line name) k
 
-  pub held_edges : (v : Phase) (x : Replica) (edges : ℕ) → PhaseStands plan rows p v x → edges ≡ sources_of plan p.stage → HasHeld edges v
+  pub held_edges : (v : Phase) (x : Replica) (edges : ℕ) → PhaseStands plan inputs p v x → edges ≡ sources_of plan p.stage → HasHeld edges v
   held_edges (phase.Running r) x edges h e = tt
   held_edges (phase.Gathering g) (Running x) edges h e = absurd h
   held_edges (phase.Gathering g) (Gathering x) edges h e = e ∙ sym h.held.sources

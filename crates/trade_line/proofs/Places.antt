@@ -18,11 +18,6 @@ there (x ∷ xs) (suc k) l =
     let t = there xs k (omega arith) in
     (t.0, t.1, t.2 ∙ ap (λ (m : ℕ). t.0 ∷ drop m (x ∷ xs)) (let e : suc (k + 1) ≡ suc k + 1 = omega arith in e))
 
-pub got : {X : Type 0} (xs : List X) (k : ℕ) (d : X) → k < length xs → slice_get xs k ≡ Some (get_or xs k d)
-got [] k d l = absurd (omega arith)
-got (x ∷ xs) zero d l = refl
-got (x ∷ xs) (suc k) d l = got xs k d (omega arith)
-
 pub none_left : {X : Type 0} (xs : List X) (k : ℕ) → length xs ≤ k → drop k xs ≡ []
 none_left [] zero l = refl
 none_left [] (suc k) l = refl

@@ -1,12 +1,10 @@
 // The place of a trade among the rows that come in.
-ghost use Rattle.std.specs.Ordering.{int_eq};
-ghost use Rattle.std.specs.Prelude.{◌≡◌, ◌≤◌, ◌<◌, ◌-◌, ◌==◌, ◌&&◌, Some, length, slice_get, if◌then◌else◌};
+ghost use Rattle.std.specs.Prelude.{◌≡◌, ◌≤◌, ◌-◌, ◌==◌, ◌&&◌, length, if◌then◌else◌};
 ghost use Rattle.trade_line.specs.Order.{as_early, is_trade_of, place_behind, spot_at};
 ghost use Rattle.trade_text.specs.TradesView.{inputs_in};
-ghost use Rattle.tuple_edge.specs.Input.{Input};
 
 use trade_text::Trades;
-use tuple_edge::Row;
+use tuple_edge::{Input, Row};
 
 /// What tells a trade from others wherever movements come in between: its time, and how many trades of that time stand before it.
 #[derive(Clone, Copy, Debug, PartialEq, Eq)]
@@ -36,21 +34,11 @@ pub fn spot_at(rows: &[Row], place: usize) -> Option<Spot>
     }
 }
 
-// Whether what came from a source is a trade of the time of a spot.
-fn is_of(source: u32, row: &Row, spot: &Spot) -> bool
-    ensures { result ≡ (source == 0) && int_eq row.now.time spot.now.time }
+// Whether an input is a trade of the time of a spot.
+fn is_trade_of(input: &Input, spot: &Spot) -> bool
+    ensures { result ≡ is_trade_of spot.now.time input.now }
 {
-    source == 0 && row.time == spot.time
-}
-
-// Whether the input at a place is a trade of the time of a spot.
-fn is_trade_of(inputs: &Trades, place: usize, spot: &Spot) -> bool
-    requires { place < length inputs.now.rows }
-    ensures { (x : Input) → slice_get (inputs_in inputs.now) place ≡ Some x → result ≡ is_trade_of spot.now.time x }
-{
-    let source = inputs.source(place);
-    let row = inputs.rows()[place];
-    is_of(source, &row, spot)
+    input.source == 0 && input.row.time == spot.time
 }
 
 // Whether it is the one that is looked for: so many are left before that.
@@ -74,7 +62,7 @@ pub fn place_among(inputs: &Trades, spot: &Spot) -> usize
     let count = inputs.rows().len();
     let mut left = spot.before;
     for place in 0..count {
-        let here = is_trade_of(inputs, place, spot);
+        let here = is_trade_of(&inputs.input(place), spot);
         let found = is_last(here, left);
         if found {
             return place;

@@ -7,7 +7,7 @@ ghost use Rattle.tuple_edge.specs.declared.row.Row.{Row};
 use crate::symbols::Symbols;
 use std::alloc::Global;
 use std::marker::Model;
-use tuple_edge::Row;
+use tuple_edge::{Input, Row};
 
 /// Trades as rows, whose symbols are numbers from 1 by first appearance.
 ///
@@ -59,11 +59,14 @@ impl Trades {
         }
     }
 
-    /// The source of each row, as far as it is listed: where none is, it is source 0.
-    pub fn sources(&self) -> &[u32]
-        ensures { result.now ≡ self.now.sources }
+    /// The input at a place, from 0: a row with its source.
+    pub fn input(&self, nth: usize) -> Input
+        requires { nth < length self.now.rows }
+        ensures { slice_get (inputs_in self.now) nth ≡ Some result }
     {
-        &self.sources
+        let row = self.rows[nth];
+        let source = self.source(nth);
+        Input { source, row }
     }
 
     /// Whether a second source was merged.

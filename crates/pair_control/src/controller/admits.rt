@@ -23,10 +23,10 @@ impl PairControl {
         ensures exact { IsTrue result ↔ (IsTrue (has_link plan.now (link from (node_of self.now)))
             × IsAdmitted self.now from body.now) }
         // Every packet that a sound machine has sent there is admitted, as long as no number would pass its limit.
-        ensures complete { (rows : List Input) (s : State) (m : Message) →
-            let f = flow_of plan.now rows in let me = node_of self.now in
+        ensures complete { (inputs : List Input) (s : State) (m : Message) →
+            let f = flow_of plan.now inputs in let me = node_of self.now in
             IsSound f s → StandsFor f self.now (s.nodes me) → HasRoom (controller_in (s.nodes me))
-            → IsSmall m → Among m (s.sent (link from me)) → BodyStands plan.now rows (link from me) body.now m → IsTrue result }
+            → IsSmall m → Among m (s.sent (link from me)) → BodyStands plan.now inputs (link from me) body.now m → IsTrue result }
     {
         let to = self.id();
         plan.links(LinkId { from, to }) && self.may_take(from, body)

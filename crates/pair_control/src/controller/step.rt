@@ -45,11 +45,11 @@ impl PairControl {
         ensures partition { partition_of self.new ≡ partition_of self.old }
         ensures edges { length self.new.acked ≡ length self.old.acked }
         // For the machine's laws: in each plan, whatever message the body stands for.
-        ensures step { (plan : PlanView) (rows : List Input) (m : Message)
-            → length self.old.acked ≡ (flow_of plan rows).sources self.old.stage
-            → BodyStands plan rows (link from (node_of self.old)) body.now m
-            → IsMachineStep plan rows self.old self.new from body.now m }
-        ensures course { (plan : PlanView) (rows : List Input) → IsTaken plan rows self.old self.new from body.now }
+        ensures step { (plan : PlanView) (inputs : List Input) (m : Message)
+            → length self.old.acked ≡ (flow_of plan inputs).sources self.old.stage
+            → BodyStands plan inputs (link from (node_of self.old)) body.now m
+            → IsMachineStep plan inputs self.old self.new from body.now m }
+        ensures course { (plan : PlanView) (inputs : List Input) → IsTaken plan inputs self.old self.new from body.now }
         // No number passes its limit.
         ensures small { AreSmall self.new }
         ensures reports { AreReportsSmall self.old → AreReportsSmall self.new }

@@ -6,7 +6,7 @@ use Rattle.trade_text.specs.TradesView.{inputs_in}
 use Rattle.trade_text.proofs.Sources.{rows_paired}
 use Rattle.std.proofs.lemmas.List.{length-map}
 use Rattle.origin_text.specs.Files.{is_of}
-use Rattle.origin_text.proofs.Counting.{count_more}
+use Rattle.origin_text.proofs.Counting.{count_more, of_some}
 use Rattle.origin_text.proofs.files.came_before.Goals as goal
 
 abbrev none : Input
@@ -20,7 +20,7 @@ loop-i-preserved c =
     let had = c.loop-i.invariant in
     let many : length inputs ≡ length c.args.inputs.now.rows = sym (length-map inputs (λ (x : Input). x.row)) ∙ ap length (rows_paired c.args.inputs.now.rows c.args.inputs.now.sources) in
     let within : i < length inputs = omega (arith, c.loop-i-test.true, c.requires, many) in
-    let is : c.is_of.result ≡ p (get_or inputs i none) = c.is_of.ensures (get_or inputs i none) (slice_get-get_or inputs i none within) in
+    let is : c.is_of.result ≡ p (get_or inputs i none) = c.is_of.ensures ∙ ap p (of_some c.input.result (get_or inputs i none) (sym c.input.ensures ∙ slice_get-get_or inputs i none within)) in
     let now : c.counted-count.result ≡ cond c.is_of.result (c.loop-i.count + 1) c.loop-i.count = c.counted-count.ensures in
     record {
       count = now ∙ (ap (λ (n : ℕ). cond c.is_of.result (n + 1) n) had.count ∙ count_more p inputs i none c.is_of.result within is);

@@ -6,7 +6,7 @@ pub loop-nth-preserved : goal.loop-nth-preserved
 loop-nth-preserved c =
     let rows = ap length c.rows-count.ensures.rows in
     comes_next c.args.trades.now c.rows-count.ensures.limits c.loop-nth.nth (omega arith) c.args.self.now c.loop-nth.self c.feed.new.self c.loop-nth.invariant c.requires.open
-    c.input_at.result c.input_at.ensures c.in_ok-feed.field-0 c.in_ok-feed.ensures.takes c.in_ok-feed.ensures.fed
+    c.input.result c.input.ensures c.in_ok-feed.field-0 c.in_ok-feed.ensures.takes c.in_ok-feed.ensures.fed
 
 pub returns : goal.returns
 returns c =
