@@ -17,4 +17,4 @@ mod words;
 pub use error::ScriptError;
 pub use pair_machine::Order;
 pub use read::{MAX_SCRIPT_BYTES, read_script};
-pub use script::{DueNow, Script};
+pub use script::{DueNow, Script, are_of_one_pair, are_unsafe, is_reached};

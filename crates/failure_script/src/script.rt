@@ -4,7 +4,7 @@ ghost use Rattle.std.specs.Bool.{Decides};
 ghost use Rattle.std.specs.List.{list_any};
 ghost use Rattle.pair_machine.specs.Numbers.{is_node};
 ghost use Rattle.pair_machine.specs.Scripts.{IsSafe};
-ghost use Rattle.failure_script.specs.Orders.{IsOrdered, IsPartnerOrderedBack, are_of_one_pair, are_safe, are_unsafe, due_for, is_back_due, is_due, is_for, order_for, order_for_partner};
+ghost use Rattle.failure_script.specs.Orders.{IsOrdered, IsPartnerOrderedBack, are_of_one_pair, are_safe, are_unsafe, due_for, is_back_due, is_due, is_for, is_reached, order_for, order_for_partner};
 
 use pair_machine::Order;
 use std::alloc::Global;
@@ -46,8 +46,8 @@ fn is_node(one: NodeId, another: NodeId) -> bool
     one == another
 }
 
-// Whether two nodes are replicas of one pair.
-fn are_of_one_pair(one: NodeId, another: NodeId) -> bool
+/// Whether two nodes are replicas of one pair.
+pub fn are_of_one_pair(one: NodeId, another: NodeId) -> bool
     ensures { result ≡ are_of_one_pair one another }
 {
     match (one, another) {
@@ -63,11 +63,18 @@ fn are_of_one_pair(one: NodeId, another: NodeId) -> bool
     }
 }
 
+/// Whether two orders are of one pair, and one of them is a kill.
+pub fn are_unsafe(one: &Order, another: &Order) -> bool
+    ensures { result ≡ are_unsafe one.now another.now }
+{
+    are_of_one_pair(one.node, another.node) && (one.kill || another.kill)
+}
+
 // Whether this order and one of the others are of one pair, and one of the two is a kill.
 fn any_unsafe(order: &Order, others: &[Order]) -> bool
     ensures { result ≡ list_any (are_unsafe order.now) others.now }
 {
-    others.iter().any(|x| are_of_one_pair(order.node, x.node) && (order.kill || x.kill))
+    others.iter().any(|other| are_unsafe(order, other))
 }
 
 // Whether no two of these orders are of one pair with a kill among them.
@@ -95,16 +102,23 @@ fn is_due(kill: bool, count: u64, order: Option<&Order>) -> bool
     }
 }
 
+/// Whether a number of items is reached, where there is one.
+pub fn is_reached(count: u64, items: Option<u64>) -> bool
+    ensures { result ≡ is_reached count items }
+{
+    match items {
+        None => false,
+        Some(items) => items <= count,
+    }
+}
+
 // Whether the replica of an order is due back after so many items of its partner.
 fn is_back_due(count: u64, order: Option<&Order>) -> bool
     ensures { result ≡ is_back_due count (option_map (λ o. o.now) order.entry) }
 {
     match order {
         None => false,
-        Some(order) => match order.back {
-            None => false,
-            Some(items) => items <= count,
-        },
+        Some(order) => is_reached(count, order.back),
     }
 }
 

@@ -3,8 +3,8 @@
 //! It promises that `write_why` writes exactly the defined text of what is told of all stages: the row, and for each stage its line of the plan, on
 //! how many rows the row rests and how many of them count, and these rows, the inputs among them with their lines in their files; and, where that is
 //! asked for, whether those inputs alone give the row again: it says so exactly where they do. It stands on origin_finder for what is told and for
-//! what stages give, on plan_sql for a stage's line, on input_faults and trade_sift for the line of a record, and on trade_text, plan_reader and
-//! op_spec for trades, plans and operators.
+//! what stages give, on input_faults and trade_sift for the line of a record, and on trade_text, plan_reader and op_spec for trades, plans
+//! and operators.
 #![tactic(auto)]
 
 mod again;

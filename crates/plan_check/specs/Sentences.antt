@@ -1,16 +1,14 @@
 -- What a plan and a script do, in sentences.
-use Rattle.std.specs.Prelude.{ℕ, ℤ, ◌+◌, ◌==◌, Bool, List, [], ◌∷◌, ◌++◌, Option, None, Some, codes, flat_map, length, if◌then◌else◌}
+use Rattle.std.specs.Prelude.{ℕ, ◌+◌, ◌==◌, Bool, List, [], ◌∷◌, ◌++◌, Option, None, Some, codes, flat_map, length, if◌then◌else◌}
 use Rattle.std.specs.Fmt.{decimal, signed_decimal}
-use Rattle.std.specs.List.{join_with_byte}
 use Rattle.tuple_edge.specs.Node.{partner_node}
 use Rattle.tuple_edge.specs.declared.node.NodeId.{NodeId}
 use Rattle.tuple_edge.specs.declared.row.Column.{Column}
-use Rattle.op_spec.specs.declared.spec.Compare.{Compare}
 use Rattle.op_spec.specs.declared.spec.OpSpec.{OpSpec}
 use Rattle.op_spec.specs.declared.spec.OpSpec.TheVariants as op
 use Rattle.pair_machine.specs.declared.order.Order.{Order}
 use Rattle.plan_reader.specs.PlanView.{PlanView}
-use Rattle.plan_reader.specs.Text.{column_name, compare_name}
+use Rattle.plan_reader.specs.Text.{column_name, test_text}
 use Rattle.plan_reader.specs.declared.stage.Stage.{Stage}
 use Rattle.run_journal.specs.Text.{node_name}
 use Rattle.trade_text.specs.TradesView.{TradesView}
@@ -49,10 +47,6 @@ several_text parts by = codes "in " ++ decimal parts ++ codes " partitions by " 
 -- to which partitions the rows of a stage go
 abbrev pub parts_text : Stage → List ℕ
 parts_text s = if s.parts == 1 then codes "in 1 partition" else several_text s.parts s.by
-
--- a comparison, as a plan's line has it
-abbrev pub test_text : Column → Compare → ℤ → List ℕ
-test_text column compare limit = join_with_byte 32 (column_name column ∷ compare_name compare ∷ signed_decimal limit ∷ [])
 
 -- what a row of it means
 abbrev pub meaning : OpSpec → List ℕ

@@ -1,18 +1,12 @@
--- How a plan's line says an operator, and a script's line an order.
+-- What is said of a stage and of a key, and how a script's line says an order.
 use Rattle.std.specs.Prelude.{ℕ, Bool, List, ◌++◌, Option, None, Some, codes, if◌then◌else◌}
 use Rattle.std.specs.Fmt.{decimal}
-use Rattle.std.specs.List.{join_with_byte}
 use Rattle.op_spec.specs.declared.spec.By.{By}
 use Rattle.op_spec.specs.declared.spec.By.TheVariants as by
-use Rattle.op_spec.specs.declared.spec.OpSpec.{OpSpec}
 use Rattle.pair_machine.specs.declared.order.Order.{Order}
-use Rattle.plan_reader.specs.Text.{op_words}
+use Rattle.plan_reader.specs.Text.{op_text}
 use Rattle.run_journal.specs.Text.{node_name}
 use Rattle.plan_check.specs.declared.warning.Numbered.{Numbered}
-
--- an operator with its settings, as a plan's line has it
-abbrev pub op_text : OpSpec → List ℕ
-op_text op = join_with_byte 32 (op_words op)
 
 -- a stage by its number and its operator, as in `stage 2, total account`
 abbrev pub stage_text : Numbered → List ℕ

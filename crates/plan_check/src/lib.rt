@@ -11,7 +11,6 @@
 mod check;
 mod law;
 mod limits;
-mod names;
 mod order;
 mod orders;
 mod plan_warnings;

@@ -1,46 +1,12 @@
 // The warnings of a failure script.
 ghost use Rattle.std.specs.Prelude.{◌≡◌, ◌++◌, flat_map, OnOk};
-ghost use Rattle.failure_script.specs.Orders.{are_of_one_pair, are_unsafe, is_reached};
 ghost use Rattle.plan_check.specs.Warnings.{alone_warnings, back_warnings, is_down_at, is_down_beside, script_warnings, stop_warnings, two_warnings};
 
 use crate::plan_warnings::push_if;
 use crate::warning::Warning;
+use failure_script::{are_of_one_pair, are_unsafe, is_reached};
 use pair_machine::Order;
-use tuple_edge::{NodeId, OutOfMemory};
-
-// Whether two nodes are replicas of one pair.
-fn are_of_one_pair(one: NodeId, another: NodeId) -> bool
-    ensures { result ≡ are_of_one_pair one another }
-{
-    match (one, another) {
-        (
-            NodeId::Replica { stage, part, .. },
-            NodeId::Replica {
-                stage: of_stage,
-                part: of_part,
-                ..
-            },
-        ) => stage == of_stage && part == of_part,
-        _ => false,
-    }
-}
-
-// Whether two orders are of one pair, and one of them is a kill.
-fn are_unsafe(one: &Order, another: &Order) -> bool
-    ensures { result ≡ are_unsafe one.now another.now }
-{
-    are_of_one_pair(one.node, another.node) && (one.kill || another.kill)
-}
-
-// Whether a number of items is reached, where there is one.
-fn is_reached(count: u64, items: Option<u64>) -> bool
-    ensures { result ≡ is_reached count items }
-{
-    match items {
-        None => false,
-        Some(items) => items <= count,
-    }
-}
+use tuple_edge::OutOfMemory;
 
 // Whether an order has its replica down once so many items are merged.
 fn is_down_at(items: u64, order: &Order) -> bool

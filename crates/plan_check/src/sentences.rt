@@ -3,13 +3,13 @@ ghost use Rattle.std.specs.Prelude.{◌≡◌, ◌++◌, OnOk, string_bytes};
 ghost use Rattle.std.specs.Fmt.{signed_decimal};
 ghost use Rattle.plan_check.specs.Words.{key_text};
 ghost use Rattle.op_spec.specs.declared.spec.OpSpec.TheVariants as op;
-ghost use Rattle.plan_check.specs.Sentences.{hold_sentence, mark_sentence, meaning, parts_text, plan_sentences, settings_text, several_text, sources_text, stage_sentences, stages_text, test_text, version_sentence};
+ghost use Rattle.plan_check.specs.Sentences.{hold_sentence, mark_sentence, meaning, parts_text, plan_sentences, settings_text, several_text, sources_text, stage_sentences, stages_text, version_sentence};
 
-use crate::names::{column_name, compare_name, key_text};
 use crate::warning::Numbered;
 use crate::words;
+use crate::words::key_text;
 use op_spec::{By, Compare, OpSpec};
-use plan_reader::{Plan, Stage};
+use plan_reader::{Plan, Stage, column_name, push_test};
 use tuple_edge::{Column, OutOfMemory};
 
 // What comes in.
@@ -98,21 +98,6 @@ fn push_number(text: &mut String, number: i64) -> Result<(), OutOfMemory>
     ensures { OnOk result (string_bytes text.new ≡ string_bytes text.old ++ signed_decimal number) }
 {
     write!(text, "{number}")?;
-    Ok(())
-}
-
-// Appends a comparison.
-fn push_test(
-    text: &mut String,
-    column: Column,
-    compare: Compare,
-    limit: i64,
-) -> Result<(), OutOfMemory>
-    ensures { OnOk result (string_bytes text.new ≡ string_bytes text.old ++ test_text column compare limit) }
-{
-    let column = column_name(column);
-    let compare = compare_name(compare);
-    write!(text, "{column} {compare} {limit}")?;
     Ok(())
 }
 

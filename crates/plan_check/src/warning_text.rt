@@ -3,10 +3,10 @@ ghost use Rattle.std.specs.Prelude.{◌≡◌, ◌++◌, flat_map, OnOk, string_
 ghost use Rattle.plan_check.specs.Text.{alone_text, partitions_of, warned, warning_line};
 ghost use Rattle.plan_check.specs.declared.warning.Warning.TheVariants as warning;
 
-use crate::names::column_name;
 use crate::warning::{Numbered, Warning};
 use crate::words::{push_order, push_stage};
 use pair_machine::Order;
+use plan_reader::column_name;
 use tuple_edge::OutOfMemory;
 
 // Appends that partitions wait long for an edge without rows.

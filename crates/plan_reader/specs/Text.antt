@@ -1,6 +1,6 @@
 -- The canonical text of a plan.
-use Rattle.std.specs.Prelude.{ℕ, ◌+◌, List, [], ◌∷◌, codes}
-use Rattle.std.specs.List.{flat_map}
+use Rattle.std.specs.Prelude.{ℕ, ℤ, ◌+◌, List, [], ◌∷◌, codes}
+use Rattle.std.specs.List.{flat_map, join_with_byte}
 use Rattle.std.specs.Fmt.{decimal, signed_decimal}
 use Rattle.tuple_edge.specs.declared.row.Column.{Column}
 use Rattle.tuple_edge.specs.declared.row.Column.TheVariants as column
@@ -49,6 +49,14 @@ op_words (op.Window by width) = codes "window" ∷ by_name by ∷ signed_decimal
 op_words (op.Crossing by limit) = codes "crossing" ∷ by_name by ∷ signed_decimal limit ∷ []
 op_words (op.Join by width rows column compare limit) =
     codes "join" ∷ by_name by ∷ signed_decimal width ∷ decimal rows ∷ column_name column ∷ compare_name compare ∷ signed_decimal limit ∷ []
+
+-- an operator with its settings, as a plan's line has it
+abbrev pub op_text : OpSpec → List ℕ
+op_text op = join_with_byte 32 (op_words op)
+
+-- a comparison, as a plan's line has it
+unfoldable pub test_text : Column → Compare → (limit : ℤ) → List ℕ
+test_text column compare limit = join_with_byte 32 (column_name column ∷ compare_name compare ∷ signed_decimal limit ∷ [])
 
 -- ---- lines
 

@@ -30,4 +30,6 @@ pub use plan::Plan;
 pub use read::read_plan;
 pub use stage::Stage;
 pub use text_words::{Line, Lines, MAX_NUMBER_DIGITS, Words, is_word, number_of, signed_number_of};
-pub use write::{canonical_text_reads_back, write_plan};
+pub use write::{
+    canonical_text_reads_back, column_name, push_op, push_stage, push_test, write_plan,
+};

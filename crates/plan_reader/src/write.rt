@@ -1,10 +1,10 @@
-// The canonical text of a plan.
+// The canonical text of a plan, and of its parts.
 ghost use Rattle.std.specs.Prelude.{◌≡◌, ◌++◌, IfOk, OnOk, Ok, string_bytes};
 ghost use Rattle.std.specs.List.{flat_map};
 ghost use Rattle.text_words.specs.Text.{line_text};
 ghost use Rattle.plan_reader.specs.Plan.{plan_of};
 ghost use Rattle.plan_reader.specs.PlanView.{IsPlan, PlanView};
-ghost use Rattle.plan_reader.specs.Text.{by_name, column_name, compare_name, op_words, plan_text, stage_lines, stage_words};
+ghost use Rattle.plan_reader.specs.Text.{by_name, column_name, compare_name, op_text, plan_text, stage_lines, stage_words, test_text};
 ghost use Rattle.op_spec.specs.declared.spec.OpSpec.TheVariants as op;
 
 use crate::{Plan, Stage};
@@ -12,7 +12,8 @@ use op_spec::{By, Compare, OpSpec};
 use std::alloc::Global;
 use tuple_edge::{Column, OutOfMemory};
 
-fn column_name(column: Column) -> &'static str
+/// The word for a column.
+pub fn column_name(column: Column) -> &'static str
     ensures { result.now ≡ column_name column }
 {
     match column {
@@ -47,22 +48,38 @@ fn compare_name(compare: Compare) -> &'static str
     }
 }
 
-// Appends the words of a filter, and LF.
+/// Appends a comparison: the column, how it compares, and the limit.
+#[tactic(auto, unfolding(crate::specs::Text::test_text))]
+pub fn push_test(
+    text: &mut String,
+    column: Column,
+    compare: Compare,
+    limit: i64,
+) -> Result<(), OutOfMemory>
+    ensures { OnOk result (string_bytes text.new ≡ string_bytes text.old ++ test_text column compare limit) }
+{
+    let column = column_name(column);
+    let compare = compare_name(compare);
+    write!(text, "{column} {compare} {limit}")?;
+    Ok(())
+}
+
+// Appends the words of a filter.
 fn push_keep(
     text: &mut String,
     column: Column,
     compare: Compare,
     limit: i64,
 ) -> Result<(), OutOfMemory>
-    ensures { OnOk result (string_bytes text.new ≡ string_bytes text.old ++ line_text (op_words (op.Keep column compare limit))) }
+    ensures { OnOk result (string_bytes text.new ≡ string_bytes text.old ++ op_text (op.Keep column compare limit)) }
 {
     let column = column_name(column);
     let compare = compare_name(compare);
-    write!(text, "keep {column} {compare} {limit}\n")?;
+    write!(text, "keep {column} {compare} {limit}")?;
     Ok(())
 }
 
-// Appends the words of a join, and LF.
+// Appends the words of a join.
 fn push_join(
     text: &mut String,
     by: By,
@@ -72,22 +89,18 @@ fn push_join(
     compare: Compare,
     limit: i64,
 ) -> Result<(), OutOfMemory>
-    ensures { OnOk result (string_bytes text.new
-        ≡ string_bytes text.old ++ line_text (op_words (op.Join by width rows column compare limit))) }
+    ensures { OnOk result (string_bytes text.new ≡ string_bytes text.old ++ op_text (op.Join by width rows column compare limit)) }
 {
     let by = by_name(by);
     let column = column_name(column);
     let compare = compare_name(compare);
-    write!(
-        text,
-        "join {by} {width} {rows} {column} {compare} {limit}\n"
-    )?;
+    write!(text, "join {by} {width} {rows} {column} {compare} {limit}")?;
     Ok(())
 }
 
-// Appends the words of an operator, and LF.
-fn push_op(text: &mut String, op: &OpSpec) -> Result<(), OutOfMemory>
-    ensures { OnOk result (string_bytes text.new ≡ string_bytes text.old ++ line_text (op_words op.now)) }
+/// Appends an operator with its settings.
+pub fn push_op(text: &mut String, op: &OpSpec) -> Result<(), OutOfMemory>
+    ensures { OnOk result (string_bytes text.new ≡ string_bytes text.old ++ op_text op.now) }
 {
     match op {
         OpSpec::Keep {
@@ -97,19 +110,19 @@ fn push_op(text: &mut String, op: &OpSpec) -> Result<(), OutOfMemory>
         } => push_keep(text, *column, *compare, *limit)?,
         OpSpec::Total { by } => {
             let by = by_name(*by);
-            write!(text, "total {by}\n")?;
+            write!(text, "total {by}")?;
         }
         OpSpec::Last { by, rows } => {
             let by = by_name(*by);
-            write!(text, "last {by} {rows}\n")?;
+            write!(text, "last {by} {rows}")?;
         }
         OpSpec::Window { by, width } => {
             let by = by_name(*by);
-            write!(text, "window {by} {width}\n")?;
+            write!(text, "window {by} {width}")?;
         }
         OpSpec::Crossing { by, limit } => {
             let by = by_name(*by);
-            write!(text, "crossing {by} {limit}\n")?;
+            write!(text, "crossing {by} {limit}")?;
         }
         OpSpec::Join {
             by,
@@ -123,14 +136,16 @@ fn push_op(text: &mut String, op: &OpSpec) -> Result<(), OutOfMemory>
     Ok(())
 }
 
-// Appends the line of a stage with its number.
-fn push_stage(text: &mut String, number: usize, stage: &Stage) -> Result<(), OutOfMemory>
+/// Appends the line of a stage with its number.
+pub fn push_stage(text: &mut String, number: usize, stage: &Stage) -> Result<(), OutOfMemory>
     ensures { OnOk result (string_bytes text.new ≡ string_bytes text.old ++ line_text (stage_words number stage.now)) }
 {
     let parts = stage.parts;
     let by = column_name(stage.by);
     write!(text, "stage {number} parts {parts} by {by} ")?;
-    push_op(text, &stage.op)
+    push_op(text, &stage.op)?;
+    text.push_str("\n")?;
+    Ok(())
 }
 
 // Appends the lines of stages, numbered from 1.

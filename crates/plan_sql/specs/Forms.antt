@@ -6,7 +6,7 @@ use Rattle.tuple_edge.specs.declared.row.Column.{Column}
 use Rattle.op_spec.specs.declared.spec.Compare.{Compare}
 use Rattle.op_spec.specs.declared.spec.OpSpec.{OpSpec}
 use Rattle.op_spec.specs.declared.spec.OpSpec.TheVariants as op
-use Rattle.plan_sql.specs.Routed.{test_sql}
+use Rattle.plan_reader.specs.Text.{test_text}
 
 -- a filter passes on the rows whose column compares so
 unfoldable pub keep_sql : Column → Compare → (limit : ℤ) → List ℕ
@@ -14,7 +14,7 @@ keep_sql column compare limit =
     codes "  )\n"
     ++ codes "  SELECT stamp, part AS source, n AS place, time, account, symbol, qty, value\n"
     ++ codes "  FROM routed\n"
-    ++ codes "  WHERE " ++ test_sql column compare limit ++ codes "\n"
+    ++ codes "  WHERE " ++ test_text column compare limit ++ codes "\n"
 
 -- the sums of a row's key up to it; how far back is said behind
 unfoldable pub sums_sql : List ℕ

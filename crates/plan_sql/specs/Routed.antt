@@ -1,13 +1,13 @@
 -- The rows that enter a stage.
 use Rattle.std.specs.Prelude.{ℕ, ℤ, ◌==◌, List, [], ◌++◌, codes, if◌then◌else◌}
-use Rattle.std.specs.Fmt.{decimal, signed_decimal}
+use Rattle.std.specs.Fmt.{decimal}
 use Rattle.tuple_edge.specs.declared.row.Column.{Column}
 use Rattle.op_spec.specs.declared.spec.By.{By}
 use Rattle.op_spec.specs.declared.spec.By.TheVariants as by
 use Rattle.op_spec.specs.declared.spec.Compare.{Compare}
 use Rattle.op_spec.specs.declared.spec.OpSpec.{OpSpec}
 use Rattle.op_spec.specs.declared.spec.OpSpec.TheVariants as op
-use Rattle.plan_reader.specs.Text.{column_name, compare_name}
+use Rattle.plan_reader.specs.Text.{column_name, test_text}
 use Rattle.plan_reader.specs.declared.stage.Stage.{Stage}
 
 -- the name of the rows after so many stages: after none these are the inputs
@@ -35,13 +35,9 @@ row_sql (op.Window by width) = key_sql by
 row_sql (op.Crossing by limit) = key_sql by
 row_sql (op.Join by width rows column compare limit) = key_sql by
 
--- whether a column compares so with a limit
-unfoldable pub test_sql : Column → Compare → (limit : ℤ) → List ℕ
-test_sql column compare limit = column_name column ++ codes " " ++ compare_name compare ++ codes " " ++ signed_decimal limit
-
 -- the column that says whether a row of a join is left
 unfoldable pub left_sql : Column → Compare → (limit : ℤ) → List ℕ
-left_sql column compare limit = codes ", (" ++ test_sql column compare limit ++ codes ") AS side"
+left_sql column compare limit = codes ", (" ++ test_text column compare limit ++ codes ") AS side"
 
 -- the same for any operator: rows of all but a join have no sides
 abbrev pub side_sql : OpSpec → List ℕ

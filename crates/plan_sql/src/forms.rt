@@ -3,8 +3,8 @@ ghost use Rattle.std.specs.Prelude.{◌≡◌, ◌-◌, ◌++◌, OnOk, string_b
 ghost use Rattle.plan_sql.specs.Forms.{closed_sql, crossed_sql, crossing_sql, join_sql, keep_sql, last_sql, leveled_sql, op_sql, own_sums_sql, pairs_sql, runs_sql, sides_sql, sums_sql, total_sql, window_sql};
 
 use crate::numbers::{push_count, push_number};
-use crate::routed::push_test;
 use op_spec::{Compare, OpSpec};
+use plan_reader::push_test;
 use tuple_edge::{Column, OutOfMemory};
 
 // Appends the form of a filter.

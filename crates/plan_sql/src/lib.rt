@@ -8,13 +8,10 @@
 mod forms;
 mod inputs;
 mod law;
-mod line;
 mod loading;
-mod names;
 mod numbers;
 mod query;
 mod routed;
 
 pub use law::worked_texts;
-pub use line::push_stage;
 pub use query::write_sql;

@@ -4,10 +4,9 @@ ghost use Rattle.plan_sql.specs.Query.{head_sql, opened_sql, output_sql, sql_tex
 
 use crate::forms::push_op;
 use crate::inputs::{push_input, push_order, push_symbols};
-use crate::line::push_stage;
 use crate::loading::{push_intro, push_loading};
 use crate::routed::{push_routed, push_rows_after};
-use plan_reader::{Plan, Stage};
+use plan_reader::{Plan, Stage, push_stage};
 use std::alloc::Global;
 use tuple_edge::OutOfMemory;
 

@@ -1,10 +1,9 @@
 // The rows that enter a stage.
 ghost use Rattle.std.specs.Prelude.{◌≡◌, ◌++◌, OnOk, string_bytes};
-ghost use Rattle.plan_sql.specs.Routed.{key_sql, part_sql, routed_sql, row_sql, rows_after, left_sql, ordered_sql, keyed_sql, side_sql, test_sql};
+ghost use Rattle.plan_sql.specs.Routed.{key_sql, part_sql, routed_sql, row_sql, rows_after, left_sql, ordered_sql, keyed_sql, side_sql};
 
-use crate::names::{column_name, compare_name};
 use op_spec::{By, Compare, OpSpec};
-use plan_reader::Stage;
+use plan_reader::{Stage, column_name, push_test};
 use tuple_edge::{Column, OutOfMemory};
 
 // Appends the name of the rows after so many stages.
@@ -57,22 +56,6 @@ fn row_sql(op: &OpSpec) -> &'static str
         | OpSpec::Crossing { by, .. }
         | OpSpec::Join { by, .. } => key_sql(*by),
     }
-}
-
-// Appends whether a column compares so with a limit.
-#[tactic(auto, unfolding(crate::specs::Routed::test_sql))]
-pub(crate) fn push_test(
-    text: &mut String,
-    column: Column,
-    compare: Compare,
-    limit: i64,
-) -> Result<(), OutOfMemory>
-    ensures { OnOk result (string_bytes text.new ≡ string_bytes text.old ++ test_sql column compare limit) }
-{
-    let column = column_name(column);
-    let compare = compare_name(compare);
-    write!(text, "{column} {compare} {limit}")?;
-    Ok(())
 }
 
 // Appends the column of a join's rows that says whether they are left.

@@ -36,11 +36,7 @@ impl Role {
     pub(crate) fn partner(&self) -> NodeId
         ensures { result ≡ partner_of self.now }
     {
-        NodeId::Replica {
-            stage: self.stage,
-            part: self.part,
-            which: self.which.other(),
-        }
+        self.id().partner()
     }
 
     // The controller of the pair.
