@@ -12,7 +12,7 @@ use Rattle.replay_command.proofs.Ways.{err_here}
 use Rattle.look_course.specs.Answers.{AnswerView, answer_of}
 use Rattle.look_course.specs.declared.answer.Answer.{Answer}
 use Rattle.command_course.proofs.Courses.{reads_judged}
-pub use Rattle.command_course.proofs.Courses.{reads_none, reads_stopped, reads_then}
+pub use Rattle.command_course.proofs.Courses.{reads_none, reads_passed, reads_then}
 
 -- a way that reads nothing more gives its answer, or stops
 module _ (old new : FilesTold) (way between : Way AnswerView) (came : (next : AnswerView → Course) → Came old new (way next) (between next)) where

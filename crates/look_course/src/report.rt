@@ -58,7 +58,7 @@ pub trait Report {
 }
 
 /// Reads a list of events, and gives what a report tells of them.
-#[tactic(auto, using(crate::proofs::Ways::reads_answered, crate::proofs::Ways::reads_stopped))]
+#[tactic(auto, using(crate::proofs::Ways::reads_answered, crate::proofs::Ways::reads_passed))]
 pub fn reported_at<F: Files, R: Report>(
     alloc: Global,
     files: &mut F,
@@ -71,10 +71,8 @@ pub fn reported_at<F: Files, R: Report>(
     ensures reads { OnlyReads (F.told files.old) (F.told files.new) result }
 {
     let file = EventsFile { plan: &feed.plan };
-    match input_at(alloc, files, events, &file) {
-        Ok(lines) => reported(alloc, feed, events, &lines, report),
-        Err(stop) => Err(stop),
-    }
+    let lines = input_at(alloc, files, events, &file)?;
+    reported(alloc, feed, events, &lines, report)
 }
 
 // What is told of events from the opening on, or the refusal of the first one that is no step.

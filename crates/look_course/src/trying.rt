@@ -41,7 +41,7 @@ pub fn tried<T>(read: Result<T, Stop>) -> Result<Result<T, String>, Stop>
 }
 
 /// Reads a file of a kind where it is named, and gives what it says, or the line of its fault.
-#[tactic(auto, using(crate::proofs::Ways::reads_none, crate::proofs::Ways::reads_stopped, crate::proofs::Ways::reads_then))]
+#[tactic(auto, using(crate::proofs::Ways::reads_none, crate::proofs::Ways::reads_passed, crate::proofs::Ways::reads_then))]
 pub fn tried_if_named<F: Files, I: Input>(
     alloc: Global,
     files: &mut F,
@@ -54,10 +54,10 @@ pub fn tried_if_named<F: Files, I: Input>(
 {
     match name {
         None => Ok(None),
-        Some(name) => match tried_at(alloc, files, name, input) {
-            Ok(tried) => Ok(Some(tried)),
-            Err(stop) => Err(stop),
-        },
+        Some(name) => {
+            let tried = tried_at(alloc, files, name, input)?;
+            Ok(Some(tried))
+        }
     }
 }
 

@@ -139,8 +139,6 @@ fn run<R: Threads + Sync, F: Files, S: Sink, G: Gate>(
     ensures wants { StopsAtWant (F.told files.old).wants (F.told files.new).wants (IsWant result) }
     ensures quiet { IfErr result (λ stop. IsQuiet out.old out.new stop) }
 {
-    match answered(rt, alloc, words, files, gate) {
-        Ok(answer) => finished(alloc, files, out, answer),
-        Err(stop) => Err(stop),
-    }
+    let answer = answered(rt, alloc, words, files, gate)?;
+    finished(alloc, files, out, answer)
 }

@@ -80,7 +80,7 @@ fn answered(alloc: Global, rejects: &str, parts: Sifted) -> Result<Answer, Stop>
 
 /// What `sift` writes: the header and the records of a file of trades that `flux` accepts. The records that it refuses, each behind
 /// its line and why, are saved in a file of the name `rejects` before.
-#[tactic(auto, using(crate::proofs::Ways::reads_stopped, crate::proofs::Ways::reads_then))]
+#[tactic(auto, using(crate::proofs::Ways::reads_passed, crate::proofs::Ways::reads_then))]
 pub fn sift_report<F: Files>(
     alloc: Global,
     files: &mut F,
@@ -91,8 +91,6 @@ pub fn sift_report<F: Files>(
     ensures stops { IfErr result (λ stop. StopsBy (F.told files.old) (F.told files.new) (sift_way trades.now rejects.now) stop) }
     ensures reads { OnlyReads (F.told files.old) (F.told files.new) result }
 {
-    match sift_parts(alloc, files, trades) {
-        Ok(parts) => answered(alloc, rejects, parts),
-        Err(stop) => Err(stop),
-    }
+    let parts = sift_parts(alloc, files, trades)?;
+    answered(alloc, rejects, parts)
 }

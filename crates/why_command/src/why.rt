@@ -171,10 +171,7 @@ fn explained<'a>(
         all: wanted.all,
         check: wanted.check,
     };
-    match answered(alloc, plan, &question, wanted.number) {
-        Ok(answer) => Ok(answer),
-        Err(stop) => Err(stop),
-    }
+    answered(alloc, plan, &question, wanted.number)
 }
 
 // The answer without movements.
@@ -222,10 +219,8 @@ fn of_movements<F: Files>(
     ensures reads { OnlyReads (F.told files.old) (F.told files.new) result }
 {
     let room = room_beside(&kept.trades);
-    match input_at(alloc, files, names.cash, &KeptCashFile { room }) {
-        Ok(movements) => explained(alloc, plan, names, kept, &movements, wanted),
-        Err(stop) => Err(stop),
-    }
+    let movements = input_at(alloc, files, names.cash, &KeptCashFile { room })?;
+    explained(alloc, plan, names, kept, &movements, wanted)
 }
 
 // Reads the movements where a file of them is named, and answers.
@@ -253,7 +248,7 @@ fn with_movements<F: Files>(
 }
 
 // Reads the trades and the movements for a plan, and answers.
-#[tactic(auto, using(crate::proofs::Ways::reads_on, crate::proofs::Ways::reads_stopped))]
+#[tactic(auto, using(crate::proofs::Ways::reads_on, crate::proofs::Ways::reads_passed))]
 fn of_plan<F: Files>(
     alloc: Global,
     files: &mut F,
@@ -266,14 +261,12 @@ fn of_plan<F: Files>(
     ensures stops { IfErr result (λ stop. StopsBy (F.told files.old) (F.told files.new) (trades_way trades.now (option_map (λ name. name.now) cash.entry) wanted plan.now) stop) }
     ensures reads { OnlyReads (F.told files.old) (F.told files.new) result }
 {
-    match input_at(alloc, files, trades, &KeptTradesFile) {
-        Ok(kept) => with_movements(alloc, files, plan, trades, cash, kept, wanted),
-        Err(stop) => Err(stop),
-    }
+    let kept = input_at(alloc, files, trades, &KeptTradesFile)?;
+    with_movements(alloc, files, plan, trades, cash, kept, wanted)
 }
 
 /// What `why` writes: how the row of a number came about among those that a plan gives for trades and movements.
-#[tactic(auto, using(crate::proofs::Ways::reads_on, crate::proofs::Ways::reads_stopped))]
+#[tactic(auto, using(crate::proofs::Ways::reads_on, crate::proofs::Ways::reads_passed))]
 pub fn why_report<F: Files>(
     alloc: Global,
     files: &mut F,
@@ -286,8 +279,6 @@ pub fn why_report<F: Files>(
     ensures stops { IfErr result (λ stop. StopsBy (F.told files.old) (F.told files.new) (why_way plan.now trades.now (option_map (λ name. name.now) cash.entry) wanted) stop) }
     ensures reads { OnlyReads (F.told files.old) (F.told files.new) result }
 {
-    match plan_at(alloc, files, plan, cash) {
-        Ok(plan) => of_plan(alloc, files, &plan, trades, cash, wanted),
-        Err(stop) => Err(stop),
-    }
+    let plan = plan_at(alloc, files, plan, cash)?;
+    of_plan(alloc, files, &plan, trades, cash, wanted)
 }
