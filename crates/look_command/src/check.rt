@@ -2,17 +2,17 @@
 ghost use Rattle.command_course.specs.Lines.{not_in_plan_line};
 ghost use Rattle.command_course.specs.Steps.{GivesBy, OnlyReads, StopsBy};
 ghost use Rattle.look_command.specs.Check.{check_way, checks_cash, checks_script, checks_trades, given_of, is_without_cash, judgement, room_beside, tries_cash, tries_script};
-ghost use Rattle.look_course.specs.Answers.{answer_of};
-ghost use Rattle.look_course.specs.Trying.{named_of, tried_of};
+ghost use Rattle.command_course.specs.Answers.{answer_of};
+ghost use Rattle.look_command.specs.Trying.{named_of, tried_of};
 ghost use Rattle.std.specs.Prelude.{◌≡◌, ◌-◌, Err, IfErr, IfOk, Some, length, option_map};
 ghost use Rattle.trade_text.specs.Limits.{max_inputs};
 
 use crate::faults::{Said, judged};
 use crate::kinds::{ToldCash, ToldPlan, ToldScript, ToldTrades};
-use command_course::{Stop, refused};
+use crate::trying::{tried_at, tried_if_named};
+use command_course::{Answer, Stop, refused};
 use failure_script::Script;
 use flux_outside::Files;
-use look_course::{Answer, tried_at, tried_if_named};
 use plan_reader::Plan;
 use std::alloc::Global;
 use trade_check::GivenTrades;

@@ -12,8 +12,8 @@ pub use Rattle.command_course.proofs.Courses.{reads_on, reads_passed, reads_then
 use Rattle.flux_outside.specs.Told.{FilesTold}
 use Rattle.run_command.specs.Scripts.{with_script}
 use Rattle.rehearse_command.specs.Courses.{rehearses, run_under}
-use Rattle.look_course.specs.Answers.{answer_of}
-use Rattle.look_course.specs.declared.answer.Answer.{Answer}
+use Rattle.command_course.specs.Answers.{answer_of}
+use Rattle.command_course.specs.declared.answer.Answer.{Answer}
 use Rattle.rehearse_command.specs.Rehearsals.{CameToRehearsal, IsRehearsed}
 
 -- the run, once the script was read

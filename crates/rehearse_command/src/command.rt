@@ -2,17 +2,16 @@
 ghost use Rattle.command_course.specs.Feeds.{IsFed, feed_of};
 ghost use Rattle.command_course.specs.Steps.{OnlyReads, StopsOf};
 ghost use Rattle.rehearse_command.specs.Courses.{rehearse_course, rehearses, run_under};
-ghost use Rattle.look_course.specs.Answers.{answer_of};
+ghost use Rattle.command_course.specs.Answers.{answer_of};
 ghost use Rattle.rehearse_command.specs.Rehearsals.{CameToRehearsal, IsRehearsed};
 ghost use Rattle.std.specs.Prelude.{◌≡◌, ◌≤◌, IfErr, IfOk, option_map};
 ghost use Rattle.tuple_edge.specs.Limits.{max_threads};
 
 use crate::reporting::told_again;
-use command_course::{Feed, Stop, feed_at};
+use command_course::{Answer, Feed, Stop, feed_at};
 use failure_script::Script;
 use flux_outside::Files;
 use listed_run::run_and_list;
-use look_course::Answer;
 use partition_runner::Gate;
 use run_command::script_at;
 use std::alloc::Global;

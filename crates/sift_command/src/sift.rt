@@ -1,14 +1,13 @@
 // The command `sift`.
 ghost use Rattle.command_course.specs.Steps.{GivesBy, OnlyReads, StopsBy};
-ghost use Rattle.look_course.specs.Answers.{answer_of};
+ghost use Rattle.command_course.specs.Answers.{answer_of};
 ghost use Rattle.sift_command.specs.Courses.{parts_from, parts_way, sift_answer, sift_way};
 ghost use Rattle.std.specs.Prelude.{◌≡◌, IfErr, IfOk, string_bytes};
 ghost use Rattle.trade_sift.specs.Laws.{IsAccepted};
 ghost use Rattle.trade_text.specs.Limits.{max_input_bytes};
 
-use command_course::{Input, Stop, input_at, refused};
+use command_course::{Answer, Ending, Input, Saved, Stop, input_at, refused};
 use flux_outside::Files;
-use look_course::{Answer, Ending, Saved};
 use std::alloc::Global;
 use trade_sift::{Sifted, sift_trades};
 use trade_text::{MAX_INPUT_BYTES, TradeError};

@@ -1,14 +1,13 @@
 // The command `sql`.
 ghost use Rattle.command_course.specs.Steps.{GivesBy, OnlyReads, StopsBy};
-ghost use Rattle.look_course.specs.Answers.{answer, answer_of};
-ghost use Rattle.look_course.specs.declared.answer.Ending.TheVariants.{Done};
+ghost use Rattle.command_course.specs.Answers.{answer, answer_of};
+ghost use Rattle.command_course.specs.declared.answer.Ending.TheVariants.{Done};
 ghost use Rattle.plan_sql.specs.Query.{sql_text};
 ghost use Rattle.sql_command.specs.Courses.{sql_way};
 ghost use Rattle.std.specs.Prelude.{◌≡◌, IfErr, IfOk};
 
-use command_course::{PlanFile, Stop, input_at};
+use command_course::{Answer, Ending, PlanFile, Stop, input_at};
 use flux_outside::Files;
-use look_course::{Answer, Ending};
 use plan_reader::Plan;
 use plan_sql::write_sql;
 use std::alloc::Global;

@@ -1,17 +1,16 @@
 // The command `trace`.
 ghost use Rattle.command_course.specs.Feeds.{feed_of};
 ghost use Rattle.command_course.specs.Steps.{GivesBy, OnlyReads, StopsBy};
-ghost use Rattle.look_course.specs.Answers.{answer, answer_of};
-ghost use Rattle.look_course.specs.declared.answer.Ending.TheVariants.{Done};
+ghost use Rattle.command_course.specs.Answers.{answer, answer_of};
+ghost use Rattle.command_course.specs.declared.answer.Ending.TheVariants.{Done};
 ghost use Rattle.std.specs.Prelude.{◌≡◌, IfErr, IfOk, false, option_map};
 ghost use Rattle.trace_command.specs.Courses.{behind_plan, lined_way, place_in, trace_way, traced};
 ghost use Rattle.trade_line.specs.Order.{spot_at};
 ghost use Rattle.trade_text.specs.TradesView.{inputs_in};
 
 use crate::lined::{LinedFile, LinedTrades};
-use command_course::{Feed, Stop, input_at, movements_at, plan_at};
+use command_course::{Answer, Ending, Feed, Stop, input_at, movements_at, plan_at};
 use flux_outside::Files;
-use look_course::{Answer, Ending};
 use plan_reader::Plan;
 use reach_finder::passages;
 use reach_text::{Question, write_trace};

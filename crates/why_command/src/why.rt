@@ -1,7 +1,7 @@
 // The command `why`.
 ghost use Rattle.command_course.specs.Course.{Course};
 ghost use Rattle.command_course.specs.Steps.{GivesBy, IsRefusedBy, OnlyReads, StopsBy};
-ghost use Rattle.look_course.specs.Answers.{AnswerView, answer_of};
+ghost use Rattle.command_course.specs.Answers.{AnswerView, answer_of};
 ghost use Rattle.origin_text.specs.Text.{asked_in};
 ghost use Rattle.replay_command.specs.Ends.{StopsIn};
 ghost use Rattle.plan_reader.specs.PlanView.{IsStage};
@@ -13,9 +13,8 @@ ghost use Rattle.why_command.specs.Courses.{answers, is_row, movements_way, no_r
 ghost use Rattle.why_command.specs.Given.{no_cash, question};
 
 use crate::kept::{KeptCash, KeptCashFile, KeptTrades, KeptTradesFile};
-use command_course::{Stop, input_at, plan_at, refused};
+use command_course::{Answer, Ending, Stop, input_at, plan_at, refused};
 use flux_outside::Files;
-use look_course::{Answer, Ending};
 use origin_finder::{StageTold, origins_of};
 use origin_text::{InputFile, InputFiles, Question, write_why};
 use plan_reader::Plan;

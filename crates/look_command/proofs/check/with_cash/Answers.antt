@@ -1,6 +1,6 @@
 use Rattle.std.proofs.Common.{option_map}
-use Rattle.look_course.specs.Answers.{answer_of}
-use Rattle.look_course.specs.Trying.{named_of, tried_of}
+use Rattle.command_course.specs.Answers.{answer_of}
+use Rattle.look_command.specs.Trying.{named_of, tried_of}
 use Rattle.look_command.proofs.Ways.{err_stops, ok_gives}
 use Rattle.command_course.proofs.Courses.{err_passed}
 use Rattle.look_command.proofs.check.with_cash.Goals as goal

@@ -1,6 +1,6 @@
 use Rattle.std.proofs.Common.{option_map}
-use Rattle.look_course.specs.Answers.{AnswerView, answer_of}
-use Rattle.look_course.specs.Trying.{named_of, tried_of}
+use Rattle.command_course.specs.Answers.{AnswerView, answer_of}
+use Rattle.look_command.specs.Trying.{named_of, tried_of}
 use Rattle.look_command.specs.Check.{given, judgement, tries_script}
 use Rattle.look_command.proofs.Ways.{err_short_by, ok_gives_value}
 use Rattle.command_course.proofs.Courses.{err_passed}

@@ -1,8 +1,8 @@
 use Rattle.std.proofs.Common.{option_map}
 use Rattle.command_course.specs.Feeds.{feed_of}
 use Rattle.run_command.specs.Scripts.{with_script}
-use Rattle.look_course.specs.Answers.{answer_of}
-use Rattle.look_course.specs.Reports.{reports}
+use Rattle.command_course.specs.Answers.{answer_of}
+use Rattle.look_command.specs.Reports.{reports}
 use Rattle.look_command.specs.Courses.{rows_in_all, story_telling}
 use Rattle.look_command.proofs.Ways.{err_stops, ok_gives}
 use Rattle.command_course.proofs.Courses.{err_passed}

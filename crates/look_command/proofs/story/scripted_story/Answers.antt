@@ -1,5 +1,5 @@
 use Rattle.command_course.specs.Feeds.{feed_of}
-use Rattle.look_course.specs.Reports.{reports}
+use Rattle.look_command.specs.Reports.{reports}
 use Rattle.look_command.specs.Courses.{rows_in_all, story_telling}
 use Rattle.look_command.proofs.Wants.{stopped_here}
 use Rattle.command_course.proofs.Courses.{err_passed}

@@ -1,6 +1,6 @@
 use Rattle.std.proofs.Common.{option_map}
 use Rattle.command_course.specs.Feeds.{feed_of, with_feed}
-use Rattle.look_course.specs.Answers.{answer_of}
+use Rattle.command_course.specs.Answers.{answer_of}
 use Rattle.look_command.specs.Courses.{tells_story}
 use Rattle.look_command.proofs.Ways.{err_stops, ok_gives}
 use Rattle.command_course.proofs.Courses.{err_passed}

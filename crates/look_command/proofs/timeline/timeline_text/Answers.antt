@@ -2,7 +2,7 @@ use Rattle.std.proofs.Common.{option_map, subst}
 use Rattle.std.specs.Prelude.{IfErr, IfOk}
 use Rattle.command_course.specs.Feeds.{feed_of, with_feed}
 use Rattle.command_course.specs.Steps.{GivesBy, StopsBy}
-use Rattle.look_course.specs.Answers.{answer_of}
+use Rattle.command_course.specs.Answers.{answer_of}
 use Rattle.look_command.specs.Courses.{drawing_of, draws}
 use Rattle.look_command.proofs.Ways.{err_stops, ok_gives}
 use Rattle.command_course.proofs.Courses.{err_passed}

@@ -1,5 +1,5 @@
 use Rattle.std.proofs.Common.{◌∙◌, map, string_bytes}
-use Rattle.look_course.specs.Answers.{answer_of}
+use Rattle.command_course.specs.Answers.{answer_of}
 use Rattle.command_course.proofs.Courses.{err_passed, reads_passed, wants_on}
 use Rattle.command_course.specs.Steps.{IsWant}
 use Rattle.flux_top.proofs.Endings.{stopped_cause, stopped_quiet}

@@ -1,4 +1,4 @@
-use Rattle.look_course.specs.Answers.{AnswerView, answer_of}
+use Rattle.command_course.specs.Answers.{AnswerView, answer_of}
 use Rattle.command_course.specs.Course.{Way}
 use Rattle.trade_sift.specs.Sifted.{Parts}
 use Rattle.sift_command.specs.Courses.{parts_way, sift_answer}

@@ -2,8 +2,8 @@ use Rattle.plan_reader.specs.Limits.{max_plan_bytes}
 use Rattle.plan_sql.specs.Query.{sql_text}
 use Rattle.command_course.specs.Course.{reads}
 use Rattle.command_course.specs.Inputs.{plan_from}
-use Rattle.look_course.specs.Answers.{AnswerView, answer, answer_of}
-use Rattle.look_course.specs.declared.answer.Ending.TheVariants.{Done}
+use Rattle.command_course.specs.Answers.{AnswerView, answer, answer_of}
+use Rattle.command_course.specs.declared.answer.Ending.TheVariants.{Done}
 use Rattle.sql_command.proofs.Ways.{err_short_by, ok_gives_value}
 use Rattle.command_course.proofs.Courses.{err_passed}
 use Rattle.sql_command.proofs.command.sql_report.Goals as goal

@@ -2,8 +2,8 @@ use Rattle.std.proofs.Common.{◌≡◌, ◌∙◌, List, Option, ap, option_map
 use Rattle.std.specs.Prelude.{IfOk}
 use Rattle.tuple_edge.specs.declared.row.Row.{Row}
 use Rattle.command_course.specs.Feeds.{feed_of, with_movements}
-use Rattle.look_course.specs.Answers.{AnswerView, answer, answer_of}
-use Rattle.look_course.specs.declared.answer.Ending.TheVariants.{Done}
+use Rattle.command_course.specs.Answers.{AnswerView, answer, answer_of}
+use Rattle.command_course.specs.declared.answer.Ending.TheVariants.{Done}
 use Rattle.trade_line.specs.Order.{spot_at}
 use Rattle.trade_line.specs.declared.order.Spot.{Spot}
 use Rattle.trace_command.specs.Courses.{traced}

@@ -1,6 +1,6 @@
 use Rattle.std.proofs.Common.{option_map}
 use Rattle.command_course.specs.Course.{reads}
-use Rattle.look_course.specs.Answers.{answer_of}
+use Rattle.command_course.specs.Answers.{answer_of}
 use Rattle.trade_text.specs.Limits.{max_input_bytes}
 use Rattle.trace_command.specs.Courses.{lined_from, lined_way}
 use Rattle.trace_command.proofs.Ways.{err_stops, ok_gives}

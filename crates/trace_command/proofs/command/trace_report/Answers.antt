@@ -1,6 +1,6 @@
 use Rattle.std.proofs.Common.{option_map}
 use Rattle.command_course.specs.Feeds.{with_plan}
-use Rattle.look_course.specs.Answers.{answer_of}
+use Rattle.command_course.specs.Answers.{answer_of}
 use Rattle.trace_command.specs.Courses.{behind_plan}
 use Rattle.trace_command.proofs.Ways.{err_stops, ok_gives}
 use Rattle.command_course.proofs.Courses.{err_passed}

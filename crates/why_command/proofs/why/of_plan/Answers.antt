@@ -1,7 +1,7 @@
 use Rattle.std.proofs.Common.{option_map}
 use Rattle.trade_text.specs.Limits.{max_input_bytes}
 use Rattle.command_course.specs.Course.{reads}
-use Rattle.look_course.specs.Answers.{answer_of}
+use Rattle.command_course.specs.Answers.{answer_of}
 use Rattle.why_command.specs.Courses.{movements_way}
 use Rattle.why_command.specs.Kept.{kept_trades_from}
 use Rattle.why_command.proofs.Ways.{err_stops, ok_gives}

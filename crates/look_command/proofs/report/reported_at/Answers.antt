@@ -1,8 +1,8 @@
 use Rattle.command_course.specs.Feeds.{feed_of}
-use Rattle.look_course.specs.Reports.{reports, tells_lines}
-use Rattle.look_course.proofs.Ways.{gives_here, reads_answered, stops_here}
+use Rattle.look_command.specs.Reports.{reports, tells_lines}
+use Rattle.replay_command.proofs.Answering.{gives_here, reads_answered, stops_here}
 use Rattle.command_course.proofs.Courses.{err_passed}
-use Rattle.look_course.proofs.report.reported_at.Goals as goal
+use Rattle.look_command.proofs.report.reported_at.Goals as goal
 
 pub returns-clause-gives : goal.returns-clause-gives
 returns-clause-gives g c =
