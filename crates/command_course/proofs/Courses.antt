@@ -1,6 +1,8 @@
 -- How far a course came, one reading after the other.
 use Rattle.std.proofs.Common.{ℕ, ◌≡◌, ◌<◌, ◌∙◌, true, false, List, [], ◌∷◌, ◌++◌, length, refl, sym, ap, subst, append_assoc, append-nil, string_bytes, Option, Some, None, Ok, Err, ⊎_elim, inl, inr}
+use Rattle.std.proofs.lemmas.Result.{err_from_is_err_and}
 use Rattle.std.specs.Prelude.{IfErr, IfOk, OnOk, Result, Vec}
+use Rattle.std.specs.Result.{IsErrAnd}
 use Rattle.std.specs.declared.alloc.Global.{Global}
 use Rattle.command_course.specs.Course.{AtReading, Between, Came, CameToRead, Course, Leads, Reading, Reads, Refuses, Runs, StoppedShort, Writes, reads, ◌>>=◌}
 use Rattle.command_course.specs.Lines.{cannot_read_line}
@@ -194,6 +196,12 @@ wants_on (Some old) (Some mid) (Some new) P first next = ⊎_elim (λ same. afte
 
 -- ---- steps that only read
 
+-- what the exit of a `?` returns
+pub err_passed : {T E : Type 0} (P : E → Type 0) (why : E) (result : Result T E) → IsErrAnd result (λ e. e ≡ why) → P why → IfErr result P
+err_passed P why result passed holds =
+    let is = err_from_is_err_and result passed in
+    rw (is.1, is.2) holds
+
 wants_none : (old : Option Wants) (P : Type 0) → StopsAtWant old old P
 wants_none None P = tt
 wants_none (Some old) P = inl refl
@@ -225,6 +233,12 @@ reads_stopped A B old new why reads = record {
   cause = reads.cause;
   still = tt;
 }
+
+-- the same at the exit of a `?`
+pub reads_passed : {A B : Type 0} (old new : FilesTold) (why : Stop) (result : Result B Stop) → IsErrAnd result (λ e. e ≡ why) → OnlyReads {A = A} old new (Err why) → OnlyReads old new result
+reads_passed {A} {B} old new why result passed reads =
+    let is = err_from_is_err_and result passed in
+    rw (is.1, is.2) (reads_stopped A B old new why reads)
 
 judged_still : {B : Type 0} (before now : ℕ) (result : Result B Stop) → now ≡ before → IfErr result (λ why. (faults : ℕ) → HasReadCause faults faults why) → OnOk result (now ≡ before)
 judged_still before now (Ok x) same judged = same

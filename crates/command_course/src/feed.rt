@@ -24,7 +24,7 @@ pub struct Feed {
 }
 
 /// Reads the plan, the trades and, where a file of them is named, the cash movements.
-#[tactic(auto, using(crate::proofs::Courses::reads_on, crate::proofs::Courses::reads_stopped, crate::proofs::Courses::reads_then, crate::proofs::Courses::reads_judged, crate::proofs::Courses::reads_none))]
+#[tactic(auto, using(crate::proofs::Courses::reads_on, crate::proofs::Courses::reads_passed, crate::proofs::Courses::reads_then, crate::proofs::Courses::reads_judged, crate::proofs::Courses::reads_none))]
 pub fn feed_at<F: Files>(
     alloc: Global,
     files: &mut F,
@@ -37,14 +37,12 @@ pub fn feed_at<F: Files>(
     ensures stops { IfErr result (λ stop. StopsBy (F.told files.old) (F.told files.new) (with_feed plan.now trades.now (option_map (λ name. name.now) cash.entry)) stop) }
     ensures reads { OnlyReads (F.told files.old) (F.told files.new) result }
 {
-    match plan_at(alloc, files, plan, cash) {
-        Ok(plan) => feed_for(alloc, files, plan, trades, cash),
-        Err(stop) => Err(stop),
-    }
+    let plan = plan_at(alloc, files, plan, cash)?;
+    feed_for(alloc, files, plan, trades, cash)
 }
 
 // The trades and the movements, once the plan was accepted.
-#[tactic(auto, using(crate::proofs::Courses::reads_on, crate::proofs::Courses::reads_stopped, crate::proofs::Courses::reads_then, crate::proofs::Courses::reads_judged, crate::proofs::Courses::reads_none))]
+#[tactic(auto, using(crate::proofs::Courses::reads_on, crate::proofs::Courses::reads_passed, crate::proofs::Courses::reads_then, crate::proofs::Courses::reads_judged, crate::proofs::Courses::reads_none))]
 fn feed_for<F: Files>(
     alloc: Global,
     files: &mut F,
@@ -57,14 +55,12 @@ fn feed_for<F: Files>(
     ensures stops { IfErr result (λ stop. StopsBy (F.told files.old) (F.told files.new) (with_trades trades.now (option_map (λ name. name.now) cash.entry) plan) stop) }
     ensures reads { OnlyReads (F.told files.old) (F.told files.new) result }
 {
-    match input_at(alloc, files, trades, &TradesFile) {
-        Ok(trades) => movements_at(alloc, files, plan, trades, cash),
-        Err(stop) => Err(stop),
-    }
+    let trades = input_at(alloc, files, trades, &TradesFile)?;
+    movements_at(alloc, files, plan, trades, cash)
 }
 
 /// Reads a plan, which may be given cash movements only where it is of version 2.
-#[tactic(auto, using(crate::proofs::Courses::reads_on, crate::proofs::Courses::reads_stopped, crate::proofs::Courses::reads_then, crate::proofs::Courses::reads_judged, crate::proofs::Courses::reads_none))]
+#[tactic(auto, using(crate::proofs::Courses::reads_on, crate::proofs::Courses::reads_passed, crate::proofs::Courses::reads_then, crate::proofs::Courses::reads_judged, crate::proofs::Courses::reads_none))]
 pub fn plan_at<F: Files>(
     alloc: Global,
     files: &mut F,
@@ -75,10 +71,8 @@ pub fn plan_at<F: Files>(
     ensures stops { IfErr result (λ stop. StopsBy (F.told files.old) (F.told files.new) (with_plan plan.now (option_map (λ name. name.now) cash.entry)) stop) }
     ensures reads { OnlyReads (F.told files.old) (F.told files.new) result }
 {
-    match input_at(alloc, files, plan, &PlanFile) {
-        Ok(plan) => with_source(alloc, plan, cash),
-        Err(stop) => Err(stop),
-    }
+    let plan = input_at(alloc, files, plan, &PlanFile)?;
+    with_source(alloc, plan, cash)
 }
 
 // A plan, where it has the source of the movements that are given.
@@ -99,7 +93,7 @@ fn with_source(alloc: Global, plan: Plan, cash: Option<&str>) -> Result<Plan, St
 }
 
 /// Reads the cash movements where a file of them is named, once plan and trades are there.
-#[tactic(auto, using(crate::proofs::Courses::reads_on, crate::proofs::Courses::reads_stopped, crate::proofs::Courses::reads_then, crate::proofs::Courses::reads_judged, crate::proofs::Courses::reads_none))]
+#[tactic(auto, using(crate::proofs::Courses::reads_on, crate::proofs::Courses::reads_passed, crate::proofs::Courses::reads_then, crate::proofs::Courses::reads_judged, crate::proofs::Courses::reads_none))]
 pub fn movements_at<F: Files>(
     alloc: Global,
     files: &mut F,
@@ -120,7 +114,7 @@ pub fn movements_at<F: Files>(
 }
 
 // The movements of a file.
-#[tactic(auto, using(crate::proofs::Courses::reads_on, crate::proofs::Courses::reads_stopped, crate::proofs::Courses::reads_then, crate::proofs::Courses::reads_judged, crate::proofs::Courses::reads_none))]
+#[tactic(auto, using(crate::proofs::Courses::reads_on, crate::proofs::Courses::reads_passed, crate::proofs::Courses::reads_then, crate::proofs::Courses::reads_judged, crate::proofs::Courses::reads_none))]
 fn movements_of<F: Files>(
     alloc: Global,
     files: &mut F,
@@ -135,10 +129,8 @@ fn movements_of<F: Files>(
     ensures reads { OnlyReads (F.told files.old) (F.told files.new) result }
 {
     let room = room_beside(&trades);
-    match input_at(alloc, files, name, &CashFile { room }) {
-        Ok(movements) => merged(plan, trades, &movements),
-        Err(stop) => Err(stop),
-    }
+    let movements = input_at(alloc, files, name, &CashFile { room })?;
+    merged(plan, trades, &movements)
 }
 
 // For how many movements trades leave room.

@@ -16,7 +16,7 @@ use trade_text::write_output;
 use tuple_edge::OutOfMemory;
 
 /// The text that `eval` writes.
-#[tactic(auto, using(crate::proofs::Courses::reads_stopped, crate::proofs::Courses::reads_then))]
+#[tactic(auto, using(crate::proofs::Courses::reads_passed, crate::proofs::Courses::reads_then))]
 pub(crate) fn eval_text<F: Files>(
     alloc: Global,
     files: &mut F,
@@ -28,10 +28,8 @@ pub(crate) fn eval_text<F: Files>(
     ensures stops { IfErr result (λ stop. StopsOf (F.told files.old) (F.told files.new) (eval_course plan.now trades.now (option_map (λ name. name.now) cash.entry)) stop) }
     ensures reads { OnlyReads (F.told files.old) (F.told files.new) result }
 {
-    match feed_at(alloc, files, plan, trades, cash) {
-        Ok(feed) => written(alloc, &feed),
-        Err(stop) => Err(stop),
-    }
+    let feed = feed_at(alloc, files, plan, trades, cash)?;
+    written(alloc, &feed)
 }
 
 // The text of the output of a plan.

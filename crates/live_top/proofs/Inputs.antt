@@ -6,7 +6,7 @@ use Rattle.command_course.specs.Steps.{StopsOf}
 use Rattle.command_course.specs.declared.stop.Stop.{Stop}
 use Rattle.command_course.specs.declared.stop.Stop.TheVariants as stop
 use Rattle.command_course.proofs.Courses.{came_on, stops_on}
-pub use Rattle.command_course.proofs.Courses.{reads_on, reads_stopped, reads_then}
+pub use Rattle.command_course.proofs.Courses.{reads_on, reads_passed, reads_then}
 use Rattle.flux_outside.specs.Told.{FilesTold}
 use Rattle.flux_top.specs.Outcome.{asked}
 use Rattle.flux_top.specs.Stops.{IsOwn}

@@ -119,8 +119,6 @@ fn run<R: Threads + Wait + Sync, F: Files, S: Sink + Send, G: Gate>(
     ensures saves { (F.told files.new).save_faults ≡ (F.told files.old).save_faults }
     ensures quiet { IfErr result (λ stop. IsQuiet out.old out.new stop) }
 {
-    match read_inputs(alloc, words, files) {
-        Ok(given) => lived(rt, alloc, &given, gate, out),
-        Err(stop) => Err(stop),
-    }
+    let given = read_inputs(alloc, words, files)?;
+    lived(rt, alloc, &given, gate, out)
 }

@@ -51,20 +51,18 @@ pub(crate) fn read_inputs<F: Files>(
 }
 
 // What these files say.
-#[tactic(auto, using(crate::proofs::Inputs::reads_on, crate::proofs::Inputs::reads_stopped))]
+#[tactic(auto, using(crate::proofs::Inputs::reads_on, crate::proofs::Inputs::reads_passed))]
 fn given_at<F: Files>(alloc: Global, files: &mut F, named: Named<'_>) -> Result<Given, Stop>
     ensures comes { IfOk result (λ given. Came (F.told files.old) (F.told files.new) (course_over (files_in named.entry)) (Runs (run_in given))) }
     ensures stops { IfErr result (λ stop. StopsOf (F.told files.old) (F.told files.new) (course_over (files_in named.entry)) stop) }
     ensures reads { OnlyReads (F.told files.old) (F.told files.new) result }
 {
-    match feed_at(alloc, files, named.plan, named.trades, None) {
-        Ok(feed) => scripted(alloc, files, feed, named.script),
-        Err(stop) => Err(stop),
-    }
+    let feed = feed_at(alloc, files, named.plan, named.trades, None)?;
+    scripted(alloc, files, feed, named.script)
 }
 
 // What the file of the script says too, once the others were read.
-#[tactic(auto, using(crate::proofs::Inputs::reads_stopped, crate::proofs::Inputs::reads_then))]
+#[tactic(auto, using(crate::proofs::Inputs::reads_passed, crate::proofs::Inputs::reads_then))]
 fn scripted<F: Files>(
     alloc: Global,
     files: &mut F,
@@ -75,8 +73,6 @@ fn scripted<F: Files>(
     ensures stops { IfErr result (λ stop. StopsOf (F.told files.old) (F.told files.new) (runs (options_with (text_in script.entry)) false (feed_of feed)) stop) }
     ensures reads { OnlyReads (F.told files.old) (F.told files.new) result }
 {
-    match script_at(alloc, files, &feed.plan, script) {
-        Ok(script) => Ok(Given { feed, script }),
-        Err(stop) => Err(stop),
-    }
+    let script = script_at(alloc, files, &feed.plan, script)?;
+    Ok(Given { feed, script })
 }

@@ -12,7 +12,7 @@ use Rattle.command_course.specs.declared.stop.Stop.{Stop}
 use Rattle.command_course.specs.declared.stop.Stop.TheVariants as stop
 use Rattle.command_course.proofs.Courses.{came_here}
 use Rattle.flux_outside.specs.Told.{FilesTold}
-use Rattle.look_course.specs.Trying.{Named, named_of, tries_named}
+use Rattle.look_command.specs.Trying.{Named, named_of, tries_named}
 use Rattle.look_command.specs.Check.{cash_told, is_without_cash, tries_cash}
 
 -- where no file is named none is read

@@ -7,10 +7,10 @@ use Rattle.plan_reader.specs.PlanView.{PlanView}
 use Rattle.pair_machine.specs.declared.order.Order.{Order}
 use Rattle.trade_check.specs.Given.{GivenView}
 use Rattle.trade_check.specs.Text.{check_text, warning_count}
-use Rattle.look_course.specs.Answers.{AnswerView, answer, answer_of}
-use Rattle.look_course.specs.declared.answer.Answer.{Answer}
+use Rattle.command_course.specs.Answers.{AnswerView, answer, answer_of}
+use Rattle.command_course.specs.declared.answer.Answer.{Answer}
 use Rattle.command_course.specs.Course.{Reading}
-use Rattle.look_course.specs.Trying.{Named}
+use Rattle.look_command.specs.Trying.{Named}
 use Rattle.look_command.specs.Check.{Given, accepted, check_as, ending_after, faulty_answer, given, has_fault, judged, sound_answer}
 
 -- the same answer

@@ -13,9 +13,9 @@ use Rattle.run_watch.specs.FrameView.{FrameView}
 use Rattle.run_watch.specs.Watching.{emitted_in, told_from}
 use Rattle.run_watch.specs.declared.happening.Told.{Told}
 use Rattle.run_end.specs.Ends.{end_in}
-use Rattle.look_course.specs.Reports.{HasEnded}
-use Rattle.look_course.specs.declared.report.ReportError.{ReportError}
-use Rattle.look_course.specs.declared.report.ReportError.TheVariants as report_error
+use Rattle.look_command.specs.Reports.{HasEnded}
+use Rattle.look_command.specs.declared.report.ReportError.{ReportError}
+use Rattle.look_command.specs.declared.report.ReportError.TheVariants as report_error
 use Rattle.look_command.specs.Courses.{drawing, story_as}
 use Rattle.look_command.specs.declared.timeline.Drawing.{Drawing}
 

@@ -14,15 +14,15 @@ use Rattle.run_command.specs.Scripts.{script_from}
 use Rattle.look_json.specs.CheckJson.{check_json}
 use Rattle.trade_check.specs.Given.{GivenView}
 use Rattle.trade_check.specs.Text.{check_text, warning_count}
-use Rattle.look_course.specs.Answers.{AnswerView, answer}
-use Rattle.look_course.specs.Trying.{Named, named_of, tried_of, tries, tries_named}
+use Rattle.command_course.specs.Answers.{AnswerView, answer}
+use Rattle.look_command.specs.Trying.{Named, named_of, tried_of, tries, tries_named}
 use Rattle.look_command.specs.Kinds.{told_from, with_file}
 use Rattle.look_command.specs.declared.faults.Said.{Said}
 use Rattle.input_faults.specs.AllFaults.{all_cash_faults, all_trades_faults}
 use Rattle.input_faults.specs.RecordFaults.{cash_fault, trades_fault}
 use Rattle.input_faults.specs.WordFaults.{plan_fault, script_fault}
-use Rattle.look_course.specs.declared.answer.Ending.{Ending}
-use Rattle.look_course.specs.declared.answer.Ending.TheVariants.{Done, Faulty, Warned}
+use Rattle.command_course.specs.declared.answer.Ending.{Ending}
+use Rattle.command_course.specs.declared.answer.Ending.TheVariants.{Done, Faulty, Warned}
 
 -- ---- what a file says, or its fault, with the place and what may stand there
 

@@ -22,8 +22,8 @@ use Rattle.lane_chart.specs.Text.{chart_text}
 use Rattle.run_story.specs.StoryText.{story_text}
 use Rattle.look_json.specs.ChartJson.{chart_json}
 use Rattle.look_json.specs.StoryJson.{story_json}
-use Rattle.look_course.specs.Answers.{AnswerView}
-use Rattle.look_course.specs.Reports.{Telling, reports}
+use Rattle.command_course.specs.Answers.{AnswerView}
+use Rattle.look_command.specs.Reports.{Telling, reports}
 use Rattle.look_command.specs.declared.timeline.Drawing.{Drawing}
 use Rattle.look_command.specs.declared.timeline.Drawing.TheVariants.{Json, Svg, Text}
 

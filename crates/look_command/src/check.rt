@@ -2,17 +2,17 @@
 ghost use Rattle.command_course.specs.Lines.{not_in_plan_line};
 ghost use Rattle.command_course.specs.Steps.{GivesBy, OnlyReads, StopsBy};
 ghost use Rattle.look_command.specs.Check.{check_way, checks_cash, checks_script, checks_trades, given_of, is_without_cash, judgement, room_beside, tries_cash, tries_script};
-ghost use Rattle.look_course.specs.Answers.{answer_of};
-ghost use Rattle.look_course.specs.Trying.{named_of, tried_of};
+ghost use Rattle.command_course.specs.Answers.{answer_of};
+ghost use Rattle.look_command.specs.Trying.{named_of, tried_of};
 ghost use Rattle.std.specs.Prelude.{◌≡◌, ◌-◌, Err, IfErr, IfOk, Some, length, option_map};
 ghost use Rattle.trade_text.specs.Limits.{max_inputs};
 
 use crate::faults::{Said, judged};
 use crate::kinds::{ToldCash, ToldPlan, ToldScript, ToldTrades};
-use command_course::{Stop, refused};
+use crate::trying::{tried_at, tried_if_named};
+use command_course::{Answer, Stop, refused};
 use failure_script::Script;
 use flux_outside::Files;
-use look_course::{Answer, tried_at, tried_if_named};
 use plan_reader::Plan;
 use std::alloc::Global;
 use trade_check::GivenTrades;
@@ -20,7 +20,7 @@ use trade_text::{Cash, MAX_INPUTS};
 
 /// What `check` says of the files that are named, as text or as JSON: what the plan does and what is hardly meant; or their
 /// faults, of trades and of movements the first one or, where it is asked for, all of them.
-#[tactic(auto, using(crate::proofs::Ways::reads_on, crate::proofs::Ways::reads_stopped))]
+#[tactic(auto, using(crate::proofs::Ways::reads_on, crate::proofs::Ways::reads_passed))]
 pub fn check_report<F: Files>(
     alloc: Global,
     files: &mut F,
@@ -35,14 +35,12 @@ pub fn check_report<F: Files>(
     ensures stops { IfErr result (λ stop. StopsBy (F.told files.old) (F.told files.new) (check_way plan.now (option_map (λ n. n.now) trades.entry) (option_map (λ n. n.now) cash.entry) (option_map (λ n. n.now) script.entry) all json) stop) }
     ensures reads { OnlyReads (F.told files.old) (F.told files.new) result }
 {
-    match tried_at(alloc, files, plan, &ToldPlan) {
-        Ok(plan) => with_trades(alloc, files, plan, trades, cash, script, all, json),
-        Err(stop) => Err(stop),
-    }
+    let plan = tried_at(alloc, files, plan, &ToldPlan)?;
+    with_trades(alloc, files, plan, trades, cash, script, all, json)
 }
 
 // The same, once the plan was read.
-#[tactic(auto, using(crate::proofs::Ways::reads_on, crate::proofs::Ways::reads_stopped))]
+#[tactic(auto, using(crate::proofs::Ways::reads_on, crate::proofs::Ways::reads_passed))]
 fn with_trades<F: Files>(
     alloc: Global,
     files: &mut F,
@@ -57,14 +55,12 @@ fn with_trades<F: Files>(
     ensures stops { IfErr result (λ stop. StopsBy (F.told files.old) (F.told files.new) (checks_trades (option_map (λ n. n.now) trades.entry) (option_map (λ n. n.now) cash.entry) (option_map (λ n. n.now) script.entry) all json (tried_of plan)) stop) }
     ensures reads { OnlyReads (F.told files.old) (F.told files.new) result }
 {
-    match tried_if_named(alloc, files, trades, &ToldTrades { all }) {
-        Ok(trades) => with_cash(alloc, files, plan, trades, cash, script, all, json),
-        Err(stop) => Err(stop),
-    }
+    let trades = tried_if_named(alloc, files, trades, &ToldTrades { all })?;
+    with_cash(alloc, files, plan, trades, cash, script, all, json)
 }
 
 // The same, once plan and trades were read.
-#[tactic(auto, using(crate::proofs::Ways::reads_on, crate::proofs::Ways::reads_stopped))]
+#[tactic(auto, using(crate::proofs::Ways::reads_on, crate::proofs::Ways::reads_passed))]
 fn with_cash<F: Files>(
     alloc: Global,
     files: &mut F,
@@ -80,14 +76,12 @@ fn with_cash<F: Files>(
     ensures reads { OnlyReads (F.told files.old) (F.told files.new) result }
 {
     let room = room_beside(&trades);
-    match tried_cash(alloc, files, &plan, room, cash, all) {
-        Ok(cash) => with_script(alloc, files, plan, trades, cash, script, json),
-        Err(stop) => Err(stop),
-    }
+    let cash = tried_cash(alloc, files, &plan, room, cash, all)?;
+    with_script(alloc, files, plan, trades, cash, script, json)
 }
 
 // The same, once all but the script was read.
-#[tactic(auto, using(crate::proofs::Ways::reads_stopped, crate::proofs::Ways::reads_then))]
+#[tactic(auto, using(crate::proofs::Ways::reads_passed, crate::proofs::Ways::reads_then))]
 fn with_script<F: Files>(
     alloc: Global,
     files: &mut F,
@@ -101,19 +95,17 @@ fn with_script<F: Files>(
     ensures stops { IfErr result (λ stop. StopsBy (F.told files.old) (F.told files.new) (checks_script (option_map (λ n. n.now) script.entry) json (tried_of plan) (named_of trades) (named_of cash)) stop) }
     ensures reads { OnlyReads (F.told files.old) (F.told files.new) result }
 {
-    match tried_script(alloc, files, &plan, script) {
-        Ok(script) => all_judged(
-            alloc,
-            Said {
-                plan,
-                trades,
-                cash,
-                script,
-            },
-            json,
-        ),
-        Err(stop) => Err(stop),
-    }
+    let script = tried_script(alloc, files, &plan, script)?;
+    all_judged(
+        alloc,
+        Said {
+            plan,
+            trades,
+            cash,
+            script,
+        },
+        json,
+    )
 }
 
 // What is said of the files, where want of memory is why the command stops.

@@ -1,11 +1,11 @@
 // Why a report ends early.
 ghost use Rattle.flux_core.specs.CoreView.{CoreView};
-ghost use Rattle.look_course.specs.Reports.{HasEnded};
+ghost use Rattle.look_command.specs.Reports.{HasEnded};
 ghost use Rattle.run_journal.specs.declared.lined.Lined.{Lined};
 ghost use Rattle.run_watch.specs.Seen.{HasStopped};
 ghost use Rattle.std.specs.Prelude.{List};
 
-use look_course::ReportError;
+use crate::report::ReportError;
 use run_watch::WatchError;
 
 /// Why a report ends whose events were not watched to their end.

@@ -1,11 +1,11 @@
 // What is said of files that were read: their faults, or what they ask for.
 ghost use Rattle.look_command.specs.Check.{accepted, check_as, ending_after, fault_line, fault_lines, faulty_answer, given_of, has_fault, is_faulty, is_named_faulty, judged, judgement, named_line, sound_answer};
-ghost use Rattle.look_course.specs.Answers.{answer_of};
-ghost use Rattle.look_course.specs.Trying.{named_of, tried_of};
+ghost use Rattle.command_course.specs.Answers.{answer_of};
+ghost use Rattle.look_command.specs.Trying.{named_of, tried_of};
 ghost use Rattle.std.specs.Prelude.{◌≡◌, ◌++◌, IfOk, Ok, OnOk, option_map, string_bytes};
 
+use command_course::{Answer, Ending};
 use failure_script::Script;
-use look_course::{Answer, Ending};
 use look_json::write_check_json;
 use plan_reader::Plan;
 use std::alloc::Global;

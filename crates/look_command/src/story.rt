@@ -4,9 +4,9 @@ ghost use Rattle.command_course.specs.Steps.{GivesBy, OnlyReads, StopsBy};
 ghost use Rattle.flux_core.specs.CoreView.{flow_in, inputs_of};
 ghost use Rattle.flux_core.specs.Stands.{StandsFor};
 ghost use Rattle.look_command.specs.Courses.{rows_in_all, story_as, story_telling, story_way, tells_story};
-ghost use Rattle.look_course.specs.Answers.{answer_of};
-ghost use Rattle.look_course.specs.Reports.{reports};
-ghost use Rattle.look_course.specs.declared.report.ReportError.TheVariants as report_error;
+ghost use Rattle.command_course.specs.Answers.{answer_of};
+ghost use Rattle.look_command.specs.Reports.{reports};
+ghost use Rattle.look_command.specs.declared.report.ReportError.TheVariants as report_error;
 ghost use Rattle.pair_machine.specs.Machine.{State};
 ghost use Rattle.run_end.specs.Ends.{end_in};
 ghost use Rattle.run_watch.specs.Watching.{emitted_in};
@@ -14,11 +14,11 @@ ghost use Rattle.std.specs.Prelude.{◌≡◌, IfErr, IfOk, option_map};
 
 use crate::all::rows_in_all;
 use crate::ended::ended;
-use command_course::{Feed, Stop, feed_at};
+use crate::report::{Report, ReportError, reported_at};
+use command_course::{Answer, Feed, Stop, feed_at};
 use failure_script::Script;
 use flux_core::Core;
 use flux_outside::Files;
-use look_course::{Answer, Report, ReportError, reported_at};
 use look_json::write_story_json;
 use run_command::script_at;
 use run_journal::Lined;
@@ -31,7 +31,7 @@ use tuple_edge::OutOfMemory;
 const COLUMNS: u32 = 1;
 
 /// What `story` writes: what happened in a run, from its events.
-#[tactic(auto, using(crate::proofs::Ways::reads_on, crate::proofs::Ways::reads_stopped))]
+#[tactic(auto, using(crate::proofs::Ways::reads_on, crate::proofs::Ways::reads_passed))]
 pub fn story_text<F: Files>(
     alloc: Global,
     files: &mut F,
@@ -46,14 +46,12 @@ pub fn story_text<F: Files>(
     ensures stops { IfErr result (λ stop. StopsBy (F.told files.old) (F.told files.new) (story_way plan.now trades.now events.now (option_map (λ n. n.now) cash.entry) (option_map (λ n. n.now) script.entry) json) stop) }
     ensures reads { OnlyReads (F.told files.old) (F.told files.new) result }
 {
-    match feed_at(alloc, files, plan, trades, cash) {
-        Ok(feed) => fed_story(alloc, files, &feed, events, script, json),
-        Err(stop) => Err(stop),
-    }
+    let feed = feed_at(alloc, files, plan, trades, cash)?;
+    fed_story(alloc, files, &feed, events, script, json)
 }
 
 // The same, once plan, trades and movements were read.
-#[tactic(auto, using(crate::proofs::Ways::reads_on, crate::proofs::Ways::reads_stopped))]
+#[tactic(auto, using(crate::proofs::Ways::reads_on, crate::proofs::Ways::reads_passed))]
 fn fed_story<F: Files>(
     alloc: Global,
     files: &mut F,
@@ -67,10 +65,8 @@ fn fed_story<F: Files>(
     ensures stops { IfErr result (λ stop. StopsBy (F.told files.old) (F.told files.new) (tells_story events.now (option_map (λ n. n.now) script.entry) json (feed_of feed.now)) stop) }
     ensures reads { OnlyReads (F.told files.old) (F.told files.new) result }
 {
-    match script_at(alloc, files, &feed.plan, script) {
-        Ok(script) => scripted_story(alloc, files, feed, events, &script, json),
-        Err(stop) => Err(stop),
-    }
+    let script = script_at(alloc, files, &feed.plan, script)?;
+    scripted_story(alloc, files, feed, events, &script, json)
 }
 
 // The same, once the script was read.
@@ -88,10 +84,8 @@ fn scripted_story<F: Files>(
     ensures stops { IfErr result (λ stop. StopsBy (F.told files.old) (F.told files.new) (reports (story_telling json script.now (rows_in_all (feed_of feed.now))) events.now (feed_of feed.now)) stop) }
     ensures reads { OnlyReads (F.told files.old) (F.told files.new) result }
 {
-    match rows_in_all(alloc, feed) {
-        Ok(all) => reported_at(alloc, files, feed, events, &Story { json, script, all }),
-        Err(stop) => Err(stop),
-    }
+    let all = rows_in_all(alloc, feed)?;
+    reported_at(alloc, files, feed, events, &Story { json, script, all })
 }
 
 // The story of a run, which may be one under a script.

@@ -6,17 +6,17 @@ ghost use Rattle.flux_core.specs.Stands.{StandsFor};
 ghost use Rattle.look_command.specs.Courses.{columns_for, drawing, drawing_of, draws, timeline_telling, timeline_way};
 ghost use Rattle.pair_machine.specs.Machine.{State};
 ghost use Rattle.run_end.specs.Ends.{end_in};
-ghost use Rattle.look_course.specs.Answers.{answer_of};
-ghost use Rattle.look_course.specs.declared.report.ReportError.TheVariants as report_error;
+ghost use Rattle.command_course.specs.Answers.{answer_of};
+ghost use Rattle.look_command.specs.declared.report.ReportError.TheVariants as report_error;
 ghost use Rattle.std.specs.Prelude.{◌≡◌, ◌≤◌, IfErr, IfOk, option_map};
 
 use crate::all::rows_in_all;
 use crate::ended::ended;
-use command_course::{Feed, Stop, feed_at};
+use crate::report::{Report, ReportError, reported_at};
+use command_course::{Answer, Feed, Stop, feed_at};
 use flux_core::Core;
 use flux_outside::Files;
 use lane_chart::{write_svg, write_text};
-use look_course::{Answer, Report, ReportError, reported_at};
 use look_json::write_chart_json;
 use plan_reader::Plan;
 use run_end::{RunEnd, run_end};
@@ -56,7 +56,7 @@ fn drawing_of(svg: bool, json: bool) -> Drawing
 }
 
 /// What `timeline` writes: a drawing of what happened in a run.
-#[tactic(auto, using(crate::proofs::Ways::reads_on, crate::proofs::Ways::reads_stopped))]
+#[tactic(auto, using(crate::proofs::Ways::reads_on, crate::proofs::Ways::reads_passed))]
 pub fn timeline_text<F: Files>(
     alloc: Global,
     files: &mut F,
@@ -72,10 +72,8 @@ pub fn timeline_text<F: Files>(
     ensures stops { IfErr result (λ stop. StopsBy (F.told files.old) (F.told files.new) (timeline_way plan.now trades.now events.now (option_map (λ n. n.now) cash.entry) svg only json) stop) }
     ensures reads { OnlyReads (F.told files.old) (F.told files.new) result }
 {
-    match feed_at(alloc, files, plan, trades, cash) {
-        Ok(feed) => fed_timeline(alloc, files, &feed, events, drawing_of(svg, json), only),
-        Err(stop) => Err(stop),
-    }
+    let feed = feed_at(alloc, files, plan, trades, cash)?;
+    fed_timeline(alloc, files, &feed, events, drawing_of(svg, json), only)
 }
 
 // The same, once plan, trades and movements were read.
@@ -93,10 +91,8 @@ fn fed_timeline<F: Files>(
     ensures stops { IfErr result (λ stop. StopsBy (F.told files.old) (F.told files.new) (draws events.now how only (feed_of feed.now)) stop) }
     ensures reads { OnlyReads (F.told files.old) (F.told files.new) result }
 {
-    match rows_in_all(alloc, feed) {
-        Ok(all) => reported_at(alloc, files, feed, events, &Timeline { how, only, all }),
-        Err(stop) => Err(stop),
-    }
+    let all = rows_in_all(alloc, feed)?;
+    reported_at(alloc, files, feed, events, &Timeline { how, only, all })
 }
 
 // The drawing of a run, as text or as SVG, where the plan gives so many rows in all.

@@ -7,8 +7,8 @@ use Rattle.command_course.specs.declared.stop.Stop.{Stop}
 use Rattle.command_course.specs.declared.stop.Stop.TheVariants as stop
 use Rattle.look_words.specs.Forms.{Request, form}
 use Rattle.flux_outside.specs.Told.{FilesTold}
-use Rattle.look_course.specs.Answers.{AnswerView}
-use Rattle.look_course.specs.declared.answer.Answer.{Answer}
+use Rattle.command_course.specs.Answers.{AnswerView}
+use Rattle.command_course.specs.declared.answer.Answer.{Answer}
 use Rattle.flux_top.specs.Stops.{IsOwn}
 pub use Rattle.flux_top.proofs.Owning.{own_reads}
 use Rattle.look_top.specs.Asked.{Rehearses, Task, asked, task_of, way_in}

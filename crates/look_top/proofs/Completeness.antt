@@ -10,9 +10,9 @@ use Rattle.command_course.specs.Course.{Course, Leads, Reads, Refuses, Run, Runs
 use Rattle.flux_outside.specs.Outside.{Call, Names}
 use Rattle.flux_outside.specs.Told.{FilesTold, SinkTold}
 use Rattle.flux_top.specs.Ends.{saves_of}
-use Rattle.look_course.specs.Answers.{AnswerView, status_of}
-use Rattle.look_course.specs.declared.answer.Ending.{Ending}
-use Rattle.look_course.specs.declared.answer.Ending.TheVariants.{Done, Lost, Warned}
+use Rattle.command_course.specs.Answers.{AnswerView, status_of}
+use Rattle.command_course.specs.declared.answer.Ending.{Ending}
+use Rattle.command_course.specs.declared.answer.Ending.TheVariants.{Done, Lost, Warned}
 use Rattle.look_top.specs.Asked.{Answers, AsksFor, Rehearses, Task, asked, way_in}
 use Rattle.look_top.specs.Clauses.{CameTo, ComesTo, ComesToRefusal, Rejects, RejectsBy, RunsBy, RunsSo, Settles, SettlesBy, WritesWhole, answer_with}
 use Rattle.rehearse_command.specs.Rehearsals.{ending_after, told_of}

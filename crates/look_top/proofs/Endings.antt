@@ -9,9 +9,9 @@ use Rattle.flux_outside.specs.Outside.{Adds, Call}
 use Rattle.flux_outside.specs.Told.{FilesTold, SinkTold}
 use Rattle.flux_top.specs.Finish.{IsFinished, StopsFinish}
 use Rattle.flux_top.proofs.LastSteps.{came_then, kept_of, short_then, unwritten_of, whole_of}
-use Rattle.look_course.specs.Answers.{AnswerView}
-use Rattle.look_course.specs.declared.answer.Ending.{Ending}
-use Rattle.look_course.specs.declared.answer.Ending.TheVariants.{Done, Faulty, Lost, Warned}
+use Rattle.command_course.specs.Answers.{AnswerView}
+use Rattle.command_course.specs.declared.answer.Ending.{Ending}
+use Rattle.command_course.specs.declared.answer.Ending.TheVariants.{Done, Faulty, Lost, Warned}
 use Rattle.look_top.specs.Asked.{Answers, Rehearses, Task, way_in}
 use Rattle.look_top.specs.Clauses.{CameTo, ComesTo, ComesToAny, WritesWhole}
 use Rattle.look_top.specs.Lines.{name}

@@ -17,9 +17,9 @@ use Rattle.flux_top.specs.Programs.{Tells}
 use Rattle.flux_top.specs.Stops.{line_at, status_at}
 use Rattle.flux_top.proofs.Stopping.{differ, other_stop, says_stop, stays_stop, stopped}
 pub use Rattle.flux_top.proofs.Stopping.{formless_at, no_answer, quiet_at, unwritten_at, usage_at}
-use Rattle.look_course.specs.Answers.{AnswerView, status_of}
-use Rattle.look_course.specs.declared.answer.Ending.{Ending}
-use Rattle.look_course.specs.declared.answer.Ending.TheVariants.{Done, Faulty, Lost, Warned}
+use Rattle.command_course.specs.Answers.{AnswerView, status_of}
+use Rattle.command_course.specs.declared.answer.Ending.{Ending}
+use Rattle.command_course.specs.declared.answer.Ending.TheVariants.{Done, Faulty, Lost, Warned}
 use Rattle.look_top.specs.Clauses.{ComesToAny, FallsShort, IsComplete, IsStatus, MaySave, Rejects, SaysAt, SaysLost, SaysRefusal, SaysUnread, Settles, StaysAt, WritesNot, WritesWhole}
 use Rattle.look_top.specs.Lines.{lines}
 use Rattle.look_top.specs.Stops.{KeepsTo, StopsTo, drained_of}

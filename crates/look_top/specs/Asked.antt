@@ -4,7 +4,7 @@ use Rattle.command_course.specs.Course.{Course, Way}
 use Rattle.flux_top.specs.Programs as program
 use Rattle.look_command.specs.Check.{check_way}
 use Rattle.look_command.specs.Courses.{story_way, timeline_way}
-use Rattle.look_course.specs.Answers.{AnswerView}
+use Rattle.command_course.specs.Answers.{AnswerView}
 use Rattle.look_words.specs.Forms.{Check, Rehearse, Request, Sift, Sql, Story, Timeline, Trace, Why, form}
 use Rattle.rehearse_command.specs.Courses.{rehearse_course}
 use Rattle.sift_command.specs.Courses.{sift_way}

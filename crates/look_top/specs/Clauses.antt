@@ -7,9 +7,9 @@ use Rattle.command_course.specs.Steps.{IsUnread}
 use Rattle.flux_outside.specs.Outside.{Call, Names, Rose}
 use Rattle.flux_outside.specs.Told.{FilesTold, SinkTold}
 use Rattle.flux_top.specs.Programs as program
-use Rattle.look_course.specs.Answers.{AnswerView, status_of}
-use Rattle.look_course.specs.declared.answer.Ending.{Ending}
-use Rattle.look_course.specs.declared.answer.Ending.TheVariants.{Lost}
+use Rattle.command_course.specs.Answers.{AnswerView, status_of}
+use Rattle.command_course.specs.declared.answer.Ending.{Ending}
+use Rattle.command_course.specs.declared.answer.Ending.TheVariants.{Lost}
 use Rattle.look_top.specs.Asked.{Answers, AsksFor, Rehearses, Task, asked, way_in}
 use Rattle.look_top.specs.Lines.{lines, lost_line, own_line}
 use Rattle.rehearse_command.specs.Rehearsals.{IsRehearsed}

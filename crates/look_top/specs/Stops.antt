@@ -9,9 +9,9 @@ use Rattle.command_course.specs.Steps.{GivesBy}
 use Rattle.command_course.specs.declared.stop.Stop.{Stop}
 use Rattle.command_course.specs.declared.stop.Stop.TheVariants as stop
 use Rattle.flux_outside.specs.Told.{FilesTold, SinkTold}
-use Rattle.look_course.specs.Answers.{AnswerView}
-use Rattle.look_course.specs.declared.answer.Ending.{Ending}
-use Rattle.look_course.specs.declared.answer.Ending.TheVariants.{Done, Faulty, Lost, Warned}
+use Rattle.command_course.specs.Answers.{AnswerView}
+use Rattle.command_course.specs.declared.answer.Ending.{Ending}
+use Rattle.command_course.specs.declared.answer.Ending.TheVariants.{Done, Faulty, Lost, Warned}
 use Rattle.look_top.specs.Asked.{Answers, AsksFor, Rehearses, Task, asked}
 use Rattle.look_top.specs.Clauses.{ComesToRead, ComesToRefusal, KeepsFiles, StopsShort, WritesNot, WritesWhole}
 use Rattle.look_top.specs.Lines.{lost_line, own_line}

@@ -2,19 +2,18 @@
 ghost use Rattle.command_course.specs.Steps.{OnlyReads, StopsBy};
 ghost use Rattle.command_course.specs.declared.stop.Stop.TheVariants.{Usage};
 ghost use Rattle.flux_top.specs.Outcome.{texts};
-ghost use Rattle.look_course.specs.Answers.{answer_of};
+ghost use Rattle.command_course.specs.Answers.{answer_of};
 ghost use Rattle.look_top.specs.Asked.{asked, task_of, way_in};
 ghost use Rattle.look_top.specs.Stops.{Gives, StopsBefore, TaskGives};
 ghost use Rattle.look_words.specs.Forms.{IsInRange, request_of};
 ghost use Rattle.std.specs.Prelude.{◌≡◌, Err, IfErr, IfOk, None};
 
 use crate::finished::NAME;
-use command_course::Stop;
+use command_course::{Answer, Stop};
 use drained_run::Gate;
 use flux_outside::Files;
 use flux_top::own_stop;
 use look_command::{check_report, story_text, timeline_text};
-use look_course::Answer;
 use look_words::{LookCommand, read_words};
 use rehearse_command::rehearse_report;
 use sift_command::sift_report;

@@ -6,8 +6,8 @@ ghost use Rattle.flux_top.specs.Clauses.{HasCause, IsQuiet};
 ghost use Rattle.flux_top.specs.Outcome.{texts};
 ghost use Rattle.flux_top.specs.Programs.{Tells};
 ghost use Rattle.flux_top.specs.Stops.{line_at, status_at};
-ghost use Rattle.look_course.specs.Answers.{status_of};
-ghost use Rattle.look_course.specs.declared.answer.Ending.TheVariants.{Done, Faulty, Warned};
+ghost use Rattle.command_course.specs.Answers.{status_of};
+ghost use Rattle.command_course.specs.declared.answer.Ending.TheVariants.{Done, Faulty, Warned};
 ghost use Rattle.look_top.specs.Asked.{asked};
 ghost use Rattle.look_top.specs.Clauses.{FallsShort, IsComplete, SaysAt, SaysLost, SaysRefusal, SaysUnread, StaysAt, WritesNot, WritesWhole};
 ghost use Rattle.look_top.specs.Lines.{lines};
@@ -17,11 +17,10 @@ ghost use Rattle.tuple_edge.specs.declared.event.Drained.TheVariants as drained;
 
 use crate::answered::answered;
 use crate::finished::finished;
-use command_course::Stop;
+use command_course::{Ending, Stop};
 use drained_run::Gate;
 use flux_outside::{Files, Sink};
 use flux_top::say_stop;
-use look_course::Ending;
 use std::alloc::Global;
 use std::thread::Threads;
 
@@ -139,8 +138,6 @@ fn run<R: Threads + Sync, F: Files, S: Sink, G: Gate>(
     ensures wants { StopsAtWant (F.told files.old).wants (F.told files.new).wants (IsWant result) }
     ensures quiet { IfErr result (λ stop. IsQuiet out.old out.new stop) }
 {
-    match answered(rt, alloc, words, files, gate) {
-        Ok(answer) => finished(alloc, files, out, answer),
-        Err(stop) => Err(stop),
-    }
+    let answer = answered(rt, alloc, words, files, gate)?;
+    finished(alloc, files, out, answer)
 }

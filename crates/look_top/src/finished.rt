@@ -4,17 +4,16 @@ ghost use Rattle.command_course.specs.declared.stop.Stop.TheVariants.{CannotWrit
 ghost use Rattle.flux_outside.specs.Outside.{StopsAtWant};
 ghost use Rattle.flux_top.specs.Clauses.{IsQuiet};
 ghost use Rattle.flux_top.specs.Finish.{IsFinished, StopsFinish};
-ghost use Rattle.look_course.specs.Answers.{answer_of};
+ghost use Rattle.command_course.specs.Answers.{answer_of};
 ghost use Rattle.look_top.specs.Lines.{name};
 ghost use Rattle.look_top.specs.Stops.{drained_of, written_of};
 ghost use Rattle.run_command.specs.Endings.{ending_of};
 ghost use Rattle.std.specs.Prelude.{◌≡◌, ◌≢◌, Err, IfErr, IfOk, OnOk};
 ghost use Rattle.tuple_edge.specs.declared.event.Drained.TheVariants as drained;
 
-use command_course::Stop;
+use command_course::{Answer, Ending, Saved, Stop};
 use flux_outside::{Files, Sink};
 use flux_top::finish;
-use look_course::{Answer, Ending, Saved};
 use run_command::{Journal, Outcome};
 use std::alloc::Global;
 use tuple_edge::Drained;
@@ -51,10 +50,8 @@ fn handed_out<F: Files, S: Sink>(
     ensures wants { StopsAtWant (F.told files.old).wants (F.told files.new).wants (IsWant result) }
     ensures quiet { IfErr result (λ stop. IsQuiet out.old out.new stop) }
 {
-    match finish(alloc, NAME, files, out, outcome) {
-        Ok(()) => Ok(ending),
-        Err(stop) => Err(stop),
-    }
+    finish(alloc, NAME, files, out, outcome)?;
+    Ok(ending)
 }
 
 /// Saves the file of an answer, if it has one, and then writes its text.

@@ -19,7 +19,7 @@ use trade_text::Trades;
 
 /// The text that `move` writes: the output of the plan for the trades, worked in buckets that move as the file of moves says, and
 /// then for each partition how many keys stand there at the end.
-#[tactic(auto, using(crate::proofs::Courses::reads_on, crate::proofs::Courses::reads_stopped))]
+#[tactic(auto, using(crate::proofs::Courses::reads_on, crate::proofs::Courses::reads_passed))]
 pub fn move_text<R: Threads + Sync, F: Files>(
     rt: &R,
     alloc: Global,
@@ -32,10 +32,8 @@ pub fn move_text<R: Threads + Sync, F: Files>(
     ensures stops { IfErr result (λ stop. StopsOf (F.told files.old) (F.told files.new) (move_course plan.now trades.now moves.now) stop) }
     ensures reads { OnlyReads (F.told files.old) (F.told files.new) result }
 {
-    match input_at(alloc, files, plan, &PlanFile) {
-        Ok(it) => text_of_plan(rt, alloc, files, plan, &it, trades, moves),
-        Err(stop) => Err(stop),
-    }
+    let it = input_at(alloc, files, plan, &PlanFile)?;
+    text_of_plan(rt, alloc, files, plan, &it, trades, moves)
 }
 
 // The text, once the plan was read: it is to be by key.
@@ -61,7 +59,7 @@ fn text_of_plan<R: Threads + Sync, F: Files>(
 }
 
 // The text, once the plan was accepted.
-#[tactic(auto, using(crate::proofs::Courses::reads_on, crate::proofs::Courses::reads_stopped))]
+#[tactic(auto, using(crate::proofs::Courses::reads_on, crate::proofs::Courses::reads_passed))]
 fn text_of_trades<R: Threads + Sync, F: Files>(
     rt: &R,
     alloc: Global,
@@ -75,14 +73,12 @@ fn text_of_trades<R: Threads + Sync, F: Files>(
     ensures stops { IfErr result (λ stop. StopsOf (F.told files.old) (F.told files.new) (move_trades trades.now moves.now plan.now) stop) }
     ensures reads { OnlyReads (F.told files.old) (F.told files.new) result }
 {
-    match input_at(alloc, files, trades, &TradesFile) {
-        Ok(trades) => text_of_moves(rt, alloc, files, plan, &trades, moves),
-        Err(stop) => Err(stop),
-    }
+    let trades = input_at(alloc, files, trades, &TradesFile)?;
+    text_of_moves(rt, alloc, files, plan, &trades, moves)
 }
 
 // The text, once the trades were read too.
-#[tactic(auto, using(crate::proofs::Courses::reads_then, crate::proofs::Courses::reads_stopped))]
+#[tactic(auto, using(crate::proofs::Courses::reads_then, crate::proofs::Courses::reads_passed))]
 fn text_of_moves<R: Threads + Sync, F: Files>(
     rt: &R,
     alloc: Global,
@@ -96,10 +92,8 @@ fn text_of_moves<R: Threads + Sync, F: Files>(
     ensures stops { IfErr result (λ stop. StopsOf (F.told files.old) (F.told files.new) (move_moves moves.now plan.now trades.now) stop) }
     ensures reads { OnlyReads (F.told files.old) (F.told files.new) result }
 {
-    match input_at(alloc, files, moves, &MovesFile { plan }) {
-        Ok(moves) => written(rt, alloc, plan, trades, &moves),
-        Err(stop) => Err(stop),
-    }
+    let moves = input_at(alloc, files, moves, &MovesFile { plan })?;
+    written(rt, alloc, plan, trades, &moves)
 }
 
 // The text, where want of memory is why the command stops.

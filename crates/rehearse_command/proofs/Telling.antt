@@ -29,8 +29,8 @@ use Rattle.run_timeline.specs.Timeline.{timeline}
 use Rattle.run_rehearsal.specs.Fates.{are_obeyed}
 use Rattle.run_rehearsal.specs.Merged.{merged_in}
 use Rattle.run_rehearsal.specs.RehearsalText.{rehearsal_text}
-use Rattle.look_course.specs.Answers.{AnswerView, answer_of, saved_in}
-use Rattle.look_course.specs.declared.answer.Answer.{Answer}
+use Rattle.command_course.specs.Answers.{AnswerView, answer_of, saved_in}
+use Rattle.command_course.specs.declared.answer.Answer.{Answer}
 use Rattle.rehearse_command.specs.Rehearsals.{IsRehearsed, columns, end_of, ending_after, merged_after, rows_in_all, saved_of, told_of}
 use Rattle.rehearse_command.specs.Watches.{LeadOn}
 

@@ -8,12 +8,12 @@ use Rattle.command_course.specs.Steps.{GivesBy, StopsOf}
 use Rattle.command_course.specs.declared.stop.Stop.{Stop}
 use Rattle.command_course.specs.declared.stop.Stop.TheVariants as stop
 use Rattle.command_course.proofs.Courses.{came_on, stops_on}
-pub use Rattle.command_course.proofs.Courses.{reads_on, reads_stopped, reads_then}
+pub use Rattle.command_course.proofs.Courses.{reads_on, reads_passed, reads_then}
 use Rattle.flux_outside.specs.Told.{FilesTold}
 use Rattle.run_command.specs.Scripts.{with_script}
 use Rattle.rehearse_command.specs.Courses.{rehearses, run_under}
-use Rattle.look_course.specs.Answers.{answer_of}
-use Rattle.look_course.specs.declared.answer.Answer.{Answer}
+use Rattle.command_course.specs.Answers.{answer_of}
+use Rattle.command_course.specs.declared.answer.Answer.{Answer}
 use Rattle.rehearse_command.specs.Rehearsals.{CameToRehearsal, IsRehearsed}
 
 -- the run, once the script was read

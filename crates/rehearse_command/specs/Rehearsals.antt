@@ -27,9 +27,9 @@ use Rattle.lane_chart.specs.SvgText.{chart_svg}
 use Rattle.run_rehearsal.specs.Fates.{are_obeyed}
 use Rattle.run_rehearsal.specs.Merged.{merged_in}
 use Rattle.run_rehearsal.specs.RehearsalText.{rehearsal_text}
-use Rattle.look_course.specs.Answers.{AnswerView}
-use Rattle.look_course.specs.declared.answer.Ending.{Ending}
-use Rattle.look_course.specs.declared.answer.Ending.TheVariants as ending
+use Rattle.command_course.specs.Answers.{AnswerView}
+use Rattle.command_course.specs.declared.answer.Ending.{Ending}
+use Rattle.command_course.specs.declared.answer.Ending.TheVariants as ending
 
 -- ---- what is told of a run's events
 

@@ -2,17 +2,16 @@
 ghost use Rattle.command_course.specs.Feeds.{IsFed, feed_of};
 ghost use Rattle.command_course.specs.Steps.{OnlyReads, StopsOf};
 ghost use Rattle.rehearse_command.specs.Courses.{rehearse_course, rehearses, run_under};
-ghost use Rattle.look_course.specs.Answers.{answer_of};
+ghost use Rattle.command_course.specs.Answers.{answer_of};
 ghost use Rattle.rehearse_command.specs.Rehearsals.{CameToRehearsal, IsRehearsed};
 ghost use Rattle.std.specs.Prelude.{◌≡◌, ◌≤◌, IfErr, IfOk, option_map};
 ghost use Rattle.tuple_edge.specs.Limits.{max_threads};
 
 use crate::reporting::told_again;
-use command_course::{Feed, Stop, feed_at};
+use command_course::{Answer, Feed, Stop, feed_at};
 use failure_script::Script;
 use flux_outside::Files;
 use listed_run::run_and_list;
-use look_course::Answer;
 use partition_runner::Gate;
 use run_command::script_at;
 use std::alloc::Global;
@@ -21,7 +20,7 @@ use tuple_edge::OutOfMemory;
 
 /// What `rehearse` comes to: a plan is run by pairs on threads for its inputs, under the failure script, and of its events
 /// it is told what became of each order.
-#[tactic(auto, using(crate::proofs::Ways::reads_on, crate::proofs::Ways::reads_stopped))]
+#[tactic(auto, using(crate::proofs::Ways::reads_on, crate::proofs::Ways::reads_passed))]
 pub fn rehearse_report<R: Threads + Sync, F: Files, G: Gate>(
     rt: &R,
     alloc: Global,
@@ -41,14 +40,12 @@ pub fn rehearse_report<R: Threads + Sync, F: Files, G: Gate>(
     ensures stops { IfErr result (λ stop. StopsOf (F.told files.old) (F.told files.new) (rehearse_course plan.now trades.now script.now (option_map (λ n. n.now) cash.entry)) stop) }
     ensures reads { OnlyReads (F.told files.old) (F.told files.new) result }
 {
-    match feed_at(alloc, files, plan, trades, cash) {
-        Ok(feed) => fed_report(rt, alloc, files, &feed, script, threads, turns, svg, gate),
-        Err(stop) => Err(stop),
-    }
+    let feed = feed_at(alloc, files, plan, trades, cash)?;
+    fed_report(rt, alloc, files, &feed, script, threads, turns, svg, gate)
 }
 
 // The same, once plan, trades and movements were read.
-#[tactic(auto, using(crate::proofs::Ways::reads_then, crate::proofs::Ways::reads_stopped))]
+#[tactic(auto, using(crate::proofs::Ways::reads_then, crate::proofs::Ways::reads_passed))]
 fn fed_report<R: Threads + Sync, F: Files, G: Gate>(
     rt: &R,
     alloc: Global,
@@ -67,10 +64,8 @@ fn fed_report<R: Threads + Sync, F: Files, G: Gate>(
     ensures stops { IfErr result (λ stop. StopsOf (F.told files.old) (F.told files.new) (rehearses script.now (feed_of feed.now)) stop) }
     ensures reads { OnlyReads (F.told files.old) (F.told files.new) result }
 {
-    match script_at(alloc, files, &feed.plan, Some(script)) {
-        Ok(script) => scripted_report(rt, alloc, feed, &script, threads, turns, svg, gate),
-        Err(stop) => Err(stop),
-    }
+    let script = script_at(alloc, files, &feed.plan, Some(script))?;
+    scripted_report(rt, alloc, feed, &script, threads, turns, svg, gate)
 }
 
 // The same, once all inputs were read, where want of memory is why the command stops.
@@ -90,10 +85,8 @@ fn scripted_report<R: Threads + Sync, G: Gate>(
     ensures rehearsed { IfOk result (λ answer. IsRehearsed (run_under (feed_of feed.now) script.now) (option_map (λ n. n.now) svg.entry) (answer_of answer)) }
     ensures want { IfErr result (λ stop. stop ≡ Stop.OutOfMemory) }
 {
-    match rehearsed(rt, alloc, feed, script, threads, turns, svg, gate) {
-        Ok(answer) => Ok(answer),
-        Err(_) => Err(Stop::OutOfMemory),
-    }
+    let answer = rehearsed(rt, alloc, feed, script, threads, turns, svg, gate)?;
+    Ok(answer)
 }
 
 // Runs the plan, and tells of its events.

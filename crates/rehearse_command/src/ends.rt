@@ -6,10 +6,9 @@ ghost use Rattle.std.specs.Prelude.{◌≡◌, IfOk};
 ghost use Rattle.trade_text.specs.TradesView.{inputs_in};
 ghost use Rattle.tuple_edge.specs.declared.event.Drained.TheVariants as drained;
 
-use command_course::Feed;
+use command_course::{Ending, Feed};
 use evaluation::evaluate;
 use listed_run::Listed;
-use look_course::Ending;
 use run_end::RunEnd;
 use std::alloc::Global;
 use tuple_edge::{Drained, OutOfMemory};

@@ -5,7 +5,7 @@
 //! plan's output, or to the state in which a pair is the first lost one; that the picture which is saved is that of the
 //! same events; and that it says an order was obeyed just where these events obey it. It stands on `listed_run` for the
 //! run, on `run_watch` for what is told of its events, on `run_rehearsal`, `run_timeline` and `lane_chart` for what is
-//! written of that, on `command_course` and `run_command` for the inputs, and on `look_course` for the answer.
+//! written of that, on `command_course` and `run_command` for the inputs and the answer.
 #![tactic(auto)]
 
 mod command;

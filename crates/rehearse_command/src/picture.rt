@@ -1,12 +1,12 @@
 // The picture of a run that was watched.
 ghost use Rattle.lane_chart.specs.SvgText.{chart_svg};
-ghost use Rattle.look_course.specs.Answers.{saved_in};
+ghost use Rattle.command_course.specs.Answers.{saved_in};
 ghost use Rattle.rehearse_command.specs.Rehearsals.{saved_of};
 ghost use Rattle.run_timeline.specs.Timeline.{timeline};
 ghost use Rattle.std.specs.Prelude.{◌≡◌, false, IfOk, option_map, string_bytes};
 
+use command_course::Saved;
 use lane_chart::write_svg;
-use look_course::Saved;
 use plan_reader::Plan;
 use run_end::RunEnd;
 use run_timeline::chart_of;

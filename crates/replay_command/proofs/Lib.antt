@@ -1,3 +1,4 @@
+pub mod Answering
 pub mod EventFaults
 pub mod Following
 pub mod Ways

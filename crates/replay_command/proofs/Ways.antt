@@ -10,7 +10,7 @@ use Rattle.command_course.proofs.Courses.{came_is}
 use Rattle.flux_outside.specs.Told.{FilesTold}
 use Rattle.replay_command.specs.Ends.{StopsIn}
 use Rattle.command_course.proofs.Courses.{reads_judged}
-pub use Rattle.command_course.proofs.Courses.{err_on, ok_on, reads_on, reads_stopped}
+pub use Rattle.command_course.proofs.Courses.{err_on, ok_on, reads_on, reads_passed}
 
 -- it gives its text
 pub ok_here : (old new : FilesTold) (course between : Course) (result : Result (Vec ℕ Global) Stop) → Came old new course between

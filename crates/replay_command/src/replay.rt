@@ -25,7 +25,7 @@ use std::alloc::Global;
 use trade_text::Trades;
 
 /// The text that `replay` writes: that of the state which the events of a file reach from the opening of a plan.
-#[tactic(auto, using(crate::proofs::Ways::reads_on, crate::proofs::Ways::reads_stopped))]
+#[tactic(auto, using(crate::proofs::Ways::reads_on, crate::proofs::Ways::reads_passed))]
 pub fn replay_text<F: Files>(
     alloc: Global,
     files: &mut F,
@@ -38,14 +38,12 @@ pub fn replay_text<F: Files>(
     ensures stops { IfErr result (λ stop. StopsOf (F.told files.old) (F.told files.new) (replay_course plan.now trades.now events.now (option_map (λ name. name.now) cash.entry)) stop) }
     ensures reads { OnlyReads (F.told files.old) (F.told files.new) result }
 {
-    match feed_at(alloc, files, plan, trades, cash) {
-        Ok(feed) => fed_text(alloc, files, &feed, events),
-        Err(stop) => Err(stop),
-    }
+    let feed = feed_at(alloc, files, plan, trades, cash)?;
+    fed_text(alloc, files, &feed, events)
 }
 
 // The same, once all inputs but the events were read.
-#[tactic(auto, using(crate::proofs::Ways::reads_in, crate::proofs::Ways::reads_stopped))]
+#[tactic(auto, using(crate::proofs::Ways::reads_in, crate::proofs::Ways::reads_passed))]
 fn fed_text<F: Files>(
     alloc: Global,
     files: &mut F,
@@ -57,10 +55,8 @@ fn fed_text<F: Files>(
     ensures reads { OnlyReads (F.told files.old) (F.told files.new) result }
 {
     let file = EventsFile { plan: &feed.plan };
-    match input_at(alloc, files, events, &file) {
-        Ok(lines) => replayed(alloc, feed, events, &lines),
-        Err(stop) => Err(stop),
-    }
+    let lines = input_at(alloc, files, events, &file)?;
+    replayed(alloc, feed, events, &lines)
 }
 
 // The text of the state that events reach from the opening, or the refusal of the first one that is no step.

@@ -15,7 +15,7 @@ use Rattle.command_course.specs.Steps.{GivesBy, StopsOf}
 use Rattle.command_course.specs.declared.stop.Stop.{Stop}
 use Rattle.command_course.specs.declared.stop.Stop.TheVariants as stop
 use Rattle.command_course.proofs.Courses.{came_here, came_on, stops_on}
-pub use Rattle.command_course.proofs.Courses.{reads_none, reads_on, reads_stopped, reads_then}
+pub use Rattle.command_course.proofs.Courses.{reads_none, reads_on, reads_passed, reads_then}
 use Rattle.flux_outside.specs.Told.{FilesTold}
 use Rattle.run_command.specs.Courses.{run_of, runs, with_made}
 use Rattle.run_command.specs.Endings.{CameToRun, HasEnded, ending_of}

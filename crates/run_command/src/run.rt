@@ -18,7 +18,7 @@ use std::alloc::Global;
 use std::thread::Threads;
 
 /// What `run` comes to: a plan is run by pairs on threads for its inputs, under the failure script.
-#[tactic(auto, using(crate::proofs::Ways::reads_on, crate::proofs::Ways::reads_stopped))]
+#[tactic(auto, using(crate::proofs::Ways::reads_on, crate::proofs::Ways::reads_passed))]
 pub fn run_outcome<'a, R: Threads + Sync, F: Files, G: Gate>(
     rt: &R,
     alloc: Global,
@@ -33,14 +33,12 @@ pub fn run_outcome<'a, R: Threads + Sync, F: Files, G: Gate>(
     ensures stops { IfErr result (λ stop. StopsOf (F.told files.old) (F.told files.new) (run_course plan.now trades.now (options_in options.entry)) stop) }
     ensures reads { OnlyReads (F.told files.old) (F.told files.new) result }
 {
-    match feed_at(alloc, files, plan, trades, options.cash) {
-        Ok(feed) => fed_outcome(rt, alloc, files, &feed, options, false, gate),
-        Err(stop) => Err(stop),
-    }
+    let feed = feed_at(alloc, files, plan, trades, options.cash)?;
+    fed_outcome(rt, alloc, files, &feed, options, false, gate)
 }
 
 /// What a run comes to, once all inputs but the script were read.
-#[tactic(auto, using(crate::proofs::Ways::reads_then, crate::proofs::Ways::reads_stopped))]
+#[tactic(auto, using(crate::proofs::Ways::reads_then, crate::proofs::Ways::reads_passed))]
 pub(crate) fn fed_outcome<'a, R: Threads + Sync, F: Files, G: Gate>(
     rt: &R,
     alloc: Global,
@@ -56,10 +54,8 @@ pub(crate) fn fed_outcome<'a, R: Threads + Sync, F: Files, G: Gate>(
     ensures stops { IfErr result (λ stop. StopsOf (F.told files.old) (F.told files.new) (runs (options_in options.entry) is_summary (feed_of feed.now)) stop) }
     ensures reads { OnlyReads (F.told files.old) (F.told files.new) result }
 {
-    match script_at(alloc, files, &feed.plan, options.script) {
-        Ok(script) => ended(rt, alloc, feed, &script, options, is_summary, gate),
-        Err(stop) => Err(stop),
-    }
+    let script = script_at(alloc, files, &feed.plan, options.script)?;
+    ended(rt, alloc, feed, &script, options, is_summary, gate)
 }
 
 // The end of a run, where want of memory is why the command stops.
@@ -77,8 +73,6 @@ fn ended<'a, R: Threads + Sync, G: Gate>(
     ensures ended { IfOk result (λ outcome. HasEnded (run_of (options_in options.entry) is_summary (feed_of feed.now) script.now) outcome.drained (ending_of outcome)) }
     ensures want { IfErr result (λ stop. stop ≡ Stop.OutOfMemory) }
 {
-    match run_end(rt, alloc, feed, script, options, is_summary, gate) {
-        Ok(outcome) => Ok(outcome),
-        Err(_) => Err(Stop::OutOfMemory),
-    }
+    let outcome = run_end(rt, alloc, feed, script, options, is_summary, gate)?;
+    Ok(outcome)
 }

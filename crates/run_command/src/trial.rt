@@ -23,7 +23,7 @@ use trade_text::{Trades, read_trades};
 use tuple_edge::OutOfMemory;
 
 /// What `trial` comes to: a plan is run by pairs on threads for made trades, under the failure script.
-#[tactic(auto, using(crate::proofs::Ways::reads_on, crate::proofs::Ways::reads_stopped))]
+#[tactic(auto, using(crate::proofs::Ways::reads_on, crate::proofs::Ways::reads_passed))]
 pub fn trial_outcome<'a, R: Threads + Sync, F: Files, G: Gate>(
     rt: &R,
     alloc: Global,
@@ -41,10 +41,8 @@ pub fn trial_outcome<'a, R: Threads + Sync, F: Files, G: Gate>(
     ensures stops { IfErr result (λ stop. StopsOf (F.told files.old) (F.told files.new) (trial_course plan.now start count (options_in options.entry)) stop) }
     ensures reads { OnlyReads (F.told files.old) (F.told files.new) result }
 {
-    match plan_at(alloc, files, plan, options.cash) {
-        Ok(plan) => planned_outcome(rt, alloc, files, plan, start, count, options, gate),
-        Err(stop) => Err(stop),
-    }
+    let plan = plan_at(alloc, files, plan, options.cash)?;
+    planned_outcome(rt, alloc, files, plan, start, count, options, gate)
 }
 
 // What it comes to, once the plan was read.
@@ -66,10 +64,8 @@ fn planned_outcome<'a, R: Threads + Sync, F: Files, G: Gate>(
     ensures stops { IfErr result (λ stop. StopsOf (F.told files.old) (F.told files.new) (trial_with start count (options_in options.entry) plan) stop) }
     ensures reads { OnlyReads (F.told files.old) (F.told files.new) result }
 {
-    match made(alloc, start, count) {
-        Ok(trades) => made_outcome(rt, alloc, files, plan, trades, options, gate),
-        Err(_) => Err(Stop::OutOfMemory),
-    }
+    let trades = made(alloc, start, count)?;
+    made_outcome(rt, alloc, files, plan, trades, options, gate)
 }
 
 // The trades that are made from a number, as they are read. None of them is refused.
@@ -87,7 +83,7 @@ fn made(alloc: Global, start: u32, count: u32) -> Result<Trades, OutOfMemory>
 }
 
 // What it comes to, once the trades were made too.
-#[tactic(auto, using(crate::proofs::Ways::reads_on, crate::proofs::Ways::reads_stopped))]
+#[tactic(auto, using(crate::proofs::Ways::reads_on, crate::proofs::Ways::reads_passed))]
 fn made_outcome<'a, R: Threads + Sync, F: Files, G: Gate>(
     rt: &R,
     alloc: Global,
@@ -103,8 +99,6 @@ fn made_outcome<'a, R: Threads + Sync, F: Files, G: Gate>(
     ensures stops { IfErr result (λ stop. StopsOf (F.told files.old) (F.told files.new) (with_movements (options_in options.entry).cash plan trades (runs (options_in options.entry) true)) stop) }
     ensures reads { OnlyReads (F.told files.old) (F.told files.new) result }
 {
-    match movements_at(alloc, files, plan, trades, options.cash) {
-        Ok(feed) => fed_outcome(rt, alloc, files, &feed, options, true, gate),
-        Err(stop) => Err(stop),
-    }
+    let feed = movements_at(alloc, files, plan, trades, options.cash)?;
+    fed_outcome(rt, alloc, files, &feed, options, true, gate)
 }

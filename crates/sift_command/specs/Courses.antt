@@ -2,8 +2,8 @@
 use Rattle.std.specs.Prelude.{ℕ, List, Some}
 use Rattle.command_course.specs.Course.{Reading, Way, reads}
 use Rattle.command_course.specs.Lines.{or_line}
-use Rattle.look_course.specs.Answers.{AnswerView}
-use Rattle.look_course.specs.declared.answer.Ending.TheVariants.{Done}
+use Rattle.command_course.specs.Answers.{AnswerView}
+use Rattle.command_course.specs.declared.answer.Ending.TheVariants.{Done}
 use Rattle.trade_sift.specs.Sifted.{Parts, parted}
 use Rattle.trade_text.specs.Kinds.{trades_kind}
 use Rattle.trade_text.specs.Limits.{max_input_bytes}

@@ -2,7 +2,7 @@
 //! refuses.
 //!
 //! The clauses say which file is read, and that the two texts are those of its bytes. It stands on command_course for the
-//! reading, on trade_sift for the texts, and on look_course for the answer.
+//! reading, and on trade_sift for the texts.
 #![tactic(auto)]
 
 mod sift;

@@ -1,14 +1,13 @@
 // The command `sift`.
 ghost use Rattle.command_course.specs.Steps.{GivesBy, OnlyReads, StopsBy};
-ghost use Rattle.look_course.specs.Answers.{answer_of};
+ghost use Rattle.command_course.specs.Answers.{answer_of};
 ghost use Rattle.sift_command.specs.Courses.{parts_from, parts_way, sift_answer, sift_way};
 ghost use Rattle.std.specs.Prelude.{◌≡◌, IfErr, IfOk, string_bytes};
 ghost use Rattle.trade_sift.specs.Laws.{IsAccepted};
 ghost use Rattle.trade_text.specs.Limits.{max_input_bytes};
 
-use command_course::{Input, Stop, input_at, refused};
+use command_course::{Answer, Ending, Input, Saved, Stop, input_at, refused};
 use flux_outside::Files;
-use look_course::{Answer, Ending, Saved};
 use std::alloc::Global;
 use trade_sift::{Sifted, sift_trades};
 use trade_text::{MAX_INPUT_BYTES, TradeError};
@@ -80,7 +79,7 @@ fn answered(alloc: Global, rejects: &str, parts: Sifted) -> Result<Answer, Stop>
 
 /// What `sift` writes: the header and the records of a file of trades that `flux` accepts. The records that it refuses, each behind
 /// its line and why, are saved in a file of the name `rejects` before.
-#[tactic(auto, using(crate::proofs::Ways::reads_stopped, crate::proofs::Ways::reads_then))]
+#[tactic(auto, using(crate::proofs::Ways::reads_passed, crate::proofs::Ways::reads_then))]
 pub fn sift_report<F: Files>(
     alloc: Global,
     files: &mut F,
@@ -91,8 +90,6 @@ pub fn sift_report<F: Files>(
     ensures stops { IfErr result (λ stop. StopsBy (F.told files.old) (F.told files.new) (sift_way trades.now rejects.now) stop) }
     ensures reads { OnlyReads (F.told files.old) (F.told files.new) result }
 {
-    match sift_parts(alloc, files, trades) {
-        Ok(parts) => answered(alloc, rejects, parts),
-        Err(stop) => Err(stop),
-    }
+    let parts = sift_parts(alloc, files, trades)?;
+    answered(alloc, rejects, parts)
 }

@@ -9,8 +9,8 @@ use Rattle.command_course.specs.FeedView.{FeedView}
 use Rattle.command_course.specs.Feeds.{with_movements, with_plan}
 use Rattle.command_course.specs.Inputs.{trades_from}
 use Rattle.command_course.specs.Lines.{or_line}
-use Rattle.look_course.specs.Answers.{AnswerView, answer}
-use Rattle.look_course.specs.declared.answer.Ending.TheVariants.{Done}
+use Rattle.command_course.specs.Answers.{AnswerView, answer}
+use Rattle.command_course.specs.declared.answer.Ending.TheVariants.{Done}
 use Rattle.plan_reader.specs.PlanView.{PlanView}
 use Rattle.row_origin.specs.Origins.{only}
 use Rattle.row_reach.specs.Reach.{passages}

@@ -1,17 +1,16 @@
 // The command `trace`.
 ghost use Rattle.command_course.specs.Feeds.{feed_of};
 ghost use Rattle.command_course.specs.Steps.{GivesBy, OnlyReads, StopsBy};
-ghost use Rattle.look_course.specs.Answers.{answer, answer_of};
-ghost use Rattle.look_course.specs.declared.answer.Ending.TheVariants.{Done};
+ghost use Rattle.command_course.specs.Answers.{answer, answer_of};
+ghost use Rattle.command_course.specs.declared.answer.Ending.TheVariants.{Done};
 ghost use Rattle.std.specs.Prelude.{◌≡◌, IfErr, IfOk, false, option_map};
 ghost use Rattle.trace_command.specs.Courses.{behind_plan, lined_way, place_in, trace_way, traced};
 ghost use Rattle.trade_line.specs.Order.{spot_at};
 ghost use Rattle.trade_text.specs.TradesView.{inputs_in};
 
 use crate::lined::{LinedFile, LinedTrades};
-use command_course::{Feed, Stop, input_at, movements_at, plan_at};
+use command_course::{Answer, Ending, Feed, Stop, input_at, movements_at, plan_at};
 use flux_outside::Files;
-use look_course::{Answer, Ending};
 use plan_reader::Plan;
 use reach_finder::passages;
 use reach_text::{Question, write_trace};
@@ -20,7 +19,7 @@ use trade_line::{Spot, place_among, spot_at};
 use trade_text::Trades;
 
 /// What `trace` writes: what became of the trade that stands in a line of a file of trades.
-#[tactic(auto, using(crate::proofs::Ways::reads_on, crate::proofs::Ways::reads_stopped, crate::proofs::Ways::reads_then))]
+#[tactic(auto, using(crate::proofs::Ways::reads_on, crate::proofs::Ways::reads_passed, crate::proofs::Ways::reads_then))]
 pub fn trace_report<F: Files>(
     alloc: Global,
     files: &mut F,
@@ -33,14 +32,12 @@ pub fn trace_report<F: Files>(
     ensures stops { IfErr result (λ stop. StopsBy (F.told files.old) (F.told files.new) (trace_way plan.now trades.now line (option_map (λ name. name.now) cash.entry)) stop) }
     ensures reads { OnlyReads (F.told files.old) (F.told files.new) result }
 {
-    match plan_at(alloc, files, plan, cash) {
-        Ok(plan) => lined_report(alloc, files, plan, trades, line, cash),
-        Err(stop) => Err(stop),
-    }
+    let plan = plan_at(alloc, files, plan, cash)?;
+    lined_report(alloc, files, plan, trades, line, cash)
 }
 
 // The same behind the plan.
-#[tactic(auto, using(crate::proofs::Ways::reads_on, crate::proofs::Ways::reads_stopped, crate::proofs::Ways::reads_then))]
+#[tactic(auto, using(crate::proofs::Ways::reads_on, crate::proofs::Ways::reads_passed, crate::proofs::Ways::reads_then))]
 fn lined_report<F: Files>(
     alloc: Global,
     files: &mut F,
@@ -53,14 +50,12 @@ fn lined_report<F: Files>(
     ensures stops { IfErr result (λ stop. StopsBy (F.told files.old) (F.told files.new) (behind_plan trades.now line (option_map (λ name. name.now) cash.entry) plan) stop) }
     ensures reads { OnlyReads (F.told files.old) (F.told files.new) result }
 {
-    match input_at(alloc, files, trades, &LinedFile { line }) {
-        Ok(lined) => fed_report(alloc, files, plan, trades, line, lined, cash),
-        Err(stop) => Err(stop),
-    }
+    let lined = input_at(alloc, files, trades, &LinedFile { line })?;
+    fed_report(alloc, files, plan, trades, line, lined, cash)
 }
 
 // The same behind the trades.
-#[tactic(auto, using(crate::proofs::Ways::reads_on, crate::proofs::Ways::reads_stopped, crate::proofs::Ways::reads_then))]
+#[tactic(auto, using(crate::proofs::Ways::reads_on, crate::proofs::Ways::reads_passed, crate::proofs::Ways::reads_then))]
 fn fed_report<F: Files>(
     alloc: Global,
     files: &mut F,
@@ -76,10 +71,8 @@ fn fed_report<F: Files>(
     ensures reads { OnlyReads (F.told files.old) (F.told files.new) result }
 {
     let spot = spot_at(lined.trades.rows(), lined.place);
-    match movements_at(alloc, files, plan, lined.trades, cash) {
-        Ok(feed) => traced(alloc, name, line, &spot, &feed),
-        Err(stop) => Err(stop),
-    }
+    let feed = movements_at(alloc, files, plan, lined.trades, cash)?;
+    traced(alloc, name, line, &spot, &feed)
 }
 
 // Where a trade stands among the inputs.

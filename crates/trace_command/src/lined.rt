@@ -62,10 +62,8 @@ impl Input for LinedFile {
 
     #[tactic(auto, using(crate::proofs::Placing::lined_is, crate::proofs::Placing::lined_stops, crate::proofs::Placing::trades_stop))]
     fn value(&self, alloc: Global, name: &str, bytes: &[u8]) -> Result<LinedTrades, Stop> {
-        match TradesFile.value(alloc, name, bytes) {
-            Ok(trades) => lined_in(alloc, name, bytes, self.line, trades),
-            Err(stop) => Err(stop),
-        }
+        let trades = TradesFile.value(alloc, name, bytes)?;
+        lined_in(alloc, name, bytes, self.line, trades)
     }
 
     fn too_long(&self, alloc: Global, name: &str, seen: u64) -> Stop {

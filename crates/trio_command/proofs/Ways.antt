@@ -16,7 +16,7 @@ use Rattle.trio_core.specs.CoreView.{CoreView}
 use Rattle.trio_core.specs.CoreView.{inputs_of as inputs_of_core}
 use Rattle.trio_command.specs.Ends.{StopsHere}
 use Rattle.trio_command.specs.Courses.{not_for_trio_line, trio_plan, trio_trades}
-pub use Rattle.command_course.proofs.Courses.{err_on, ok_on, reads_judged, reads_on, reads_refused, reads_stopped, refused_here}
+pub use Rattle.command_course.proofs.Courses.{err_on, ok_on, reads_judged, reads_on, reads_passed, reads_refused, refused_here}
 pub use Rattle.trio_core.proofs.Acting.{if_err-map, if_ok-map}
 
 -- want of memory may stop a course anywhere

@@ -26,7 +26,7 @@ use trio_core::TrioCore;
 
 /// The text that `trio` writes: the groups of the state which the events of a file reach from the opening of a plan,
 /// how the drain from there ended, and the rows that were emitted then.
-#[tactic(auto, using(crate::proofs::Ways::reads_on, crate::proofs::Ways::reads_stopped))]
+#[tactic(auto, using(crate::proofs::Ways::reads_on, crate::proofs::Ways::reads_passed))]
 pub fn text_of_trio<F: Files>(
     alloc: Global,
     files: &mut F,
@@ -38,10 +38,8 @@ pub fn text_of_trio<F: Files>(
     ensures stops { IfErr result (λ stop. StopsOf (F.told files.old) (F.told files.new) (trio_course plan.now trades.now events.now) stop) }
     ensures reads { OnlyReads (F.told files.old) (F.told files.new) result }
 {
-    match input_at(alloc, files, plan, &PlanFile) {
-        Ok(it) => text_of_plan(alloc, files, plan, &it, trades, events),
-        Err(stop) => Err(stop),
-    }
+    let it = input_at(alloc, files, plan, &PlanFile)?;
+    text_of_plan(alloc, files, plan, &it, trades, events)
 }
 
 // The text, once the plan was read: it is to have one source.
@@ -66,7 +64,7 @@ fn text_of_plan<F: Files>(
 }
 
 // The text, once the plan was accepted.
-#[tactic(auto, using(crate::proofs::Ways::reads_on, crate::proofs::Ways::reads_stopped))]
+#[tactic(auto, using(crate::proofs::Ways::reads_on, crate::proofs::Ways::reads_passed))]
 fn text_of_trades<F: Files>(
     alloc: Global,
     files: &mut F,
@@ -79,14 +77,12 @@ fn text_of_trades<F: Files>(
     ensures stops { IfErr result (λ stop. StopsOf (F.told files.old) (F.told files.new) (trio_trades trades.now events.now plan.now) stop) }
     ensures reads { OnlyReads (F.told files.old) (F.told files.new) result }
 {
-    match input_at(alloc, files, trades, &TradesFile) {
-        Ok(trades) => text_of_events(alloc, files, plan, &trades, events),
-        Err(stop) => Err(stop),
-    }
+    let trades = input_at(alloc, files, trades, &TradesFile)?;
+    text_of_events(alloc, files, plan, &trades, events)
 }
 
 // The text, once the trades were read too.
-#[tactic(auto, using(crate::proofs::Ways::reads_stopped))]
+#[tactic(auto, using(crate::proofs::Ways::reads_passed))]
 fn text_of_events<F: Files>(
     alloc: Global,
     files: &mut F,
@@ -100,10 +96,8 @@ fn text_of_events<F: Files>(
     ensures stops { IfErr result (λ stop. StopsOf (F.told files.old) (F.told files.new) (trio_events events.now plan.now trades.now) stop) }
     ensures reads { OnlyReads (F.told files.old) (F.told files.new) result }
 {
-    match input_at(alloc, files, events, &EventsFile { plan }) {
-        Ok(lines) => text_along(alloc, plan, trades, events, &lines),
-        Err(stop) => Err(stop),
-    }
+    let lines = input_at(alloc, files, events, &EventsFile { plan })?;
+    text_along(alloc, plan, trades, events, &lines)
 }
 
 // The text of events from the opening on, or the refusal of the first one that is no step.
@@ -123,10 +117,8 @@ fn text_along(
 {
     // Asked only for what its contract says: trades are within their limits.
     let _rows = trades.rows();
-    match opened(alloc, plan, trades) {
-        Ok(mut core) => text_from(alloc, &mut core, trades, name, events),
-        Err(stop) => Err(stop),
-    }
+    let mut core = opened(alloc, plan, trades)?;
+    text_from(alloc, &mut core, trades, name, events)
 }
 
 // The nodes of a plan as they open, where want of memory is why the command stops.

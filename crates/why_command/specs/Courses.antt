@@ -6,8 +6,8 @@ use Rattle.trade_text.specs.Limits.{max_input_bytes, max_inputs}
 use Rattle.command_course.specs.Course.{Refuses, Way, reads}
 use Rattle.command_course.specs.Feeds.{with_plan}
 use Rattle.command_course.specs.Lines.{line_of}
-use Rattle.look_course.specs.Answers.{AnswerView, answer}
-use Rattle.look_course.specs.declared.answer.Ending.TheVariants.{Done}
+use Rattle.command_course.specs.Answers.{AnswerView, answer}
+use Rattle.command_course.specs.declared.answer.Ending.TheVariants.{Done}
 use Rattle.row_origin.specs.Origins.{StageOrigin}
 use Rattle.origin_text.specs.Text.{Asked, why_text}
 use Rattle.why_command.specs.Given.{no_cash, origins_for, question}

@@ -73,13 +73,9 @@ impl Input for KeptTradesFile {
 
     #[tactic(auto, using(crate::proofs::Readings::stops_with, crate::proofs::Readings::read_is))]
     fn value(&self, alloc: Global, name: &str, bytes: &[u8]) -> Result<KeptTrades, Stop> {
-        match TradesFile.value(alloc, name, bytes) {
-            Err(stop) => Err(stop),
-            Ok(trades) => {
-                let bytes = copied(alloc, bytes)?;
-                Ok(KeptTrades { trades, bytes })
-            }
-        }
+        let trades = TradesFile.value(alloc, name, bytes)?;
+        let bytes = copied(alloc, bytes)?;
+        Ok(KeptTrades { trades, bytes })
     }
 
     #[tactic(auto, using(crate::proofs::Readings::stops_with))]
@@ -103,13 +99,9 @@ impl Input for KeptCashFile {
 
     #[tactic(auto, using(crate::proofs::Readings::stops_with, crate::proofs::Readings::read_is))]
     fn value(&self, alloc: Global, name: &str, bytes: &[u8]) -> Result<KeptCash, Stop> {
-        match (CashFile { room: self.room }).value(alloc, name, bytes) {
-            Err(stop) => Err(stop),
-            Ok(cash) => {
-                let bytes = copied(alloc, bytes)?;
-                Ok(KeptCash { cash, bytes })
-            }
-        }
+        let cash = (CashFile { room: self.room }).value(alloc, name, bytes)?;
+        let bytes = copied(alloc, bytes)?;
+        Ok(KeptCash { cash, bytes })
     }
 
     #[tactic(auto, using(crate::proofs::Readings::stops_with))]

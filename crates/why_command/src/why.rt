@@ -1,7 +1,7 @@
 // The command `why`.
 ghost use Rattle.command_course.specs.Course.{Course};
 ghost use Rattle.command_course.specs.Steps.{GivesBy, IsRefusedBy, OnlyReads, StopsBy};
-ghost use Rattle.look_course.specs.Answers.{AnswerView, answer_of};
+ghost use Rattle.command_course.specs.Answers.{AnswerView, answer_of};
 ghost use Rattle.origin_text.specs.Text.{asked_in};
 ghost use Rattle.replay_command.specs.Ends.{StopsIn};
 ghost use Rattle.plan_reader.specs.PlanView.{IsStage};
@@ -13,9 +13,8 @@ ghost use Rattle.why_command.specs.Courses.{answers, is_row, movements_way, no_r
 ghost use Rattle.why_command.specs.Given.{no_cash, question};
 
 use crate::kept::{KeptCash, KeptCashFile, KeptTrades, KeptTradesFile};
-use command_course::{Stop, input_at, plan_at, refused};
+use command_course::{Answer, Ending, Stop, input_at, plan_at, refused};
 use flux_outside::Files;
-use look_course::{Answer, Ending};
 use origin_finder::{StageTold, origins_of};
 use origin_text::{InputFile, InputFiles, Question, write_why};
 use plan_reader::Plan;
@@ -170,10 +169,7 @@ fn explained<'a>(
         all: wanted.all,
         check: wanted.check,
     };
-    match answered(alloc, plan, &question, wanted.number) {
-        Ok(answer) => Ok(answer),
-        Err(stop) => Err(stop),
-    }
+    answered(alloc, plan, &question, wanted.number)
 }
 
 // The answer without movements.
@@ -221,10 +217,8 @@ fn of_movements<F: Files>(
     ensures reads { OnlyReads (F.told files.old) (F.told files.new) result }
 {
     let room = room_beside(&kept.trades);
-    match input_at(alloc, files, names.cash, &KeptCashFile { room }) {
-        Ok(movements) => explained(alloc, plan, names, kept, &movements, wanted),
-        Err(stop) => Err(stop),
-    }
+    let movements = input_at(alloc, files, names.cash, &KeptCashFile { room })?;
+    explained(alloc, plan, names, kept, &movements, wanted)
 }
 
 // Reads the movements where a file of them is named, and answers.
@@ -252,7 +246,7 @@ fn with_movements<F: Files>(
 }
 
 // Reads the trades and the movements for a plan, and answers.
-#[tactic(auto, using(crate::proofs::Ways::reads_on, crate::proofs::Ways::reads_stopped))]
+#[tactic(auto, using(crate::proofs::Ways::reads_on, crate::proofs::Ways::reads_passed))]
 fn of_plan<F: Files>(
     alloc: Global,
     files: &mut F,
@@ -265,14 +259,12 @@ fn of_plan<F: Files>(
     ensures stops { IfErr result (λ stop. StopsBy (F.told files.old) (F.told files.new) (trades_way trades.now (option_map (λ name. name.now) cash.entry) wanted plan.now) stop) }
     ensures reads { OnlyReads (F.told files.old) (F.told files.new) result }
 {
-    match input_at(alloc, files, trades, &KeptTradesFile) {
-        Ok(kept) => with_movements(alloc, files, plan, trades, cash, kept, wanted),
-        Err(stop) => Err(stop),
-    }
+    let kept = input_at(alloc, files, trades, &KeptTradesFile)?;
+    with_movements(alloc, files, plan, trades, cash, kept, wanted)
 }
 
 /// What `why` writes: how the row of a number came about among those that a plan gives for trades and movements.
-#[tactic(auto, using(crate::proofs::Ways::reads_on, crate::proofs::Ways::reads_stopped))]
+#[tactic(auto, using(crate::proofs::Ways::reads_on, crate::proofs::Ways::reads_passed))]
 pub fn why_report<F: Files>(
     alloc: Global,
     files: &mut F,
@@ -285,8 +277,6 @@ pub fn why_report<F: Files>(
     ensures stops { IfErr result (λ stop. StopsBy (F.told files.old) (F.told files.new) (why_way plan.now trades.now (option_map (λ name. name.now) cash.entry) wanted) stop) }
     ensures reads { OnlyReads (F.told files.old) (F.told files.new) result }
 {
-    match plan_at(alloc, files, plan, cash) {
-        Ok(plan) => of_plan(alloc, files, &plan, trades, cash, wanted),
-        Err(stop) => Err(stop),
-    }
+    let plan = plan_at(alloc, files, plan, cash)?;
+    of_plan(alloc, files, &plan, trades, cash, wanted)
 }

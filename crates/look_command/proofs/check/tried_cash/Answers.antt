@@ -1,4 +1,4 @@
-use Rattle.look_course.specs.Trying.{tried_of}
+use Rattle.look_command.specs.Trying.{tried_of}
 use Rattle.look_command.proofs.Cash.{unnamed_cash}
 use Rattle.look_command.proofs.check.tried_cash.Goals as goal
 

@@ -1,5 +1,5 @@
 use Rattle.std.proofs.Common.{◌∙◌, sym}
-use Rattle.look_course.specs.Trying.{tried_of}
+use Rattle.look_command.specs.Trying.{tried_of}
 use Rattle.look_command.proofs.Cash.{given_cash, refused_cash, short_cash, stopped_cash}
 use Rattle.look_command.proofs.check.tried_movements.Goals as goal
 

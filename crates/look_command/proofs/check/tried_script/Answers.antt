@@ -1,4 +1,4 @@
-use Rattle.look_course.proofs.Tries.{unnamed}
+use Rattle.look_command.proofs.Tries.{unnamed}
 use Rattle.look_command.proofs.check.tried_script.Goals as goal
 
 pub returns-in-Ok-clause-gives : goal.returns-in-Ok-clause-gives

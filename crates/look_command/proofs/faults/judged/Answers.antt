@@ -1,6 +1,6 @@
 use Rattle.std.proofs.Common.{◌∙◌, ap, sym}
 use Rattle.std.proofs.lemmas.Bool.{false≢true}
-use Rattle.look_course.specs.Trying.{named_of, tried_of}
+use Rattle.look_command.specs.Trying.{named_of, tried_of}
 use Rattle.look_command.specs.Check.{given_of, judged}
 use Rattle.look_command.proofs.Judged.{faults_told, judged_sound, ok_answer, refused_plan, sound_of}
 use Rattle.look_command.proofs.faults.judged.Goals as goal

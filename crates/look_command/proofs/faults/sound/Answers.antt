@@ -1,6 +1,6 @@
 use Rattle.std.proofs.Common.{ap, ◌∙◌}
 use Rattle.std.specs.Prelude.{string_bytes}
-use Rattle.look_course.specs.Answers.{answer}
+use Rattle.command_course.specs.Answers.{answer}
 use Rattle.look_command.proofs.Judged.{sound_is}
 use Rattle.look_command.proofs.faults.sound.Goals as goal
 

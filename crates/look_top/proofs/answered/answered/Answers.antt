@@ -1,7 +1,7 @@
 use Rattle.std.proofs.Common.{◌∙◌, Err, ap, map, option_map, refl, string_bytes, sym}
 use Rattle.command_course.specs.declared.stop.Stop.TheVariants as stop
 use Rattle.command_course.proofs.Courses.{reads_nothing}
-use Rattle.look_course.specs.declared.answer.Answer.{Answer}
+use Rattle.command_course.specs.declared.answer.Answer.{Answer}
 use Rattle.look_words.specs.Forms.{request_of}
 use Rattle.look_top.specs.Asked.{task_of}
 use Rattle.look_top.specs.Lines.{name}

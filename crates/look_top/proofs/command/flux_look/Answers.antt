@@ -1,5 +1,5 @@
 use Rattle.std.proofs.Common.{◌∙◌, ⊎_elim, inl, inr, map, refl, string_bytes, subst, sym}
-use Rattle.look_course.specs.declared.answer.Ending.{Ending}
+use Rattle.command_course.specs.declared.answer.Ending.{Ending}
 use Rattle.flux_top.proofs.Stopping.{differ}
 use Rattle.look_top.specs.Clauses.{IsComplete, SaysAt, StaysAt, WritesWhole}
 use Rattle.look_top.specs.Stops.{StopsTo}

@@ -7,8 +7,8 @@ use Rattle.plan_reader.specs.PlanView.{IsStage}
 use Rattle.plan_reader.specs.declared.stage.Stage.{Stage}
 use Rattle.trade_text.specs.TradesView.{inputs_in}
 use Rattle.trade_text.proofs.Sources.{rows_paired}
-use Rattle.look_course.specs.Answers.{answer}
-use Rattle.look_course.specs.declared.answer.Ending.TheVariants.{Done}
+use Rattle.command_course.specs.Answers.{answer}
+use Rattle.command_course.specs.declared.answer.Ending.TheVariants.{Done}
 use Rattle.row_origin.specs.Origins.{only}
 use Rattle.row_reach.specs.Reach.{passages}
 use Rattle.reach_finder.specs.Found.{passage_of}

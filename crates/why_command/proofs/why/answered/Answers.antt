@@ -6,7 +6,7 @@ use Rattle.plan_reader.specs.declared.stage.Stage.{Stage}
 use Rattle.trade_text.specs.TradesView.{TradesView, inputs_in}
 use Rattle.trade_text.proofs.Sources.{rows_paired}
 use Rattle.command_course.specs.Course.{Course}
-use Rattle.look_course.specs.Answers.{AnswerView, answer_of}
+use Rattle.command_course.specs.Answers.{AnswerView, answer_of}
 use Rattle.replay_command.specs.Ends.{StopsIn}
 use Rattle.row_origin.specs.Origins.{StageOrigin, origins}
 use Rattle.origin_text.specs.Text.{asked_in}

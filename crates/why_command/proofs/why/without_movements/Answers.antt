@@ -1,7 +1,7 @@
 use Rattle.std.proofs.Common.{◌≡◌, [], subst}
 use Rattle.std.specs.Prelude.{IfErr, IfOk}
 use Rattle.command_course.specs.Course.{Course}
-use Rattle.look_course.specs.Answers.{AnswerView, answer_of}
+use Rattle.command_course.specs.Answers.{AnswerView, answer_of}
 use Rattle.replay_command.specs.Ends.{StopsIn}
 use Rattle.why_command.specs.Courses.{answers}
 use Rattle.why_command.specs.Given.{no_cash, question}

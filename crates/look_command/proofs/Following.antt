@@ -23,9 +23,9 @@ use Rattle.replay_command.specs.Courses.{writes_state}
 use Rattle.replay_command.specs.Ends.{StopsIn}
 use Rattle.replay_command.specs.Replaying.{RefusedAt, error_text}
 use Rattle.replay_command.proofs.Following.{all_replayed, replays_refused}
-use Rattle.look_course.specs.Answers.{AnswerView, answer}
-use Rattle.look_course.specs.declared.answer.Ending.TheVariants.{Done}
-use Rattle.look_course.specs.Reports.{Telling, tells, tells_lines}
+use Rattle.command_course.specs.Answers.{AnswerView, answer}
+use Rattle.command_course.specs.declared.answer.Ending.TheVariants.{Done}
+use Rattle.look_command.specs.Reports.{Telling, tells, tells_lines}
 
 writes_no_refusal : (text line : List ℕ) → Writes text ≡ Refuses line → ⊥
 writes_no_refusal text line e = cc

@@ -1,10 +1,10 @@
 -- What a command of `flux_look` comes to.
 use Rattle.std.specs.Prelude.{ℕ, List, None, Option, option_map}
 use Rattle.std.specs.String.{string_bytes}
-use Rattle.look_course.specs.declared.answer.Answer.{Answer}
-use Rattle.look_course.specs.declared.answer.Ending.{Ending}
-use Rattle.look_course.specs.declared.answer.Ending.TheVariants.{Done, Faulty, Lost, Warned}
-use Rattle.look_course.specs.declared.answer.Saved.{Saved}
+use Rattle.command_course.specs.declared.answer.Answer.{Answer}
+use Rattle.command_course.specs.declared.answer.Ending.{Ending}
+use Rattle.command_course.specs.declared.answer.Ending.TheVariants.{Done, Faulty, Lost, Warned}
+use Rattle.command_course.specs.declared.answer.Saved.{Saved}
 
 -- what a command writes, how it ends then, and the file that it saves before: its name and its bytes
 pub record AnswerView : Type 0 where

@@ -10,10 +10,10 @@ use Rattle.command_course.specs.FeedView.{FeedView}
 use Rattle.command_course.specs.Lines.{line_of}
 use Rattle.replay_command.specs.Courses.{events_from, flow_for}
 use Rattle.replay_command.specs.Replaying.{RefusedAt, refused_text, replayed}
-use Rattle.look_course.specs.Answers.{AnswerView, answer}
-use Rattle.look_course.specs.declared.answer.Ending.TheVariants.{Done}
-use Rattle.look_course.specs.declared.report.ReportError.{ReportError}
-use Rattle.look_course.specs.declared.report.ReportError.TheVariants as error
+use Rattle.command_course.specs.Answers.{AnswerView, answer}
+use Rattle.command_course.specs.declared.answer.Ending.TheVariants.{Done}
+use Rattle.look_command.specs.declared.report.ReportError.{ReportError}
+use Rattle.look_command.specs.declared.report.ReportError.TheVariants as error
 
 -- the text of what a plan is fed with, of events, and of the state that they reach
 abbrev pub Telling : Type 0

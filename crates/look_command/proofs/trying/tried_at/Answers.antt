@@ -1,7 +1,7 @@
 use Rattle.std.proofs.Common.{Ok}
 use Rattle.command_course.proofs.Courses.{stops_unread, stops_want}
-use Rattle.look_course.proofs.Tries.{tried_long, tried_whole}
-use Rattle.look_course.proofs.trying.tried_at.Goals as goal
+use Rattle.look_command.proofs.Tries.{tried_long, tried_whole}
+use Rattle.look_command.proofs.trying.tried_at.Goals as goal
 
 pub returns-in-Err-Failed-clause-stops : goal.returns-in-Err-Failed-clause-stops
 returns-in-Err-Failed-clause-stops g c =

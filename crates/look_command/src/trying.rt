@@ -1,7 +1,7 @@
 // The reading of a file, whatever it says.
 ghost use Rattle.command_course.specs.Lines.{cannot_read_line};
 ghost use Rattle.command_course.specs.Steps.{GivesBy, IsUnreadBy, OnlyReads, StopsBy};
-ghost use Rattle.look_course.specs.Trying.{IsTried, named_of, tried_of, tries, tries_named};
+ghost use Rattle.look_command.specs.Trying.{IsTried, named_of, tried_of, tries, tries_named};
 ghost use Rattle.std.specs.Prelude.{IfErr, IfOk, option_map};
 
 use command_course::{Input, Stop, refused};
@@ -10,7 +10,7 @@ use std::alloc::Global;
 
 /// Reads a file of a kind, and gives what it says, or the line of its fault.
 #[tactic(auto, using(crate::proofs::Tries::tried_whole, crate::proofs::Tries::tried_long, crate::proofs::Tries::untried_whole, crate::proofs::Tries::untried_long))]
-pub fn tried_at<F: Files, I: Input>(
+pub(crate) fn tried_at<F: Files, I: Input>(
     alloc: Global,
     files: &mut F,
     name: &str,
@@ -29,8 +29,8 @@ pub fn tried_at<F: Files, I: Input>(
     }
 }
 
-/// What was read, where a refusal is a fault and no reason to stop.
-pub fn tried<T>(read: Result<T, Stop>) -> Result<Result<T, String>, Stop>
+// What was read, where a refusal is a fault and no reason to stop.
+fn tried<T>(read: Result<T, Stop>) -> Result<Result<T, String>, Stop>
     ensures { IsTried read result }
 {
     match read {
@@ -41,8 +41,8 @@ pub fn tried<T>(read: Result<T, Stop>) -> Result<Result<T, String>, Stop>
 }
 
 /// Reads a file of a kind where it is named, and gives what it says, or the line of its fault.
-#[tactic(auto, using(crate::proofs::Ways::reads_none, crate::proofs::Ways::reads_stopped, crate::proofs::Ways::reads_then))]
-pub fn tried_if_named<F: Files, I: Input>(
+#[tactic(auto, using(crate::proofs::Ways::reads_none, crate::proofs::Ways::reads_passed, crate::proofs::Ways::reads_then))]
+pub(crate) fn tried_if_named<F: Files, I: Input>(
     alloc: Global,
     files: &mut F,
     name: Option<&str>,
@@ -54,10 +54,10 @@ pub fn tried_if_named<F: Files, I: Input>(
 {
     match name {
         None => Ok(None),
-        Some(name) => match tried_at(alloc, files, name, input) {
-            Ok(tried) => Ok(Some(tried)),
-            Err(stop) => Err(stop),
-        },
+        Some(name) => {
+            let tried = tried_at(alloc, files, name, input)?;
+            Ok(Some(tried))
+        }
     }
 }
 

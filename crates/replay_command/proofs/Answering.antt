@@ -1,18 +1,16 @@
--- A way that reads nothing more, behind the readings before it.
+-- A way to an answer that reads nothing more, behind the readings before it.
 use Rattle.std.proofs.Common.{ℕ, ◌≡◌, [], Ok, Err, refl}
 use Rattle.std.specs.Prelude.{IfErr, IfOk, Result}
 use Rattle.command_course.specs.Course.{Came, Course, Way, Writes}
 use Rattle.command_course.specs.Steps.{GivesBy, HasReadCause, OnlyReads, StopsBy}
 use Rattle.command_course.specs.declared.stop.Stop.{Stop}
 use Rattle.command_course.specs.declared.stop.Stop.TheVariants as stop
-use Rattle.command_course.proofs.Courses.{came_is}
+use Rattle.command_course.specs.Answers.{AnswerView, answer_of}
+use Rattle.command_course.specs.declared.answer.Answer.{Answer}
+use Rattle.command_course.proofs.Courses.{came_is, reads_judged}
 use Rattle.flux_outside.specs.Told.{FilesTold}
 use Rattle.replay_command.specs.Ends.{StopsIn}
 use Rattle.replay_command.proofs.Ways.{err_here}
-use Rattle.look_course.specs.Answers.{AnswerView, answer_of}
-use Rattle.look_course.specs.declared.answer.Answer.{Answer}
-use Rattle.command_course.proofs.Courses.{reads_judged}
-pub use Rattle.command_course.proofs.Courses.{reads_none, reads_stopped, reads_then}
 
 -- a way that reads nothing more gives its answer, or stops
 module _ (old new : FilesTold) (way between : Way AnswerView) (came : (next : AnswerView → Course) → Came old new (way next) (between next)) where

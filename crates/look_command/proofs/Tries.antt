@@ -9,7 +9,7 @@ use Rattle.command_course.specs.declared.stop.Stop.TheVariants as stop
 use Rattle.flux_outside.specs.Outside.{Adds, Call, IsHeld, IsRead, Joins, Read}
 use Rattle.flux_outside.specs.Told.{FilesTold}
 use Rattle.flux_outside.specs.declared.outside.Got.TheVariants as got
-use Rattle.look_course.specs.Trying.{IsTried, Named, tried_of, tries}
+use Rattle.look_command.specs.Trying.{IsTried, Named, tried_of, tries}
 use Rattle.command_course.proofs.Courses.{came_here}
 
 adds_one : (old new : Option (List Call)) (call : Call) → Joins old new call true → Adds old new (call ∷ [])

@@ -4,8 +4,8 @@ use Rattle.pair_machine.specs.Machine.{State}
 use Rattle.command_course.specs.Feeds.{feed_of}
 use Rattle.flux_core.specs.Follows.{IsFollowed, IsStopped, events_of}
 use Rattle.flux_core.specs.Stands.{StandsFor}
-use Rattle.look_course.proofs.Following.{tells_refused, tells_whole}
-use Rattle.look_course.proofs.report.applied.Goals as goal
+use Rattle.look_command.proofs.Following.{tells_refused, tells_whole}
+use Rattle.look_command.proofs.report.applied.Goals as goal
 
 pub returns-in-Ok-clause-text : goal.returns-in-Ok-clause-text
 returns-in-Ok-clause-text g c =

@@ -6,15 +6,14 @@ ghost use Rattle.command_course.specs.Steps.{GivesBy, OnlyReads, StopsBy};
 ghost use Rattle.flux_core.specs.CoreView.{inputs_of};
 ghost use Rattle.flux_core.specs.Follows.{AreNamed, IsFollowed, events_of};
 ghost use Rattle.flux_core.specs.Stands.{IsCore, StandsFor};
-ghost use Rattle.look_course.specs.Answers.{AnswerView, answer_of};
-ghost use Rattle.look_course.specs.Reports.{HasEnded, reports, tells_lines};
+ghost use Rattle.command_course.specs.Answers.{AnswerView, answer_of};
+ghost use Rattle.look_command.specs.Reports.{HasEnded, reports, tells_lines};
 ghost use Rattle.pair_machine.specs.Machine.{State, opening};
 ghost use Rattle.replay_command.specs.Ends.{StopsIn};
 ghost use Rattle.std.specs.Prelude.{◌≡◌, ℕ, List, true, IfErr, IfOk, OnOk};
 ghost use Rattle.trade_text.specs.TradesView.{inputs_in};
 
-use crate::{Answer, Ending};
-use command_course::{Feed, Stop, input_at};
+use command_course::{Answer, Ending, Feed, Stop, input_at};
 use flux_core::{Core, Stopped};
 use flux_outside::Files;
 use replay_command::{Events, EventsFile, refused_event};
@@ -23,7 +22,7 @@ use std::alloc::Global;
 
 /// Why a report ends early.
 #[derive(Clone, Copy, Debug, PartialEq, Eq)]
-pub enum ReportError {
+pub(crate) enum ReportError {
     /// An event is no step: those before it are applied.
     Stopped(Stopped),
     /// No memory was to be had.
@@ -31,7 +30,7 @@ pub enum ReportError {
 }
 
 /// A kind of report of a run: the text that it makes of the events.
-pub trait Report {
+pub(crate) trait Report {
     ghost use Rattle.run_journal.specs.declared.lined.Lined.{Lined};
 
     /// The text of what a plan is fed with, of events, and of the state that they reach.
@@ -58,8 +57,8 @@ pub trait Report {
 }
 
 /// Reads a list of events, and gives what a report tells of them.
-#[tactic(auto, using(crate::proofs::Ways::reads_answered, crate::proofs::Ways::reads_stopped))]
-pub fn reported_at<F: Files, R: Report>(
+#[tactic(auto, using(crate::proofs::Ways::reads_answered, crate::proofs::Ways::reads_passed))]
+pub(crate) fn reported_at<F: Files, R: Report>(
     alloc: Global,
     files: &mut F,
     feed: &Feed,
@@ -71,10 +70,8 @@ pub fn reported_at<F: Files, R: Report>(
     ensures reads { OnlyReads (F.told files.old) (F.told files.new) result }
 {
     let file = EventsFile { plan: &feed.plan };
-    match input_at(alloc, files, events, &file) {
-        Ok(lines) => reported(alloc, feed, events, &lines, report),
-        Err(stop) => Err(stop),
-    }
+    let lines = input_at(alloc, files, events, &file)?;
+    reported(alloc, feed, events, &lines, report)
 }
 
 // What is told of events from the opening on, or the refusal of the first one that is no step.
