@@ -11,7 +11,7 @@ use Rattle.tuple_edge.specs.declared.node.Which.{Which}
 use Rattle.tuple_edge.specs.declared.node.Which.TheVariants.{A, B}
 use Rattle.tuple_edge.specs.declared.status.Status.TheVariants as status
 use Rattle.tuple_edge.specs.Node.{part_of}
-pub use Rattle.tuple_edge.specs.Node.{partner_node}
+pub use Rattle.tuple_edge.specs.Node.{at_node, partner_node}
 use Rattle.pair_machine.specs.Numbers.{Producer, Consumer, RunningNumbers, Replica, Gone, Running, Gathering, Watched, Controller, Ingress, Node, IngressNode, ReplicaNode, ControllerNode, EgressNode, Partition, is_node}
 use Rattle.pair_machine.specs.Messages.{Message, Envelope, Act, Takes, Works, Makes, Dies, AsksStop, AsksBack, Pulls, Refusal, NotSent, NothingDue, NotRunning, NotHeld}
 use Rattle.pair_machine.specs.Flow.{Flow}
@@ -130,16 +130,6 @@ does f (node.Control s p) a n = controller_does f (record { stage = s; part = p 
 does f node.Egress a n = as_egress (egress_does f a (egress_in n))
 
 -- ---- what an event asks of its node
-
--- the one node that a step changes
-abbrev pub at_node : Event → NodeId
-at_node (event.Take l k) = l.to
-at_node (event.Work n) = n
-at_node event.Make = node.Ingress
-at_node (event.Kill n) = n
-at_node (event.AskStop n) = n
-at_node (event.AskBack n) = partner_node n
-at_node (event.Pull from to) = to
 
 -- what stands at a place, from 1
 abbrev pub nth_from_one : {X : Type 0} → List X → ℕ → Option X

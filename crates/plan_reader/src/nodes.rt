@@ -1,7 +1,8 @@
 // The nodes of a plan, and the links between them.
 ghost use Rattle.std.specs.Prelude.{◌≡◌, ◌≤◌, ◌+◌, length};
+ghost use Rattle.plan_reader.specs.PlanView.{IsPlan};
 ghost use Rattle.tuple_edge.specs.declared.node.NodeId.TheVariants as node;
-ghost use Rattle.plan_reader.specs.Nodes.{carries_any, has_edge, has_link, has_node, has_pair, has_replica, names_event, sources_of};
+ghost use Rattle.plan_reader.specs.Nodes.{carries_any, has_edge, has_link, has_node, has_pair, has_replica, names_event, parts_of, sources_of};
 
 use crate::Plan;
 use tuple_edge::{Event, LinkId, NodeId, Which};
@@ -22,15 +23,32 @@ impl Plan {
         }
     }
 
+    /// How many stages the plan has: 1 to [`MAX_STAGES`](crate::MAX_STAGES).
+    pub fn stage_count(&self) -> u32
+        ensures value { result ≡ length self.now.stages }
+        ensures limits { IsPlan self.now }
+    {
+        self.stages().len() as u32
+    }
+
+    /// In how many partitions a stage runs. They are the sources of the next stage, or of egress.
+    pub fn parts(&self, stage: u32) -> u32
+        requires low { 1 ≤ stage }
+        requires high { stage ≤ length self.now.stages }
+        ensures value { result ≡ parts_of self.now stage }
+        ensures sources { result ≡ sources_of self.now (stage + 1) }
+    {
+        self.stages()[stage as usize - 1].parts
+    }
+
     // Whether a pair runs this partition of this stage.
     fn has_pair(&self, stage: u32, part: u32) -> bool
         ensures { result ≡ has_pair self.now stage part }
     {
-        let stages = self.stages();
-        if stage == 0 || stage as usize > stages.len() {
+        if stage == 0 || stage > self.stage_count() {
             return false;
         }
-        part < stages[stage as usize - 1].parts
+        part < self.parts(stage)
     }
 
     /// Whether the plan has this node: ingress, for each partition of each stage two replicas and a

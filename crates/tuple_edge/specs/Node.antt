@@ -1,7 +1,9 @@
--- Nodes: partners, and their order.
+-- Nodes: partners, the node of an event, and their order.
 use Rattle.std.specs.Prelude.{ℕ}
 use Rattle.std.specs.declared.cmp.Ordering.{Ordering}
 use Rattle.std.specs.Ordering.{nat_cmp, on, then_cmp}
+use Rattle.tuple_edge.specs.declared.event.Event.{Event}
+use Rattle.tuple_edge.specs.declared.event.Event.TheVariants as event
 use Rattle.tuple_edge.specs.declared.node.Which.{Which}
 use Rattle.tuple_edge.specs.declared.node.Which.TheVariants as which
 use Rattle.tuple_edge.specs.declared.node.NodeId.{NodeId}
@@ -18,6 +20,16 @@ partner_node node.Ingress = node.Ingress
 partner_node (node.Replica stage part which) = node.Replica stage part (other which)
 partner_node (node.Control stage part) = node.Control stage part
 partner_node node.Egress = node.Egress
+
+-- the one node that an event changes
+abbrev pub at_node : Event → NodeId
+at_node (event.Take l k) = l.to
+at_node (event.Work n) = n
+at_node event.Make = node.Ingress
+at_node (event.Kill n) = n
+at_node (event.AskStop n) = n
+at_node (event.AskBack n) = partner_node n
+at_node (event.Pull from to) = to
 
 -- ingress, then the pairs, then egress
 abbrev pub group_of : NodeId → ℕ

@@ -1,4 +1,7 @@
 // What happens at the nodes of a run.
+ghost use Rattle.std.specs.Prelude.{◌≡◌};
+ghost use Rattle.tuple_edge.specs.Node.{at_node};
+
 use crate::{LinkId, NodeId};
 
 /// One step at one node.
@@ -18,6 +21,21 @@ pub enum Event {
     AskBack { node: NodeId },
     /// The next item of an edge goes straight from one node's buffer to another node.
     Pull { from: NodeId, to: NodeId },
+}
+
+impl Event {
+    /// The node at which it is: the one that it changes.
+    pub fn node(&self) -> NodeId
+        ensures { result ≡ at_node self.now }
+    {
+        match *self {
+            Event::Take { link, .. } => link.to,
+            Event::Work { node } | Event::Kill { node } | Event::AskStop { node } => node,
+            Event::Make => NodeId::Ingress,
+            Event::AskBack { node } => node.partner(),
+            Event::Pull { to, .. } => to,
+        }
+    }
 }
 
 /// An event with its node's clock.
