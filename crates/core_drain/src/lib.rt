@@ -11,4 +11,5 @@ mod serving;
 mod turn;
 
 pub use draining::drain;
+pub use serving::first_lost;
 pub use tuple_edge::Drained;

@@ -5,23 +5,13 @@ ghost use Rattle.flux_core.specs.Stands.{StandsFor};
 ghost use Rattle.pair_machine.specs.Drain.{drainer, first_lost, is_lost, is_serving, pairs_up_to, partition, parts_below};
 ghost use Rattle.pair_machine.specs.Machine.{State};
 ghost use Rattle.pair_machine.specs.Pairs.{side_of};
-ghost use Rattle.plan_reader.specs.Nodes.{has_pair, parts_of};
+ghost use Rattle.plan_reader.specs.Nodes.{has_pair};
 ghost use Rattle.std.specs.Option.{option_map};
 ghost use Rattle.std.specs.Prelude.{◌≡◌, ◌≤◌, ◌+◌, ℕ, IsTrue, length};
 
 use flux_core::Core;
 use replica_node::Mode;
 use tuple_edge::Which;
-
-// The number of partitions of a stage: they are the sources of the next one, or of egress.
-pub(crate) fn parts(core: &Core, stage: u32) -> u32
-    requires first { 1 ≤ stage }
-    requires last { stage ≤ length core.now.plan.stages }
-    ensures { result ≡ parts_of core.now.plan stage }
-{
-    core.known();
-    core.plan().sources(stage + 1)
-}
 
 // Whether a replica of this mode runs.
 fn runs(mode: Mode) -> bool
@@ -72,7 +62,7 @@ fn first_lost_of(core: &Core, stage: u32) -> Option<u32>
     ensures { (s : State) → StandsFor core.now s
         → option_map (λ part. partition stage part) result ≡ first_lost s (parts_below stage ((flow_in core.now).sources (stage + 1))) }
 {
-    let parts = parts(core, stage);
+    let parts = core.plan().parts(stage);
     for part in 0..parts {
         if is_lost(core, stage, part) {
             return Some(part);
@@ -81,12 +71,12 @@ fn first_lost_of(core: &Core, stage: u32) -> Option<u32>
     None
 }
 
-// The stage and the partition of the first lost pair.
-pub(crate) fn first_lost(core: &Core) -> Option<(u32, u32)>
+/// The stage and the partition of the first lost pair, in the order of the nodes: no replica of it runs and is counted by its controller.
+pub fn first_lost(core: &Core) -> Option<(u32, u32)>
     ensures { (s : State) → StandsFor core.now s
         → option_map (λ (p : ℕ × ℕ). partition p.0 p.1) result ≡ first_lost s (pairs_up_to (flow_in core.now) (flow_in core.now).stages) }
 {
-    for before in 0..core.plan().stages().len() as u32 {
+    for before in 0..core.plan().stage_count() {
         let stage = before + 1;
         if let Some(part) = first_lost_of(core, stage) {
             return Some((stage, part));

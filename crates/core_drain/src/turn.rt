@@ -6,7 +6,7 @@ ghost use Rattle.std.specs.Prelude.{◌≡◌, ◌≤◌, ◌+◌, ◌++◌, [],
 ghost use Rattle.tuple_edge.specs.declared.node.NodeId.TheVariants as node;
 
 use crate::next::repeat;
-use crate::serving::{drainer, parts};
+use crate::serving::drainer;
 use event_log::EventBlocks;
 use flux_core::Core;
 use tuple_edge::{Event, NodeId, OutOfMemory};
@@ -116,7 +116,7 @@ fn drain_stage(core: &mut Core, events: &mut EventBlocks, stage: u32) -> Result<
     ensures keeps { Keeps core.old core.new }
 {
     core.known();
-    let parts = parts(core, stage);
+    let parts = core.plan().parts(stage);
     for part in 0..parts {
         drain_pair(core, events, stage, part)?;
     }
@@ -147,7 +147,7 @@ pub(crate) fn drain_all(core: &mut Core, events: &mut EventBlocks) -> Result<(),
         → IsWithin b core.new events.new.events) }
     ensures keeps { Keeps core.old core.new }
 {
-    let stages = core.plan().stages().len() as u32;
+    let stages = core.plan().stage_count();
     repeat(core, events, Event::Make)?;
     drain_stages(core, events, stages)?;
     drain_into(core, events, NodeId::Egress, stages + 1)

@@ -6,7 +6,7 @@ ghost use Rattle.flux_core.specs.Promises.{EmitsAFront, HoldsWhatIsOwed, MergesI
 ghost use Rattle.flux_core.specs.Refusals.{IsRefusal};
 ghost use Rattle.flux_core.specs.Stands.{IsCore, StandsFor};
 ghost use Rattle.flux_core.specs.Steps.{IsApplied, IsTaskOf, MayApply};
-ghost use Rattle.pair_machine.specs.Machine.{State, act_of, at_node, step};
+ghost use Rattle.pair_machine.specs.Machine.{State, act_of, step};
 ghost use Rattle.plan_reader.specs.Nodes.{has_link, names_event};
 ghost use Rattle.std.specs.Prelude.{◌≡◌, true, IfErr, IfOk, IsTrue, OnErr, OnOk};
 ghost use Rattle.tuple_edge.specs.declared.event.Event.TheVariants as event;
@@ -17,7 +17,7 @@ use crate::nodes::Core;
 use crate::station::{act_at, taken_at};
 use node_tasks::Task;
 use run_journal::Lined;
-use tuple_edge::{Event, LinkId, NodeId};
+use tuple_edge::{Event, LinkId};
 
 /// Where a list of events stopped: at an event that is no step, with its line.
 #[derive(Clone, Copy, Debug, PartialEq, Eq)]
@@ -26,19 +26,6 @@ pub struct Stopped {
     pub line: u64,
     /// Why it is no step.
     pub error: ApplyError,
-}
-
-// The one node that an event changes.
-fn node_of(event: &Event) -> NodeId
-    ensures { result ≡ at_node event.now }
-{
-    match *event {
-        Event::Take { link, .. } => link.to,
-        Event::Work { node } | Event::Kill { node } | Event::AskStop { node } => node,
-        Event::Make => NodeId::Ingress,
-        Event::AskBack { node } => node.partner(),
-        Event::Pull { to, .. } => to,
-    }
 }
 
 impl Core {
@@ -133,7 +120,7 @@ impl Core {
         ensures unchanged { OnErr result (self.new ≡ self.old) }
         ensures core { IsCore self.new }
     {
-        let place = self.place_of(node_of(event));
+        let place = self.place_of(event.node());
         act_at(&mut self.stations, place, task)
     }
 }

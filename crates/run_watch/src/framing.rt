@@ -3,7 +3,7 @@ ghost use Rattle.flux_core.specs.CoreView.{flow_in, inputs_of};
 ghost use Rattle.flux_core.specs.Stands.{StandsFor};
 ghost use Rattle.pair_machine.specs.Drain.{partition, parts_below};
 ghost use Rattle.pair_machine.specs.Machine.{State};
-ghost use Rattle.plan_reader.specs.Nodes.{has_pair, sources_of};
+ghost use Rattle.plan_reader.specs.Nodes.{has_pair};
 ghost use Rattle.run_watch.specs.Columns.{frame_in, modes_in, pair_modes};
 ghost use Rattle.std.specs.List.{flat_map};
 ghost use Rattle.std.specs.Prelude.{◌≡◌, ◌≤◌, ◌+◌, ◌++◌, [], ◌∷◌, IfOk, IsTrue, OnOk, length};
@@ -14,25 +14,6 @@ use crate::mode::Mode;
 use flux_core::Core;
 use std::alloc::Global;
 use tuple_edge::{OutOfMemory, Which};
-
-// How many stages a core's plan has.
-fn stages_of(core: &Core) -> u32
-    ensures { result ≡ length core.now.plan.stages }
-{
-    core.plan().stages().len() as u32
-}
-
-// In how many partitions a stage of a core's plan runs.
-fn parts_of(core: &Core, stage: u32) -> u32
-    requires low { 1 ≤ stage }
-    requires high { stage ≤ length core.now.plan.stages }
-    ensures { result ≡ sources_of core.now.plan (stage + 1) }
-{
-    let plan = core.plan();
-    // Asked only for what its contract says: a plan has few stages, so there is a number after this one's.
-    let _stages = plan.stages();
-    plan.sources(stage + 1)
-}
 
 // Appends the modes of a pair's replicas.
 fn push_pair(modes: &mut Vec<Mode>, core: &Core, stage: u32, part: u32) -> Result<(), OutOfMemory>
@@ -52,7 +33,7 @@ fn push_stage(modes: &mut Vec<Mode>, core: &Core, stage: u32) -> Result<(), OutO
     ensures { OnOk result ((s : State) → StandsFor core.now s → modes.new.items ≡ modes.old.items
         ++ flat_map (pair_modes (flow_in core.now) s) (parts_below stage ((flow_in core.now).sources (stage + 1)))) }
 {
-    let parts = parts_of(core, stage);
+    let parts = core.plan().parts(stage);
     for part in 0..parts {
         push_pair(modes, core, stage, part)?;
     }
@@ -63,7 +44,7 @@ fn push_stage(modes: &mut Vec<Mode>, core: &Core, stage: u32) -> Result<(), OutO
 fn modes_of(alloc: Global, core: &Core) -> Result<Vec<Mode>, OutOfMemory>
     ensures { IfOk result (λ modes. (s : State) → StandsFor core.now s → modes.items ≡ modes_in (flow_in core.now) s) }
 {
-    let stages = stages_of(core);
+    let stages = core.plan().stage_count();
     let mut modes = Vec::new(alloc);
     for stage in 0..stages {
         push_stage(&mut modes, core, stage + 1)?;

@@ -2,7 +2,7 @@
 ghost use Rattle.flux_core.specs.CoreView.{inputs_of};
 ghost use Rattle.flux_core.specs.Follows.{AreNamed};
 ghost use Rattle.flux_core.specs.Stands.{IsCore, StandsFor};
-ghost use Rattle.pair_machine.specs.Machine.{State, at_node};
+ghost use Rattle.pair_machine.specs.Machine.{State};
 ghost use Rattle.plan_reader.specs.Nodes.{names_event};
 ghost use Rattle.run_watch.specs.Seen.{HasHalted, HasSeen, HasStopped};
 ghost use Rattle.run_watch.specs.Stamps.{IsAt};
@@ -15,20 +15,6 @@ use crate::trace::{At, Trace};
 use crate::watching::WatchError;
 use flux_core::{Core, Stopped};
 use run_journal::Lined;
-use tuple_edge::{Event, NodeId};
-
-// The one node that an event changes.
-fn node_of(event: &Event) -> NodeId
-    ensures { result ≡ at_node event.now }
-{
-    match *event {
-        Event::Take { link, .. } => link.to,
-        Event::Work { node } | Event::Kill { node } | Event::AskStop { node } => node,
-        Event::Make => NodeId::Ingress,
-        Event::AskBack { node } => node.partner(),
-        Event::Pull { to, .. } => to,
-    }
-}
 
 // Where a run is after the event of this place and line.
 fn at(core: &Core, place: u64, line: u64) -> At
@@ -56,7 +42,7 @@ fn see(core: &mut Core, trace: &mut Trace, lined: &Lined) -> Result<(), WatchErr
     ensures core { IsCore core.new }
 {
     core.known();
-    let node = node_of(&lined.event);
+    let node = lined.event.node();
     let before = glimpse(core, node)?;
     if let Err(error) = core.apply(lined.event) {
         return Err(WatchError::Stopped(Stopped {

@@ -11,7 +11,6 @@ mod ends;
 mod law;
 mod links;
 mod names;
-mod nodes;
 mod pairs;
 mod replicas;
 mod rows;

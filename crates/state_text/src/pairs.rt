@@ -12,7 +12,6 @@ ghost use Rattle.tuple_edge.specs.declared.node.NodeId.TheVariants as node;
 
 use crate::controls::push_controller;
 use crate::names::name_of;
-use crate::nodes::{parts_of, stages_of};
 use crate::replicas::push_replica;
 use flux_core::Core;
 use std::alloc::Global;
@@ -85,7 +84,7 @@ fn push_stage(text: &mut String, alloc: Global, core: &Core, stage: u32) -> Resu
     ensures { OnOk result ((s : State) → StandsFor core.now s → string_bytes text.new ≡ string_bytes text.old
         ++ flat_map (pair_text (flow_in core.now) s) (parts_below stage ((flow_in core.now).sources (stage + 1)))) }
 {
-    let parts = parts_of(core, stage);
+    let parts = core.plan().parts(stage);
     for part in 0..parts {
         push_pair(text, alloc, core, stage, part)?;
     }
@@ -97,7 +96,7 @@ pub(crate) fn push_pairs(text: &mut String, alloc: Global, core: &Core) -> Resul
     ensures { OnOk result ((s : State) → StandsFor core.now s → string_bytes text.new ≡ string_bytes text.old
         ++ flat_map (pair_text (flow_in core.now) s) (pairs_up_to (flow_in core.now) (flow_in core.now).stages)) }
 {
-    let stages = stages_of(core);
+    let stages = core.plan().stage_count();
     for stage in 0..stages {
         push_stage(text, alloc, core, stage + 1)?;
     }

@@ -23,15 +23,6 @@ pub(crate) fn is_named(core: &TrioCore, event: &TrioEvent) -> bool
     }
 }
 
-/// The node at which an event is.
-pub(crate) fn node_of(event: &TrioEvent) -> TrioNode {
-    match *event {
-        TrioEvent::Take { to, .. } | TrioEvent::Pull { to, .. } => to,
-        TrioEvent::Work { node } | TrioEvent::Kill { node } => node,
-        TrioEvent::Make => TrioNode::Ingress,
-    }
-}
-
 // Appends a word and the name of a node.
 fn push_at(text: &mut String, word: &str, node: TrioNode) -> Result<(), OutOfMemory> {
     text.push_str(word)?;

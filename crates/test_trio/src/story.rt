@@ -1,5 +1,5 @@
 // A core that is driven event by event, and what its packets say.
-use crate::events::{is_named, node_of};
+use crate::events::is_named;
 use crate::nodes::NODES;
 use crate::numbers::Numbers;
 use std::alloc::Global;
@@ -117,7 +117,7 @@ impl Story {
         }
         match self.core.apply(event) {
             Ok(()) => {
-                self.note_all(node_of(&event))?;
+                self.note_all(event.node())?;
                 Ok(true)
             }
             Err(TrioError::OutOfMemory) => Err(OutOfMemory),

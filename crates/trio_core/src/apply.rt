@@ -6,7 +6,7 @@ ghost use Rattle.trio_core.specs.Refusals.{IsRefusal};
 ghost use Rattle.trio_core.specs.Stands.{IsCore, StandsFor};
 ghost use Rattle.trio_core.specs.Steps.{IsApplied, IsNamed, IsTaskOf};
 ghost use Rattle.trio_machine.specs.Links.{HasNode};
-ghost use Rattle.trio_machine.specs.Machine.{State, act_of, at_node, step};
+ghost use Rattle.trio_machine.specs.Machine.{State, act_of, step};
 ghost use Rattle.trio_machine.specs.Sound.{IsSound};
 ghost use Rattle.trio_machine.specs.declared.event.TrioEvent.TheVariants as event;
 
@@ -17,17 +17,6 @@ use crate::station::{acts_at, place_of};
 use crate::task::Task;
 use trio_machine::TrioEvent;
 use trio_nodes::TrioNode;
-
-// The one node that an event changes.
-fn node_of(event: &TrioEvent) -> TrioNode
-    ensures { result ≡ at_node event.now }
-{
-    match *event {
-        TrioEvent::Take { to, .. } | TrioEvent::Pull { to, .. } => to,
-        TrioEvent::Work { node } | TrioEvent::Kill { node } => node,
-        TrioEvent::Make => TrioNode::Ingress,
-    }
-}
 
 impl TrioCore {
     // The packet at a place among those that a node of the plan sent to another.
@@ -92,7 +81,7 @@ impl TrioCore {
         ensures unchanged { OnErr result (self.new ≡ self.old) }
         ensures core { IsCore self.new }
     {
-        let place = place_of(&self.stations, node_of(event));
+        let place = place_of(&self.stations, event.node());
         acts_at(&mut self.stations, place, task)
     }
 }

@@ -2,7 +2,6 @@
 use Rattle.std.proofs.Common.{◌≡◌, ◌≤◌, ◌<◌, ◌+◌, ◌-◌, ◌++◌, ◌∙◌, ℕ, true, List, length, sym, ap, subst, arith}
 use Rattle.plan_reader.specs.Nodes.{has_pair, parts_of, sources_of}
 use Rattle.plan_reader.specs.PlanView.{PlanView}
-use Rattle.plan_reader.specs.declared.stage.Stage.{Stage}
 use Rattle.pair_machine.specs.CountLaws.{IsOfStage}
 use Rattle.pair_machine.specs.Drain.{partition}
 use Rattle.pair_machine.specs.Flow.{Flow}
@@ -87,9 +86,9 @@ pub stages_at : (b : Start) (core : CoreView) (done : List TrioEvent) → IsAfte
 stages_at b core done a = stages_in core.plan (inputs_of core) ∙ ap (λ (f : Flow). f.stages) (flow_same b core done a)
 
 -- egress is of the stage after the last
-pub egress_stage : (old shown : PlanView) (core : CoreView) (stages : List Stage) → core.plan ≡ old → shown ≡ old → stages ≡ shown.stages → (partition_in (flow_in core) node.Egress).stage ≡ length stages + 1
-egress_stage old shown core stages same sees all =
-    let e : length core.plan.stages ≡ length stages = ap length (ap (λ (p : PlanView). p.stages) (same ∙ sym sees) ∙ sym all) in
+pub egress_stage : (old shown : PlanView) (core : CoreView) (count : ℕ) → core.plan ≡ old → shown ≡ old → count ≡ length shown.stages → (partition_in (flow_in core) node.Egress).stage ≡ count + 1
+egress_stage old shown core count same sees all =
+    let e : length core.plan.stages ≡ count = ap (λ (p : PlanView). length p.stages) (same ∙ sym sees) ∙ sym all in
     ap (λ n. n + 1) (sym (stages_in core.plan (inputs_of core)) ∙ e)
 
 -- ---- a replica that is a node of the plan

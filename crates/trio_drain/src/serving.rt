@@ -1,7 +1,7 @@
 // Who drains for a group, and the first group for which nobody can.
 ghost use Rattle.pair_machine.specs.Consumers.{first_below};
 ghost use Rattle.pair_machine.specs.Drain.{pairs_up_to, partition, parts_below};
-ghost use Rattle.plan_reader.specs.Nodes.{has_pair, parts_of, sources_of};
+ghost use Rattle.plan_reader.specs.Nodes.{has_pair, sources_of};
 ghost use Rattle.std.specs.Option.{option_map};
 ghost use Rattle.std.specs.Prelude.{◌≡◌, ◌<◌, ◌≤◌, ◌+◌, ℕ, IsTrue, length};
 ghost use Rattle.trio_core.specs.CoreView.{flow_in};
@@ -18,16 +18,6 @@ ghost use Rattle.trio_machine.specs.declared.node.TrioNode.{TrioNode};
 use trio_core::TrioCore;
 use trio_machine::TrioNode;
 use trio_nodes::GROUP_SIZE;
-
-// The number of partitions of a stage: they are the sources of the next one, or of egress.
-pub(crate) fn parts(core: &TrioCore, stage: u32) -> u32
-    requires first { 1 ≤ stage }
-    requires last { stage ≤ length core.now.plan.stages }
-    ensures { result ≡ parts_of core.now.plan stage }
-{
-    core.known();
-    core.plan().sources(stage + 1)
-}
 
 // Whether a replica runs and its controller holds it up.
 fn serves(core: &TrioCore, stage: u32, part: u32, copy: u32) -> bool
@@ -101,7 +91,7 @@ fn first_lost_of(core: &TrioCore, stage: u32) -> Option<u32>
     ensures { (s : State) → StandsFor core.now s
         → option_map (λ part. partition stage part) result ≡ first_lost s (parts_below stage ((flow_in core.now).sources (stage + 1))) }
 {
-    let parts = parts(core, stage);
+    let parts = core.plan().parts(stage);
     for part in 0..parts {
         if is_lost(core, stage, part) {
             return Some(part);
@@ -115,7 +105,7 @@ pub(crate) fn first_lost(core: &TrioCore) -> Option<(u32, u32)>
     ensures { (s : State) → StandsFor core.now s
         → option_map (λ (p : ℕ × ℕ). partition p.0 p.1) result ≡ first_lost s (pairs_up_to (flow_in core.now) (flow_in core.now).stages) }
 {
-    for before in 0..core.plan().stages().len() as u32 {
+    for before in 0..core.plan().stage_count() {
         let stage = before + 1;
         if let Some(part) = first_lost_of(core, stage) {
             return Some((stage, part));

@@ -8,7 +8,7 @@ ghost use Rattle.trio_machine.specs.Drain.{drain_events};
 ghost use Rattle.trio_machine.specs.Links.{HasNode};
 
 use crate::next::repeat;
-use crate::serving::{feeder, parts, server};
+use crate::serving::{feeder, server};
 use trio_core::TrioCore;
 use trio_machine::{TrioEvent, TrioNode};
 use tuple_edge::OutOfMemory;
@@ -73,7 +73,7 @@ fn drain_stage(core: &mut TrioCore, stage: u32) -> Result<(), OutOfMemory>
     ensures keeps { Keeps core.old core.new }
 {
     core.known();
-    let parts = parts(core, stage);
+    let parts = core.plan().parts(stage);
     for part in 0..parts {
         drain_group(core, stage, part)?;
     }
@@ -104,7 +104,7 @@ pub(crate) fn drain_all(core: &mut TrioCore) -> Result<(), OutOfMemory>
         → IsWithin b core.new) }
     ensures keeps { Keeps core.old core.new }
 {
-    let stages = core.plan().stages().len() as u32;
+    let stages = core.plan().stage_count();
     repeat(core, TrioEvent::Make)?;
     drain_stages(core, stages)?;
     drain_into(core, TrioNode::Egress, stages + 1)

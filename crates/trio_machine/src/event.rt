@@ -1,4 +1,7 @@
 // What happens at the nodes of groups of three.
+ghost use Rattle.std.specs.Prelude.{◌≡◌};
+ghost use Rattle.trio_machine.specs.Machine.{at_node};
+
 use crate::node::TrioNode;
 
 /// One step at one node.
@@ -25,4 +28,17 @@ pub enum TrioEvent {
         from: TrioNode,
         to: TrioNode,
     },
+}
+
+impl TrioEvent {
+    /// The node at which it is: the one that it changes.
+    pub fn node(&self) -> TrioNode
+        ensures { result ≡ at_node self.now }
+    {
+        match *self {
+            TrioEvent::Take { to, .. } | TrioEvent::Pull { to, .. } => to,
+            TrioEvent::Work { node } | TrioEvent::Kill { node } => node,
+            TrioEvent::Make => TrioNode::Ingress,
+        }
+    }
 }

@@ -8,8 +8,8 @@
 //! where all its replicas are gone; that what egress has merged is a front of the output; and that the
 //! drain is whole where no group is lost.
 //!
-//! Beside the names of nodes, packets and events it has no code: each law is the contract of a function
-//! that does nothing. It stands on plan_reader and pair_machine.
+//! Beside the names of nodes, packets and events, and which node an event is at, it has no code: each law is
+//! the contract of a function that does nothing. It stands on plan_reader and pair_machine.
 #![tactic(auto)]
 
 mod body;

@@ -1,6 +1,6 @@
 // The lines of all groups.
 ghost use Rattle.pair_machine.specs.Drain.{pairs_up_to, partition, parts_below};
-ghost use Rattle.plan_reader.specs.Nodes.{has_pair, sources_of};
+ghost use Rattle.plan_reader.specs.Nodes.{has_pair};
 ghost use Rattle.std.specs.List.{flat_map};
 ghost use Rattle.std.specs.Prelude.{◌≡◌, ◌<◌, ◌≤◌, ◌+◌, ◌++◌, IfOk, IsTrue, OnOk, length, string_bytes};
 ghost use Rattle.trio_core.specs.CoreView.{flow_in};
@@ -14,25 +14,6 @@ use crate::lines::{push_control, push_replica};
 use std::alloc::Global;
 use trio_core::TrioCore;
 use tuple_edge::OutOfMemory;
-
-// How many stages a core's plan has.
-fn stages_of(core: &TrioCore) -> u32
-    ensures { result ≡ length core.now.plan.stages }
-{
-    core.plan().stages().len() as u32
-}
-
-// In how many partitions a stage of a core's plan runs.
-fn parts_of(core: &TrioCore, stage: u32) -> u32
-    requires low { 1 ≤ stage }
-    requires high { stage ≤ length core.now.plan.stages }
-    ensures { result ≡ sources_of core.now.plan (stage + 1) }
-{
-    let plan = core.plan();
-    // Asked only for what its contract says: a plan has few stages, so there is a number after this one's.
-    let _stages = plan.stages();
-    plan.sources(stage + 1)
-}
 
 // Appends the line of the controller of a group.
 fn push_control_of(
@@ -86,7 +67,7 @@ fn push_stage(text: &mut String, core: &TrioCore, stage: u32) -> Result<(), OutO
     ensures { OnOk result ((s : State) → StandsFor core.now s → string_bytes text.new ≡ string_bytes text.old
         ++ flat_map (group_text s) (parts_below stage ((flow_in core.now).sources (stage + 1)))) }
 {
-    let parts = parts_of(core, stage);
+    let parts = core.plan().parts(stage);
     for part in 0..parts {
         push_group(text, core, stage, part)?;
     }
@@ -98,7 +79,7 @@ fn push_groups(text: &mut String, core: &TrioCore) -> Result<(), OutOfMemory>
     ensures { OnOk result ((s : State) → StandsFor core.now s → string_bytes text.new ≡ string_bytes text.old
         ++ flat_map (group_text s) (pairs_up_to (flow_in core.now) (flow_in core.now).stages)) }
 {
-    let stages = stages_of(core);
+    let stages = core.plan().stage_count();
     for stage in 0..stages {
         push_stage(text, core, stage + 1)?;
     }

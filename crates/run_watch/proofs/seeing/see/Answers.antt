@@ -9,16 +9,16 @@ use Rattle.run_watch.proofs.seeing.see.Goals as goal
 
 pub glimpse-requires-2 : goal.glimpse-requires-2
 glimpse-requires-2 c =
-    subst (λ p. has_node p c.node_of-node.result ≡ true) (sym c.apply.ensures.plan) (node_named c.args.core.now c.known.ensures c.args.lined.now.event c.node_of-node.result c.node_of-node.ensures c.requires.named)
+    subst (λ p. has_node p c.node-node.result ≡ true) (sym c.apply.ensures.plan) (node_named c.args.core.now c.known.ensures c.args.lined.now.event c.node-node.result c.node-node.ensures c.requires.named)
 
 pub pair_loss-loss-requires : goal.pair_loss-loss-requires
 pair_loss-loss-requires c =
-    subst (λ p. has_node p c.node_of-node.result ≡ true) (sym c.apply.ensures.plan) (node_named c.args.core.now c.known.ensures c.args.lined.now.event c.node_of-node.result c.node_of-node.ensures c.requires.named)
+    subst (λ p. has_node p c.node-node.result ≡ true) (sym c.apply.ensures.plan) (node_named c.args.core.now c.known.ensures c.args.lined.now.event c.node-node.result c.node-node.ensures c.requires.named)
 
 pub returns-clause-seen : goal.returns-clause-seen
 returns-clause-seen c =
-    seen_at c.args.core.now c.apply.new.self c.args.lined.now (view_of c.args.trace.now) (view_of c.pass.new.self) c.node_of-node.result c.in_ok-before.before c.in_ok-after.after c.pair_loss-loss.result c.at-at.result
-    c.known.ensures c.node_of-node.ensures c.requires.named c.in_default.ensures.applied
+    seen_at c.args.core.now c.apply.new.self c.args.lined.now (view_of c.args.trace.now) (view_of c.pass.new.self) c.node-node.result c.in_ok-before.before c.in_ok-after.after c.pair_loss-loss.result c.at-at.result
+    c.known.ensures c.node-node.ensures c.requires.named c.in_default.ensures.applied
     (record {
       before_is = c.in_ok-before.ensures;
       after_is = c.in_ok-after.ensures;

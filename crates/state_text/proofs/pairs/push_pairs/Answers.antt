@@ -1,5 +1,6 @@
-use Rattle.std.proofs.Common.{◌≡◌, ◌∙◌, ◌+◌, ◌++◌, ap, append-nil, append_assoc, arith, string_bytes, sym}
+use Rattle.std.proofs.Common.{◌≡◌, ◌∙◌, ◌+◌, ◌++◌, ap, append-nil, append_assoc, arith, string_bytes, sym, length}
 use Rattle.std.specs.List.{flat_map}
+use Rattle.plan_reader.specs.PlanView.{PlanView}
 use Rattle.pair_machine.specs.Drain.{pairs_up_to, parts_below}
 use Rattle.flux_core.specs.CoreView.{flow_in}
 use Rattle.state_text.specs.StateText.{pair_text}
@@ -24,6 +25,6 @@ loop-stage-preserved c s stands =
 
 pub returns : goal.returns
 returns c s stands =
-    let all : c.loop-stage.stage ≡ (flow_in c.args.core.now).stages = omega (arith, c.loop-stage-test.false, c.loop-stage.auto.stage-end, c.stages_of-stages.ensures, stages_in c.args.core.now) in
+    let all : c.loop-stage.stage ≡ (flow_in c.args.core.now).stages = omega (arith, c.loop-stage-test.false, c.loop-stage.auto.stage-end, c.stage_count-stages.ensures.value ∙ ap (λ (p : PlanView). length p.stages) c.plan.ensures, stages_in c.args.core.now) in
     c.loop-stage.invariant s stands
     ∙ ap (λ n. string_bytes c.args.text.now ++ flat_map (pair_text (flow_in c.args.core.now) s) (pairs_up_to (flow_in c.args.core.now) n)) all

@@ -6,7 +6,7 @@ use Rattle.flux_core.proofs.nodes.Core.act.Goals as goal
 -- what came of it
 came : (c : goal.After-act_at) → Outcome c.act_at.result c.args.self.now (core_of c.self.inside.plan c.self.inside.whole c.act_at.new.stations.items) c.args.event.now
 came c = outcome (core_of c.self.inside.plan c.self.inside.whole c.self.inside.stations.items) c.args.self.now c.act_at.new.stations.items c.args.event.now c.args.task.now c.place_of-place.result c.act_at.result
-    c.self.view_is c.self.invariant c.requires.named c.requires.may c.requires.asked (c.place_of-place.ensures.place ∙ ap Some c.node_of.ensures) c.act_at.ensures.acted c.act_at.ensures.refused c.act_at.ensures.unchanged
+    c.self.view_is c.self.invariant c.requires.named c.requires.may c.requires.asked (c.place_of-place.ensures.place ∙ ap Some c.node.ensures) c.act_at.ensures.acted c.act_at.ensures.refused c.act_at.ensures.unchanged
 
 pub invariant_of-self : goal.invariant_of-self
 invariant_of-self c = (came c).core
