@@ -5,7 +5,8 @@
 //! it that is refused, with the record and the field; that `merge_cash` puts the rows of both files in
 //! the order of their times; and that `write_output` gives exactly the text of rows, with each symbol by
 //! its name. What a record is decides the crate `csv`; the header and the fields are defined here. The
-//! calls of which its reading is made serve the crates that tell of the faults of files too. It stands on csv, on indexmap for the numbers of symbols, on itoa, and, for number words, on text_words.
+//! calls of which its reading is made serve the crates that tell of the faults of files too. It stands on
+//! csv, on indexmap for the numbers of symbols, on itoa, and, for blanks and number words, on text_words.
 #![tactic(auto)]
 
 mod cash_file;
