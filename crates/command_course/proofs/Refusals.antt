@@ -44,14 +44,13 @@ pub line_refused : {E A : Type 0} (text : E → List ℕ) (name : List ℕ) (rea
 line_refused text name read e why fails by = refused (or_line text name read) (line_of name (text e)) why (Unit {0}) (λ _. ap (or_line text name) fails) by
 
 -- the line about a file, where the text of its fault is told
-pub line_said : (line name : List ℕ) (fault : Option (List ℕ)) → IfSome (Some (codes "flux: ") ++? (Some name ++? (Some (codes ": ") ++? (fault ++? Some (codes "\n"))))) (λ text. line ≡ text)
+pub line_said : (line name : List ℕ) (fault : Option (List ℕ)) → IfSome (Some name ++? (Some (codes ": ") ++? (fault ++? Some (codes "\n")))) (λ text. line ≡ text)
     → IfSome fault (λ said. line ≡ line_of name said)
 line_said line name None is = tt
 line_said line name (Some said) is =
-    let begins = codes "flux: " in
     let between = codes ": " in
     let ends = codes "\n" in
-    is ∙ sym (append_assoc (begins ++ name ++ between) said ends ∙ append_assoc (begins ++ name) between (said ++ ends) ∙ append_assoc begins name (between ++ (said ++ ends)))
+    is ∙ sym (append_assoc (name ++ between) said ends ∙ append_assoc name between (said ++ ends))
 
 -- ---- plans
 

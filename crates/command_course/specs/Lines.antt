@@ -1,10 +1,10 @@
--- The lines that are said of a file.
+-- The lines that are said of a file, by a program that puts its name before them.
 use Rattle.std.specs.Prelude.{ℕ, List, ◌++◌, Result, Ok, Err, codes}
 use Rattle.command_course.specs.Course.{Reading}
 
 -- what is said of a file
 abbrev pub line_of : List ℕ → List ℕ → List ℕ
-line_of name fault = codes "flux: " ++ name ++ codes ": " ++ fault ++ codes "\n"
+line_of name fault = name ++ codes ": " ++ fault ++ codes "\n"
 
 -- what was read of a file, or the line that says its fault by this text
 abbrev pub or_line : {E A : Type 0} → (E → List ℕ) → List ℕ → Result A E → Reading A

@@ -85,6 +85,6 @@ pub fn refused<D: Display + Drop>(alloc: Global, name: &str, fault: D) -> Stop
 fn line_about<D: Display + Drop>(alloc: Global, name: &str, fault: D) -> Result<String, OutOfMemory>
     ensures { IfOk result (λ line. IfSome (D.output fault) (λ said. string_bytes line ≡ line_of name.now said)) }
 {
-    let line = format!(in alloc; "flux: {name}: {fault}\n")?;
+    let line = format!(in alloc; "{name}: {fault}\n")?;
     Ok(line)
 }

@@ -1,4 +1,4 @@
-// Why a command stops, with the line that says so.
+// Why a command stops, with the line that says so. What is said of an input has no program's name: the program puts its own before it.
 use tuple_edge::OutOfMemory;
 
 /// Why a command stops before its text is written whole.
@@ -12,7 +12,7 @@ pub enum Stop {
     CannotRead { line: String },
     /// A file can't be saved, or the sink took no more.
     CannotWrite,
-    /// A pair lost both of its replicas before all rows were emitted, as this line says. `run` writes the rows that were
+    /// A pair lost both of its replicas before all rows were emitted, as this line of the program says. `run` writes the rows that were
     /// emitted, and `trial` nothing.
     PairLost { stage: u32, part: u32, line: String },
     /// No memory was to be had.

@@ -1,2 +1,3 @@
 pub mod StageRows
 pub mod Taking
+pub mod Times

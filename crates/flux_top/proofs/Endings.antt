@@ -6,7 +6,7 @@ use Rattle.tuple_edge.specs.declared.event.Drained.{Drained}
 use Rattle.tuple_edge.specs.declared.event.Drained.TheVariants as drained
 use Rattle.pair_machine.specs.Drain.{partition}
 use Rattle.command_course.specs.Course.{Came, Course, Run, Runs, StoppedShort, Writes}
-use Rattle.command_course.specs.Steps.{HasReadCause, StopsOf}
+use Rattle.command_course.specs.Steps.{HasReadCause}
 use Rattle.command_course.specs.declared.stop.Stop.{Stop}
 use Rattle.command_course.specs.declared.stop.Stop.TheVariants as stop
 use Rattle.command_line.specs.Forms.{Request, form}
@@ -17,7 +17,9 @@ use Rattle.run_command.specs.declared.outcome.Outcome.{Outcome}
 use Rattle.flux_top.specs.Clauses.{ComesTo, HasCause, IsQuiet, KeepsTo, StopsTo, WritesWhole}
 use Rattle.flux_top.specs.Ends.{Ends, EndsBy, EndsOrLoses, Loses}
 use Rattle.flux_top.specs.Finish.{IsFinished, StopsFinish}
+use Rattle.flux_top.specs.Lines.{own_line}
 use Rattle.flux_top.specs.Outcome.{CameToEnd, asked, course_of}
+use Rattle.flux_top.specs.Stops.{StopsAs}
 use Rattle.flux_top.proofs.LastSteps.{came_then, kept_of, short_then, unwritten_of, whole_of}
 pub use Rattle.flux_top.proofs.LastSteps.{finished_cause}
 
@@ -106,11 +108,12 @@ pub asked_of : (words : List (List ℕ)) (request : Request) → form words ≡ 
 asked_of words request is = ap (option_map course_of) is
 
 pub stopped_to : (before after : FilesTold) (words : List (List ℕ)) (course : Course) (old : SinkTold) (why : Stop) → asked words ≡ Some course
-    → StopsOf before after course why → StopsTo before after words old old why
+    → StopsAs own_line before after course why → StopsTo before after words old old why
 stopped_to before after words course old stop.Usage is stops = absurd stops
-stopped_to before after words course old (stop.Refused line) is stops = record { course = course; is_asked = is; fact = stops }
+stopped_to before after words course old (stop.Refused line) is stops =
+    record { line = stops.line; comes = record { course = course; is_asked = is; fact = stops.comes }; said_is = stops.said_is }
 stopped_to before after words course old (stop.CannotRead line) is stops =
-    record { name = stops.name; comes = record { course = course; is_asked = is; fact = stops.came }; line_is = stops.line_is }
+    record { name = stops.name; comes = record { course = course; is_asked = is; fact = stops.comes }; said_is = stops.said_is }
 stopped_to before after words course old stop.CannotWrite is stops = absurd stops
 stopped_to before after words course old (stop.PairLost stage part line) is stops = absurd stops
 stopped_to before after words course old stop.OutOfMemory is stops = subst (λ c. IfSome c (StoppedShort before after)) (sym is) stops

@@ -1,5 +1,5 @@
 -- What each status of `flux` says, of why its command stopped.
-use Rattle.std.proofs.Common.{ℕ, ◌≡◌, List, Ok, Err, refl, subst, inl, inr, ⊎_elim, string_bytes}
+use Rattle.std.proofs.Common.{ℕ, ◌≡◌, List, Ok, Err, refl, subst, inl, inr, ⊎_elim}
 use Rattle.std.specs.Prelude.{◌≢◌, IfErr, Result}
 use Rattle.pair_machine.specs.Drain.{partition}
 use Rattle.command_course.specs.Steps.{IsWant}
@@ -127,8 +127,8 @@ complete_stopped before after words old new stop.Usage stops cause = record {
   rejects = λ rejected reads. absurd (rejected_asked before.contents words rejected stops);
 }
 complete_stopped before after words old new (stop.Refused line) stops cause = record {
-  complete = λ accepted reads saves puts. absurd (accepted_unrefused LosesNone before after words (string_bytes line) sure_at_end accepted stops);
-  may_lose = λ accepted reads saves puts. absurd (accepted_unrefused IsAtEnd before after words (string_bytes line) (λ there at. at) accepted stops);
+  complete = λ accepted reads saves puts. absurd (accepted_unrefused LosesNone before after words stops.line sure_at_end accepted stops.comes);
+  may_lose = λ accepted reads saves puts. absurd (accepted_unrefused IsAtEnd before after words stops.line (λ there at. at) accepted stops.comes);
   rejects = λ rejected reads. inl refl;
 }
 complete_stopped before after words old new (stop.CannotRead line) stops cause = record {

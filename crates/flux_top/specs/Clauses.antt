@@ -4,14 +4,13 @@ use Rattle.std.specs.String.{string_bytes}
 use Rattle.pair_machine.specs.Drain.{partition}
 use Rattle.pair_machine.specs.Numbers.{Partition}
 use Rattle.command_course.specs.Course.{Came, CameToRead, Course, Leads, Refuses, StoppedShort}
-use Rattle.command_course.specs.Lines.{cannot_read_line}
 use Rattle.command_course.specs.declared.stop.Stop.{Stop}
 use Rattle.command_course.specs.declared.stop.Stop.TheVariants as stop
 use Rattle.flux_outside.specs.Outside.{Call, Names, Rose}
 use Rattle.flux_outside.specs.Told.{FilesTold, SinkTold}
 use Rattle.run_command.specs.Endings.{Ending}
 use Rattle.flux_top.specs.Ends.{EndsOrLoses, IsAtEnd, Loses, LosesNone}
-use Rattle.flux_top.specs.Lines.{lines, lost_line}
+use Rattle.flux_top.specs.Lines.{lines, lost_line, own_line}
 use Rattle.flux_top.specs.Outcome.{AsksFor, asked}
 use Rattle.flux_top.specs.Programs as program
 
@@ -80,13 +79,13 @@ StopsShort before after words = IfSome (asked words) (StoppedShort before after)
 abbrev pub FallsShort : FilesTold → FilesTold → List (List ℕ) → Type 0
 FallsShort before after words = program.FallsShort (StopsShort before after words) (ComesTo before after words EndsOrLoses) before after
 
--- an input was refused, and its line said
+-- an input was refused, and its line said under the program's name
 abbrev pub SaysRefusal : FilesTold → FilesTold → List (List ℕ) → SinkTold → SinkTold → Type 0
-SaysRefusal before after words = program.SaysRefusal (ComesToRefusal before after words) (λ line. line)
+SaysRefusal before after words = program.SaysRefusal (ComesToRefusal before after words) own_line
 
--- the file that was to be read last could not be read, as the count of faults of reads rose, and its name said
+-- the file that was to be read last could not be read, as the count of faults of reads rose, and its name said under the program's
 abbrev pub SaysUnread : FilesTold → FilesTold → List (List ℕ) → SinkTold → SinkTold → Type 0
-SaysUnread before after words = program.SaysUnread (ComesToRead before after words) (λ line. line) before after
+SaysUnread before after words = program.SaysUnread (ComesToRead before after words) own_line before after
 
 -- a pair was lost, what was emitted before was written whole, and the pair's name said
 abbrev pub SaysLost : FilesTold → FilesTold → List (List ℕ) → SinkTold → SinkTold → SinkTold → SinkTold → Type 0
@@ -117,12 +116,6 @@ pub record IsComplete (status : ℕ) (before after : FilesTold) (words : List (L
 
 -- ---- of its steps
 
--- the words' command came to the reading of a file, and this line says that it can't be read
-pub record IsUnreadTo (before after : FilesTold) (words : List (List ℕ)) (line : List ℕ) : Type 0 where
-  pub name : List ℕ
-  pub comes : ComesToRead before after words name
-  pub line_is : line ≡ cannot_read_line name
-
 -- what was written where a pair was lost, and the line that is to be said
 pub record IsLostTo (before after : FilesTold) (words : List (List ℕ)) (old new : SinkTold) (pair : Partition) (line : List ℕ) : Type 0 where
   pub writes : WritesWhole before after words (Loses pair) old new
@@ -131,8 +124,8 @@ pub record IsLostTo (before after : FilesTold) (words : List (List ℕ)) (old ne
 -- why the words' command stopped, and what was written of its text
 abbrev pub StopsTo : FilesTold → FilesTold → List (List ℕ) → SinkTold → SinkTold → Stop → Type 0
 StopsTo before after words old new stop.Usage = asked words ≡ None
-StopsTo before after words old new (stop.Refused line) = ComesToRefusal before after words (string_bytes line)
-StopsTo before after words old new (stop.CannotRead line) = IsUnreadTo before after words (string_bytes line)
+StopsTo before after words old new (stop.Refused line) = program.RefusesBy (ComesToRefusal before after words) own_line (string_bytes line)
+StopsTo before after words old new (stop.CannotRead line) = program.UnreadBy (ComesToRead before after words) own_line (string_bytes line)
 StopsTo before after words old new stop.CannotWrite = WritesNot before after words old new
 StopsTo before after words old new (stop.PairLost stage part line) = IsLostTo before after words old new (partition stage part) (string_bytes line)
 StopsTo before after words old new stop.OutOfMemory = StopsShort before after words

@@ -63,6 +63,18 @@ pub record SaysUnread (ComesToRead : List ℕ → Type 0) (says : List ℕ → L
   pub tells : Tells old new (says (cannot_read_line name))
   pub rose : Rose before.read_faults after.read_faults
 
+-- a line is said of a refused input, by what the words come to
+pub record RefusesBy (ComesToRefusal : List ℕ → Type 0) (says : List ℕ → List ℕ) (said : List ℕ) : Type 0 where
+  pub line : List ℕ
+  pub comes : ComesToRefusal line
+  pub said_is : said ≡ says line
+
+-- a line is said of a file that can't be read
+pub record UnreadBy (ComesToRead : List ℕ → Type 0) (says : List ℕ → List ℕ) (said : List ℕ) : Type 0 where
+  pub name : List ℕ
+  pub comes : ComesToRead name
+  pub said_is : said ≡ says (cannot_read_line name)
+
 -- ---- how what they ask for ends: with a text, and a file that is saved before it, if there is one
 
 -- The words' command came to this ending, and where it has a file to save, the last call saved it.

@@ -1,12 +1,14 @@
--- Why a command stops, as a program says it: with its own name in the line, and with a status.
+-- Why a command stops, as a program says it: with its own name before the line, and with a status.
 use Rattle.std.specs.Prelude.{ℕ, ◌≡◌, ◌⊎◌, List}
 use Rattle.std.specs.String.{string_bytes}
+use Rattle.command_course.specs.Course.{Came, CameToRead, Course, Refuses, StoppedShort}
 use Rattle.command_course.specs.declared.stop.Stop.{Stop}
 use Rattle.command_course.specs.declared.stop.Stop.TheVariants as stop
+use Rattle.flux_outside.specs.Told.{FilesTold}
 use Rattle.flux_top.specs.Lines.{line_by}
-use Rattle.flux_top.specs.Programs.{Lines}
+use Rattle.flux_top.specs.Programs.{Lines, RefusesBy, UnreadBy}
 
--- the same stop with the name of the program in its line, or want of memory for that
+-- the same stop with the name of the program before its line, or want of memory for that
 abbrev pub IsOwn : List ℕ → Stop → Stop → Type 0
 IsOwn name stop.Usage own = own ≡ stop.Usage
 IsOwn name (stop.Refused line) own = (own ≡ stop.OutOfMemory) ⊎ ((said : _) × (own ≡ stop.Refused said) × (string_bytes said ≡ line_by name (string_bytes line)))
@@ -14,6 +16,15 @@ IsOwn name (stop.CannotRead line) own = (own ≡ stop.OutOfMemory) ⊎ ((said : 
 IsOwn name stop.CannotWrite own = own ≡ stop.CannotWrite
 IsOwn name (stop.PairLost stage part line) own = own ≡ stop.PairLost stage part line
 IsOwn name stop.OutOfMemory own = own ≡ stop.OutOfMemory
+
+-- why a course stopped before anything was written, as a program that says lines so says it, and how far it came
+abbrev pub StopsAs : (List ℕ → List ℕ) → FilesTold → FilesTold → Course → Stop → Type 0
+StopsAs says before after course stop.Usage = ⊥
+StopsAs says before after course (stop.Refused line) = RefusesBy (λ refused. Came before after course (Refuses refused)) says (string_bytes line)
+StopsAs says before after course (stop.CannotRead line) = UnreadBy (CameToRead before after course) says (string_bytes line)
+StopsAs says before after course stop.CannotWrite = ⊥
+StopsAs says before after course (stop.PairLost stage part line) = ⊥
+StopsAs says before after course stop.OutOfMemory = StoppedShort before after course
 
 -- the status of a program that stops so
 abbrev pub status_at : Stop → ℕ

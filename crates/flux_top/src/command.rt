@@ -6,13 +6,16 @@ ghost use Rattle.command_line.specs.Views.{IsInRange, request_of};
 ghost use Rattle.flux_outside.specs.Outside.{StopsAtWant};
 ghost use Rattle.flux_top.specs.Clauses.{FallsShort, HasCause, IsComplete, IsQuiet, KeepsTo, SaysAt, SaysLost, SaysRefusal, SaysUnread, StaysAt, StopsTo, WritesNot, WritesWhole};
 ghost use Rattle.flux_top.specs.Ends.{Ends};
+ghost use Rattle.flux_top.specs.Lines.{own_line};
 ghost use Rattle.flux_top.specs.Outcome.{CameToEnd, asked, course_of, texts};
+ghost use Rattle.flux_top.specs.Stops.{StopsAs};
 ghost use Rattle.tuple_edge.specs.declared.event.Drained.TheVariants as drained;
 
 use crate::eval::eval_text;
 use crate::finishing::finish;
 use crate::lines::say;
 use crate::make::made_text;
+use crate::stops::own_stop;
 use command_course::Stop;
 use command_line::{Command, read_words};
 use drained_run::Gate;
@@ -147,9 +150,28 @@ fn run<R: Threads + Sync, F: Files, S: Sink, G: Gate>(
     match read_words(alloc, words)? {
         None => Err(Stop::Usage),
         Some(command) => {
-            let outcome = outcome_of(rt, alloc, files, command, gate)?;
+            let outcome = answered(rt, alloc, files, command, gate)?;
             finish(alloc, NAME, files, out, &outcome)
         }
+    }
+}
+
+// What a command comes to, or why it stops, with the program's name before the line.
+fn answered<'a, R: Threads + Sync, F: Files, G: Gate>(
+    rt: &R,
+    alloc: Global,
+    files: &mut F,
+    command: Command<'a>,
+    gate: &G,
+) -> Result<Outcome<'a>, Stop>
+    requires { IsInRange command }
+    ensures comes { IfOk result (λ outcome. CameToEnd (F.told files.old) (F.told files.new) (course_of (request_of command.entry)) outcome) }
+    ensures stops { IfErr result (λ stop. StopsAs own_line (F.told files.old) (F.told files.new) (course_of (request_of command.entry)) stop) }
+    ensures reads { OnlyReads (F.told files.old) (F.told files.new) result }
+{
+    match outcome_of(rt, alloc, files, command, gate) {
+        Ok(outcome) => Ok(outcome),
+        Err(stop) => Err(own_stop(alloc, NAME, stop)),
     }
 }
 

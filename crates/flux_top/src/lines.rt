@@ -1,6 +1,5 @@
 // The lines that are said on the error stream.
-ghost use Rattle.std.specs.List.{after_first};
-ghost use Rattle.std.specs.Prelude.{◌≡◌, ◌==◌, IfOk, string_bytes};
+ghost use Rattle.std.specs.Prelude.{◌≡◌, IfOk, string_bytes};
 ghost use Rattle.flux_top.specs.Lines.{line_by, lost_line_by};
 ghost use Rattle.flux_top.specs.Programs.{Tells};
 ghost use Rattle.pair_machine.specs.Drain.{partition};
@@ -9,8 +8,8 @@ use flux_outside::{Failed, Sink, write_all};
 use std::alloc::Global;
 use tuple_edge::OutOfMemory;
 
-/// Says a line. A fault of the sink changes nothing.
-pub fn say<E: Sink>(err: &mut E, line: &str)
+// Says a line. A fault of the sink changes nothing.
+pub(crate) fn say<E: Sink>(err: &mut E, line: &str)
     ensures { Tells (E.told err.old) (E.told err.new) line.now }
 {
     match write_all(err, line.as_bytes()) {
@@ -27,21 +26,10 @@ pub fn line_of_loss(alloc: Global, name: &str, stage: u32, part: u32) -> Result<
     Ok(line)
 }
 
-// What stands behind the name of the program in a line.
-fn behind_name(line: &str) -> &str
-    ensures { result.now ≡ after_first (λ b. b == 58) line.now }
-{
-    match line.split_once(':') {
-        Some((_, rest)) => rest,
-        None => "",
-    }
-}
-
-/// A line of `flux` as a program of this name says it.
-pub fn line_by(alloc: Global, name: &str, line: &str) -> Result<String, OutOfMemory>
+// A line as a program of this name says it.
+pub(crate) fn line_by(alloc: Global, name: &str, line: &str) -> Result<String, OutOfMemory>
     ensures { IfOk result (λ own. string_bytes own ≡ line_by name.now line.now) }
 {
-    let rest = behind_name(line);
-    let own = format!(in alloc; "{name}:{rest}")?;
+    let own = format!(in alloc; "{name}: {line}")?;
     Ok(own)
 }

@@ -8,7 +8,7 @@ use command_course::Stop;
 use flux_outside::Sink;
 use std::alloc::Global;
 
-/// The same stop, with the name of the program in its line.
+/// The same stop, with the name of the program before its line.
 pub fn own_stop(alloc: Global, name: &str, stop: Stop) -> Stop
     ensures { IsOwn name.now stop result }
 {

@@ -10,15 +10,6 @@ use std::alloc::Global;
 use trade_text::Trades;
 use tuple_edge::{OutOfMemory, Row, route};
 
-// A copy of rows.
-fn copied(alloc: Global, rows: &[Row]) -> Result<Vec<Row>, OutOfMemory>
-    ensures { IfOk result (λ copy. copy.items ≡ rows.now) }
-{
-    let mut copy = Vec::with_capacity(alloc, rows.len())?;
-    copy.extend_from_slice(rows)?;
-    Ok(copy)
-}
-
 // How many of these rows go to a partition.
 fn count_to(stage: &Stage, part: u32, rows: &[Row]) -> usize
     requires { 1 ≤ stage.now.parts }
@@ -46,7 +37,7 @@ pub fn items_merged(
     ensures { IfOk result (λ count. count ≡ length (merged_at plan.now (inputs_in trades.now) stage part)) }
 {
     let (before, from) = plan.stages().split_at(stage - 1);
-    let rows = rows_passed(alloc, before, copied(alloc, trades.rows())?)?;
+    let rows = rows_passed(alloc, before, Vec::from_slice(alloc, trades.rows())?)?;
     let marks = trades.rows().len() as u64 / plan.mark();
     Ok(count_to(&from[0], part, &rows) as u64 + marks + 1)
 }

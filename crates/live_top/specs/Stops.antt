@@ -4,12 +4,12 @@ use Rattle.std.specs.String.{string_bytes}
 use Rattle.pair_machine.specs.Drain.{partition}
 use Rattle.pair_machine.specs.declared.order.Order.{Order}
 use Rattle.command_course.specs.FeedView.{FeedView}
-use Rattle.command_course.specs.Lines.{cannot_read_line}
 use Rattle.command_course.specs.declared.stop.Stop.{Stop}
 use Rattle.command_course.specs.declared.stop.Stop.TheVariants as stop
 use Rattle.flux_outside.specs.Told.{FilesTold, SinkTold}
 use Rattle.flux_top.specs.Clauses.{ComesToRead, ComesToRefusal, StopsShort}
 use Rattle.flux_top.specs.Outcome.{asked}
+use Rattle.flux_top.specs.Programs as program
 use Rattle.live_feed.specs.declared.answer.Live.TheVariants as live
 use Rattle.live_top.specs.Clauses.{FallsShort}
 use Rattle.live_top.specs.Lines.{lost_line, own_line}
@@ -17,16 +17,12 @@ use Rattle.live_top.specs.Runs.{Lived, RunLives}
 use Rattle.live_top.specs.Words.{as_run}
 
 -- a line is said of a refused input
-pub record RefusesBy (before after : FilesTold) (words : List (List ℕ)) (said : List ℕ) : Type 0 where
-  pub line : List ℕ
-  pub comes : ComesToRefusal before after (as_run words) line
-  pub said_is : said ≡ own_line line
+abbrev pub RefusesBy : FilesTold → FilesTold → List (List ℕ) → List ℕ → Type 0
+RefusesBy before after words = program.RefusesBy (ComesToRefusal before after (as_run words)) own_line
 
 -- a line is said of a file that can't be read
-pub record UnreadBy (before after : FilesTold) (words : List (List ℕ)) (said : List ℕ) : Type 0 where
-  pub name : List ℕ
-  pub comes : ComesToRead before after (as_run words) name
-  pub said_is : said ≡ own_line (cannot_read_line name)
+abbrev pub UnreadBy : FilesTold → FilesTold → List (List ℕ) → List ℕ → Type 0
+UnreadBy before after words = program.UnreadBy (ComesToRead before after (as_run words)) own_line
 
 -- why the words' inputs weren't all read and accepted
 abbrev pub StopsBefore : FilesTold → FilesTold → List (List ℕ) → Stop → Type 0

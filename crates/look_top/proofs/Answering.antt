@@ -39,7 +39,7 @@ module _ (old new : FilesTold) (words : List (List ℕ)) (task : Task) (is : ask
   unread_by line said stops said_is =
       let first = stops nothing_more in
       record {
-        file = first.name;
+        name = first.name;
         comes = record { course = task; is_asked = is; fact = λ next. subst (IsUnread old new (way_in task next)) first.line_is (stops next) };
         said_is = said_is ∙ ap own_line first.line_is;
       }

@@ -254,7 +254,7 @@ module _ (before after : FilesTold) (words : List (List ℕ)) (old new : SinkTol
         → SaysUnread before after words said says
     says_unread stop.Usage is stops cause tells = absurd (differ 2 4 refl is)
     says_unread (stop.Refused line) is stops cause tells = absurd (differ 3 4 refl is)
-    says_unread (stop.CannotRead line) is stops cause tells = record { name = stops.file; comes = stops.comes; tells = subst (Tells said says) stops.said_is tells; rose = cause }
+    says_unread (stop.CannotRead line) is stops cause tells = record { name = stops.name; comes = stops.comes; tells = subst (Tells said says) stops.said_is tells; rose = cause }
     says_unread stop.CannotWrite is stops cause tells = absurd (differ 5 4 refl is)
     says_unread (stop.PairLost stage part line) is stops cause tells = absurd (differ 6 4 refl is)
     says_unread stop.OutOfMemory is stops cause tells = absurd (differ 8 4 refl is)

@@ -4,7 +4,6 @@ use Rattle.std.specs.String.{string_bytes}
 use Rattle.tuple_edge.specs.declared.event.Drained.{Drained}
 use Rattle.tuple_edge.specs.declared.event.Drained.TheVariants as drained
 use Rattle.pair_machine.specs.Drain.{partition}
-use Rattle.command_course.specs.Lines.{cannot_read_line}
 use Rattle.command_course.specs.Steps.{GivesBy}
 use Rattle.command_course.specs.declared.stop.Stop.{Stop}
 use Rattle.command_course.specs.declared.stop.Stop.TheVariants as stop
@@ -12,6 +11,7 @@ use Rattle.flux_outside.specs.Told.{FilesTold, SinkTold}
 use Rattle.command_course.specs.Answers.{AnswerView}
 use Rattle.command_course.specs.declared.answer.Ending.{Ending}
 use Rattle.command_course.specs.declared.answer.Ending.TheVariants.{Done, Faulty, Lost, Warned}
+use Rattle.flux_top.specs.Programs as program
 use Rattle.look_top.specs.Asked.{Answers, AsksFor, Rehearses, Task, asked}
 use Rattle.look_top.specs.Clauses.{ComesToRead, ComesToRefusal, KeepsFiles, StopsShort, WritesNot, WritesWhole}
 use Rattle.look_top.specs.Lines.{lost_line, own_line}
@@ -34,16 +34,12 @@ abbrev pub Gives : FilesTold → FilesTold → List (List ℕ) → AnswerView �
 Gives before after words answer = AsksFor words (TaskGives before after answer)
 
 -- a line is said of a refused input
-pub record RefusesBy (before after : FilesTold) (words : List (List ℕ)) (said : List ℕ) : Type 0 where
-  pub line : List ℕ
-  pub comes : ComesToRefusal before after words line
-  pub said_is : said ≡ own_line line
+abbrev pub RefusesBy : FilesTold → FilesTold → List (List ℕ) → List ℕ → Type 0
+RefusesBy before after words = program.RefusesBy (ComesToRefusal before after words) own_line
 
 -- a line is said of a file that can't be read
-pub record UnreadBy (before after : FilesTold) (words : List (List ℕ)) (said : List ℕ) : Type 0 where
-  pub file : List ℕ
-  pub comes : ComesToRead before after words file
-  pub said_is : said ≡ own_line (cannot_read_line file)
+abbrev pub UnreadBy : FilesTold → FilesTold → List (List ℕ) → List ℕ → Type 0
+UnreadBy before after words = program.UnreadBy (ComesToRead before after words) own_line
 
 -- why the words came to no answer
 abbrev pub StopsBefore : FilesTold → FilesTold → List (List ℕ) → Stop → Type 0

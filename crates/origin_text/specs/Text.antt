@@ -1,6 +1,6 @@
 -- The text that says how a row of the output came about.
 use Rattle.std.specs.Prelude.{ℕ, ◌+◌, ◌-◌, ◌==◌, ◌||◌, Bool, false, List, [], ◌∷◌, ◌++◌, Option, None, Some, codes, drop, length, nat_lt, slice_get, take, if◌then◌else◌}
-use Rattle.std.specs.Fmt.{decimal, signed_decimal}
+use Rattle.std.specs.Fmt.{decimal}
 use Rattle.std.specs.List.{flat_map}
 use Rattle.tuple_edge.specs.Row.{route_of}
 use Rattle.tuple_edge.specs.declared.row.Row.{Row}
@@ -9,7 +9,7 @@ use Rattle.op_spec.specs.declared.spec.OpSpec.TheVariants as op
 use Rattle.text_words.specs.Text.{line_text}
 use Rattle.plan_reader.specs.Text.{stage_words}
 use Rattle.plan_reader.specs.declared.stage.Stage.{Stage}
-use Rattle.trade_text.specs.Symbols.{symbol_at}
+use Rattle.trade_text.specs.Text.{row_text}
 use Rattle.row_origin.specs.Origins.{StageOrigin}
 use Rattle.origin_text.specs.Alone.{given_again, input_marks}
 use Rattle.origin_text.specs.Files.{FilesView, files_in, input_text, rows_in}
@@ -28,10 +28,6 @@ pub record Asked : Type 0 where
   pub check : Bool
 
 -- ---- rows
-
--- a row as its line of the output has it
-abbrev pub row_text : List (List ℕ) → Row → List ℕ
-row_text symbols r = (signed_decimal r.time ++ codes "," ++ signed_decimal r.account ++ codes ",") ++ symbol_at symbols r.symbol ++ (codes "," ++ signed_decimal r.qty ++ codes "," ++ signed_decimal r.value)
 
 -- what stands behind the row by which the row of the output came
 abbrev pub came_text : OpSpec → List ℕ

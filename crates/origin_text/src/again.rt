@@ -6,9 +6,9 @@ ghost use Rattle.std.specs.Prelude.{◌≡◌, ◌++◌, All, OnOk, Some, slice_
 
 use crate::alone::{Again, given_again};
 use crate::files::InputFiles;
-use crate::pieces::{push_count, push_text};
 use crate::why::Question;
 use std::alloc::Global;
+use trade_text::{push_number, push_text};
 use tuple_edge::{OutOfMemory, Row};
 
 // What came in.
@@ -34,9 +34,9 @@ fn push_over(
     push_text(text, "Over these ")?;
     push_text(text, kinds_text(files))?;
     push_text(text, " alone, ")?;
-    push_count(alloc, text, chosen as u64)?;
+    push_number(alloc, text, chosen as u64)?;
     push_text(text, " of the ")?;
-    push_count(alloc, text, files.inputs.rows().len() as u64)?;
+    push_number(alloc, text, files.inputs.rows().len() as u64)?;
     push_text(text, " that came in, ")
 }
 
@@ -50,9 +50,9 @@ fn push_there(
     ensures { OnOk result (text.new.items ≡ text.old.items ++ among_text given (Some number)) }
 {
     push_text(text, "the plan gives this row again, as row ")?;
-    push_count(alloc, text, number as u64)?;
+    push_number(alloc, text, number as u64)?;
     push_text(text, " of ")?;
-    push_count(alloc, text, given as u64)?;
+    push_number(alloc, text, given as u64)?;
     push_text(text, ".\n")
 }
 
@@ -69,7 +69,7 @@ fn push_among(
         return push_there(alloc, text, given, number);
     }
     push_text(text, "this row isn't among the ")?;
-    push_count(alloc, text, given as u64)?;
+    push_number(alloc, text, given as u64)?;
     push_text(
         text,
         " that the plan gives: without the others a stage passes on other rows.\n",

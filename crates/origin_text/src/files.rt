@@ -4,9 +4,8 @@ ghost use Rattle.std.specs.Prelude.{◌≡◌, ◌≤◌, ◌<◌, ◌^◌, ◌+
 ghost use Rattle.trade_text.specs.TradesView.{inputs_in};
 
 use crate::lines::InputLines;
-use crate::pieces::{push_count, push_text};
 use std::alloc::Global;
-use trade_text::Trades;
+use trade_text::{Trades, push_number, push_text};
 use tuple_edge::{Input, OutOfMemory, Row};
 
 /// A file of trades or of movements: its name, its text without a mark at the front, and the rows of its records, in their order.
@@ -126,7 +125,7 @@ fn push_line(
 {
     let line = line_of_nth(lines, source, file, row, before);
     push_text(text, "line ")?;
-    push_count(alloc, text, line)?;
+    push_number(alloc, text, line)?;
     push_text(text, " of ")?;
     push_text(text, file.name)
 }

@@ -11,7 +11,6 @@ mod again;
 mod alone;
 mod files;
 mod lines;
-mod pieces;
 mod rows;
 mod told;
 mod why;

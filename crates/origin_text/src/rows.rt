@@ -1,32 +1,17 @@
 // The lines of rows.
 ghost use Rattle.origin_text.specs.Files.{files_in, texts_of};
-ghost use Rattle.origin_text.specs.Text.{asked_in, came_text, is_number, more_line, part_text, place_text, role_text, row_text, shown_lines, some_lines, told_line, told_lines};
+ghost use Rattle.origin_text.specs.Text.{asked_in, came_text, is_number, more_line, part_text, place_text, role_text, shown_lines, some_lines, told_line, told_lines};
 ghost use Rattle.std.specs.Prelude.{◌≡◌, ◌≤◌, ◌++◌, OnOk, length};
 
 use crate::files::{InputFiles, push_input};
 use crate::lines::InputLines;
-use crate::pieces::{push_amounts, push_count, push_front, push_symbol, push_text};
 use crate::told::ToldRow;
 use crate::why::Question;
 use op_spec::OpSpec;
 use plan_reader::Stage;
 use std::alloc::Global;
-use trade_text::Trades;
+use trade_text::{push_number, push_row, push_text};
 use tuple_edge::{OutOfMemory, Row, route};
-
-// Appends a row as its line of the output has it.
-pub(crate) fn push_row(
-    alloc: Global,
-    text: &mut Vec<u8>,
-    trades: &Trades,
-    row: &Row,
-) -> Result<(), OutOfMemory>
-    ensures { OnOk result (text.new.items ≡ text.old.items ++ row_text trades.now.symbols row.now) }
-{
-    push_front(alloc, text, row)?;
-    push_symbol(text, trades, row)?;
-    push_amounts(alloc, text, row)
-}
 
 // What stands behind the row by which the row of the output came.
 fn came_text(op: &OpSpec) -> &'static str
@@ -78,7 +63,7 @@ fn push_place(
         return push_input(alloc, text, files, lines, number.saturating_sub(1));
     }
     push_text(text, "row ")?;
-    push_count(alloc, text, number as u64)
+    push_number(alloc, text, number as u64)
 }
 
 // Appends to which partition of a stage a row goes.
@@ -87,7 +72,7 @@ fn push_part(alloc: Global, text: &mut Vec<u8>, stage: &Stage, row: &Row) -> Res
     ensures { OnOk result (text.new.items ≡ text.old.items ++ part_text stage.now row.now) }
 {
     push_text(text, " in partition ")?;
-    push_count(alloc, text, u64::from(route(row, stage.by, stage.parts)))?;
+    push_number(alloc, text, u64::from(route(row, stage.by, stage.parts)))?;
     push_text(text, ": ")
 }
 
@@ -142,7 +127,7 @@ fn push_more(alloc: Global, text: &mut Vec<u8>, count: u64) -> Result<(), OutOfM
     ensures { OnOk result (text.new.items ≡ text.old.items ++ more_line count) }
 {
     push_text(text, "  .. ")?;
-    push_count(alloc, text, count)?;
+    push_number(alloc, text, count)?;
     push_text(text, " more\n")
 }
 

@@ -8,14 +8,13 @@ ghost use Rattle.text_words.specs.Text.{line_text};
 use crate::again::push_check;
 use crate::alone::input_marks;
 use crate::files::InputFiles;
-use crate::pieces::{push_count, push_text};
-use crate::rows::{push_row, push_shown};
+use crate::rows::push_shown;
 use crate::told::{ToldRow, came_at_end, came_by, counting, told_rows};
 use op_spec::OpSpec;
 use origin_finder::StageTold;
 use plan_reader::{Stage, push_stage};
 use std::alloc::Global;
-use trade_text::Trades;
+use trade_text::{Trades, push_number, push_row, push_text};
 use tuple_edge::{OutOfMemory, Row};
 
 /// What is asked about: the stages of a plan, the files that it is fed with, whether all rows are told, and whether it is told if
@@ -76,11 +75,11 @@ fn push_sum(
     ensures { OnOk result (text.new.items ≡ text.old.items ++ sum_line is_last op.now rows told.now) }
 {
     push_text(text, resting_text(is_last))?;
-    push_count(alloc, text, told.len() as u64)?;
+    push_number(alloc, text, told.len() as u64)?;
     push_text(text, " of the ")?;
-    push_count(alloc, text, rows as u64)?;
+    push_number(alloc, text, rows as u64)?;
     push_text(text, " rows that came in, and ")?;
-    push_count(alloc, text, counting(told) as u64)?;
+    push_number(alloc, text, counting(told) as u64)?;
     push_text(text, " count.")?;
     push_text(text, end_text(came_at_end(is_last, op, told)))
 }
@@ -185,9 +184,9 @@ fn push_numbered(
     ensures { OnOk result (text.new.items ≡ text.old.items ++ head_line trades.now.symbols number count (Some row.now)) }
 {
     push_text(text, "Row ")?;
-    push_count(alloc, text, number)?;
+    push_number(alloc, text, number)?;
     push_text(text, " of ")?;
-    push_count(alloc, text, count as u64)?;
+    push_number(alloc, text, count as u64)?;
     push_text(text, ": ")?;
     push_row(alloc, text, trades, row)?;
     push_text(text, "\n")

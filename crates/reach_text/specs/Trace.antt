@@ -11,6 +11,7 @@ use Rattle.plan_reader.specs.Text.{stage_words}
 use Rattle.plan_reader.specs.declared.stage.Stage.{Stage}
 use Rattle.row_reach.specs.Reach.{Passage}
 use Rattle.trade_text.specs.Symbols.{symbol_at}
+use Rattle.trade_text.specs.Text.{row_text}
 use Rattle.reach_text.specs.Told.{kept_by, rows_before, told_rows}
 use Rattle.reach_finder.specs.Traced.{rows_in}
 use Rattle.reach_text.specs.declared.told.ToldRow.{ToldRow}
@@ -25,10 +26,6 @@ pub record Asked : Type 0 where
   pub symbols : List (List ℕ)
 
 -- ---- rows
-
--- a row as its line of the output has it
-abbrev pub row_text : List (List ℕ) → Row → List ℕ
-row_text symbols r = (signed_decimal r.time ++ codes "," ++ signed_decimal r.account ++ codes ",") ++ symbol_at symbols r.symbol ++ (codes "," ++ signed_decimal r.qty ++ codes "," ++ signed_decimal r.value)
 
 -- the key of a row in words
 abbrev pub key_text : By → List (List ℕ) → Row → List ℕ

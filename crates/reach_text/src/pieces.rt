@@ -1,28 +1,10 @@
 // Pieces of a text.
-ghost use Rattle.reach_text.specs.Trace.{row_text};
-ghost use Rattle.std.specs.Fmt.{decimal, signed_decimal};
-ghost use Rattle.std.specs.Prelude.{◌≡◌, ◌++◌, OnOk, codes};
-ghost use Rattle.trade_text.specs.Symbols.{symbol_at};
+ghost use Rattle.std.specs.Fmt.{decimal};
+ghost use Rattle.std.specs.Prelude.{◌≡◌, ◌++◌, OnOk};
 
 use std::alloc::Global;
-use trade_text::Trades;
-use tuple_edge::{OutOfMemory, Row};
-
-// Appends a text.
-pub(crate) fn push_text(text: &mut Vec<u8>, said: &str) -> Result<(), OutOfMemory>
-    ensures { OnOk result (text.new.items ≡ text.old.items ++ said.now) }
-{
-    text.extend_from_slice(said.as_bytes())?;
-    Ok(())
-}
-
-// Appends a number.
-pub(crate) fn push_number(alloc: Global, text: &mut Vec<u8>, number: u64) -> Result<(), OutOfMemory>
-    ensures { OnOk result (text.new.items ≡ text.old.items ++ decimal number) }
-{
-    let said = format!(in alloc; "{number}")?;
-    push_text(text, said.as_str())
-}
+use trade_text::push_text;
+use tuple_edge::OutOfMemory;
 
 // Appends a number between two texts.
 pub(crate) fn push_count(
@@ -36,46 +18,4 @@ pub(crate) fn push_count(
 {
     let said = format!(in alloc; "{before}{count}{behind}")?;
     push_text(text, said.as_str())
-}
-
-// Appends the symbol of a row by its name.
-pub(crate) fn push_symbol(text: &mut Vec<u8>, trades: &Trades, row: &Row) -> Result<(), OutOfMemory>
-    ensures { OnOk result (text.new.items ≡ text.old.items ++ symbol_at trades.now.symbols row.now.symbol) }
-{
-    text.extend_from_slice(trades.symbol(row.symbol))?;
-    Ok(())
-}
-
-// Appends the time and the account of a row, each before a comma.
-fn push_front(alloc: Global, text: &mut Vec<u8>, row: &Row) -> Result<(), OutOfMemory>
-    ensures { OnOk result (text.new.items ≡ text.old.items ++ (signed_decimal row.now.time ++ codes "," ++ signed_decimal row.now.account ++ codes ",")) }
-{
-    let time = row.time;
-    let account = row.account;
-    let said = format!(in alloc; "{time},{account},")?;
-    push_text(text, said.as_str())
-}
-
-// Appends the quantity and the value of a row, each behind a comma.
-fn push_amounts(alloc: Global, text: &mut Vec<u8>, row: &Row) -> Result<(), OutOfMemory>
-    ensures { OnOk result (text.new.items ≡ text.old.items ++ (codes "," ++ signed_decimal row.now.qty ++ codes "," ++ signed_decimal row.now.value)) }
-{
-    let qty = row.qty;
-    let value = row.value;
-    let said = format!(in alloc; ",{qty},{value}")?;
-    push_text(text, said.as_str())
-}
-
-// Appends a row as its line of the output has it.
-pub(crate) fn push_row(
-    alloc: Global,
-    text: &mut Vec<u8>,
-    trades: &Trades,
-    row: &Row,
-) -> Result<(), OutOfMemory>
-    ensures { OnOk result (text.new.items ≡ text.old.items ++ row_text trades.now.symbols row.now) }
-{
-    push_front(alloc, text, row)?;
-    push_symbol(text, trades, row)?;
-    push_amounts(alloc, text, row)
 }

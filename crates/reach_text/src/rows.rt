@@ -7,14 +7,14 @@ ghost use Rattle.std.specs.Fmt.{decimal, signed_decimal};
 ghost use Rattle.tuple_edge.specs.Row.{route_of};
 ghost use Rattle.std.specs.Prelude.{◌≡◌, ◌≤◌, ◌<◌, ◌-◌, ◌^◌, ◌++◌, All, IfSome, None, OnOk, Some, codes, drop, length, take};
 
-use crate::pieces::{push_count, push_number, push_row, push_symbol, push_text};
+use crate::pieces::push_count;
 use crate::told::{ToldRow, kept_by, rows_before};
 use crate::trace::Question;
 use op_spec::By;
 use plan_reader::Stage;
 use reach_finder::Traced;
 use std::alloc::Global;
-use trade_text::Trades;
+use trade_text::{Trades, push_number, push_row, push_symbol, push_text};
 use tuple_edge::{OutOfMemory, Row, route};
 
 // Appends the account of a row in words, before a symbol.

@@ -9,13 +9,13 @@ ghost use Rattle.std.specs.Fmt.{decimal};
 ghost use Rattle.std.specs.Prelude.{◌≡◌, ◌≤◌, ◌<◌, ◌-◌, ◌^◌, ◌++◌, All, IfOk, None, OnOk, Some, codes, length, map, option_map, slice_get};
 ghost use Rattle.text_words.specs.Text.{line_text};
 
-use crate::pieces::{push_count, push_number, push_row, push_text};
+use crate::pieces::push_count;
 use crate::rows::{StageAt, push_shown};
 use crate::told::{ToldRow, told_rows};
 use plan_reader::{Stage, push_stage};
 use reach_finder::{Passage, Traced};
 use std::alloc::Global;
-use trade_text::Trades;
+use trade_text::{Trades, push_number, push_row, push_text};
 use tuple_edge::OutOfMemory;
 
 /// What is asked about: the line of a trade and the name of its file, the stages of a plan, and the inputs, which know the symbols.

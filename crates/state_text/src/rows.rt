@@ -1,12 +1,11 @@
 // The lines of the rows that were emitted.
 ghost use Rattle.state_text.specs.StateText.{emitted_line};
 ghost use Rattle.std.specs.Fmt.{signed_decimal};
-ghost use Rattle.trade_text.specs.Symbols.{symbol_at};
 ghost use Rattle.std.specs.List.{flat_map};
 ghost use Rattle.std.specs.Prelude.{◌≡◌, ◌++◌, OnOk, codes};
 
 use itoa::Buffer;
-use trade_text::Trades;
+use trade_text::{Trades, push_symbol};
 use tuple_edge::{OutOfMemory, Row};
 
 // The most bytes of a line: a word and a blank, four numbers of at most 20 bytes, a symbol of at most 32, and five
@@ -45,13 +44,6 @@ fn push_times(out: &mut Vec<u8>, row: &Row) -> Result<(), OutOfMemory>
     ensures { OnOk result (out.new.items ≡ out.old.items ++ (signed_decimal row.now.time ++ codes "," ++ signed_decimal row.now.account ++ codes ",")) }
 {
     push_pair(out, row.time, row.account, b",")
-}
-
-// Appends the symbol of a row by its name.
-fn push_symbol(out: &mut Vec<u8>, trades: &Trades, row: &Row) -> Result<(), OutOfMemory>
-    ensures { OnOk result (out.new.items ≡ out.old.items ++ symbol_at trades.now.symbols row.now.symbol) }
-{
-    push_text(out, trades.symbol(row.symbol))
 }
 
 // Appends the quantity and the value of a row, which end its line.

@@ -1,5 +1,5 @@
 // The records and lines of a file, byte by byte.
-ghost use Rattle.std.specs.Prelude.{◌≡◌, ◌≤◌, ◌<◌, ◌+◌, ◌^◌, length};
+ghost use Rattle.std.specs.Prelude.{◌≡◌, ◌≤◌, ◌<◌, ◌+◌, ◌^◌};
 ghost use Rattle.trade_line.specs.Scans.{begins, behind, counted, lines_in};
 ghost use Rattle.trade_text.specs.RecordStates.{state_of};
 

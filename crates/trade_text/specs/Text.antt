@@ -9,6 +9,10 @@ use Rattle.trade_text.specs.Symbols.{symbol_at}
 abbrev pub column_names : List ℕ
 column_names = codes "time,account,symbol,qty,value\n"
 
+-- a row as its line has it, without the end of the line
+abbrev pub row_text : List (List ℕ) → Row → List ℕ
+row_text symbols r = (signed_decimal r.time ++ codes "," ++ signed_decimal r.account ++ codes ",") ++ symbol_at symbols r.symbol ++ (codes "," ++ signed_decimal r.qty ++ codes "," ++ signed_decimal r.value)
+
 -- the line of a row, with its symbol by name
 abbrev pub row_line : List (List ℕ) → Row → List ℕ
 row_line symbols r = signed_decimal r.time ++ codes "," ++ signed_decimal r.account ++ codes "," ++ symbol_at symbols r.symbol

@@ -4,8 +4,9 @@
 //! It promises that `read_trades` and `read_cash` give exactly what a text says, or the first thing in
 //! it that is refused, with the record and the field; that `merge_cash` puts the rows of both files in
 //! the order of their times; and that `write_output` gives exactly the text of rows, with each symbol by
-//! its name. What a record is decides the crate `csv`; the header and the fields are defined here. It
-//! stands on csv, on indexmap for the numbers of symbols, on itoa, and, for number words, on text_words.
+//! its name. What a record is decides the crate `csv`; the header and the fields are defined here. The
+//! calls of which its reading is made serve the crates that tell of the faults of files too. It stands on
+//! csv, on indexmap for the numbers of symbols, on itoa, and, for blanks and number words, on text_words.
 #![tactic(auto)]
 
 mod cash_file;
@@ -15,6 +16,7 @@ mod fields;
 mod files;
 mod law;
 mod merging;
+mod pieces;
 mod record_parser;
 mod record_reader;
 mod record_state;
@@ -32,6 +34,7 @@ pub use error::{CashError, CashField, Field, FileField, ReadError, StreamError, 
 pub use fields::trimmed;
 pub use files::{MAX_INPUT_BYTES, MAX_INPUTS, open_file, text_at};
 pub use law::{first_rows_begin_the_text, tells_as_file};
+pub use pieces::{push_number, push_row, push_symbol, push_text};
 pub use record_state::{RecordAction, RecordState};
 pub use records::{next_record, open_records, starts_with_mark, without_mark};
 pub use symbols::MAX_SYMBOLS;

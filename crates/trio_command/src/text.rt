@@ -2,7 +2,6 @@
 ghost use Rattle.std.specs.Fmt.{signed_decimal};
 ghost use Rattle.std.specs.List.{flat_map};
 ghost use Rattle.std.specs.Prelude.{◌≡◌, ◌++◌, IfOk, OnOk, codes, string_bytes};
-ghost use Rattle.trade_text.specs.Symbols.{symbol_at};
 ghost use Rattle.trio_command.specs.Text.{emitted_line, ended_line, first_line, trio_text};
 ghost use Rattle.trio_core.specs.CoreView.{flow_in, inputs_of};
 ghost use Rattle.trio_core.specs.Stands.{StandsFor};
@@ -11,7 +10,7 @@ ghost use Rattle.trio_machine.specs.Sound.{IsSound};
 ghost use Rattle.trio_state.specs.GroupsText.{groups_text};
 
 use std::alloc::Global;
-use trade_text::Trades;
+use trade_text::{Trades, push_symbol};
 use trio_core::TrioCore;
 use trio_drain::drain;
 use trio_state::write_groups;
@@ -60,14 +59,6 @@ fn row_sums(alloc: Global, row: &Row) -> Result<String, OutOfMemory>
     let (qty, value) = (row.qty, row.value);
     let text = format!(in alloc; ",{qty},{value}\n")?;
     Ok(text)
-}
-
-// Appends the symbol of a row by its name.
-fn push_symbol(text: &mut Vec<u8>, trades: &Trades, row: &Row) -> Result<(), OutOfMemory>
-    ensures { OnOk result (text.new.items ≡ text.old.items ++ symbol_at trades.now.symbols row.now.symbol) }
-{
-    text.extend_from_slice(trades.symbol(row.symbol))?;
-    Ok(())
 }
 
 // Appends the line of a row that was emitted.

@@ -39,12 +39,11 @@ impl Model for KeptCash {
     ghost view = { λ k. record { rows = k.cash; bytes = k.bytes.items } };
 }
 
-// A copy of bytes.
-fn copied(alloc: Global, bytes: &[u8]) -> Result<Vec<u8>, OutOfMemory>
-    ensures { IfOk result (λ copy. copy.items ≡ bytes.now) }
+// A copy of items.
+pub(crate) fn copied<T: Copy>(alloc: Global, items: &[T]) -> Result<Vec<T>, OutOfMemory>
+    ensures { IfOk result (λ copy. copy.items ≡ items.now) }
 {
-    let mut copy = Vec::with_capacity(alloc, bytes.len())?;
-    copy.extend_from_slice(bytes)?;
+    let copy = Vec::from_slice(alloc, items)?;
     Ok(copy)
 }
 

@@ -12,7 +12,7 @@ ghost use Rattle.trade_text.specs.TradesView.{inputs_in};
 ghost use Rattle.why_command.specs.Courses.{answers, is_row, movements_way, no_row_line, row_count, tells, trades_way, why_way};
 ghost use Rattle.why_command.specs.Given.{no_cash, question};
 
-use crate::kept::{KeptCash, KeptCashFile, KeptTrades, KeptTradesFile};
+use crate::kept::{KeptCash, KeptCashFile, KeptTrades, KeptTradesFile, copied};
 use command_course::{Answer, Ending, Stop, input_at, plan_at, refused};
 use flux_outside::Files;
 use origin_finder::{StageTold, origins_of};
@@ -20,7 +20,7 @@ use origin_text::{InputFile, InputFiles, Question, write_why};
 use plan_reader::Plan;
 use std::alloc::Global;
 use trade_text::{Cash, MAX_INPUTS, Trades, without_mark};
-use tuple_edge::{OutOfMemory, Row};
+use tuple_edge::OutOfMemory;
 
 /// Which row of the output is asked about, from 1, whether all rows are told on which it rests, and whether it is told if the inputs
 /// among these give it again by themselves.
@@ -96,15 +96,6 @@ fn answered(
     let place = number.saturating_sub(1) as usize;
     let told = origins_of(alloc, plan, question.files.inputs, place)?;
     told_answer(alloc, question, number, &told)
-}
-
-// A copy of rows.
-fn copied(alloc: Global, rows: &[Row]) -> Result<Vec<Row>, OutOfMemory>
-    ensures { IfOk result (λ copy. copy.items ≡ rows.now) }
-{
-    let mut copy = Vec::with_capacity(alloc, rows.len())?;
-    copy.extend_from_slice(rows)?;
-    Ok(copy)
 }
 
 // Trades with the movements that a plan takes: one of version 1 takes none.

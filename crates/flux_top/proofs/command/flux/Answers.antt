@@ -66,3 +66,22 @@ returns-in-Err-PairLost-clause-lost g c = λ six.
       writes = stops.writes;
       tells = subst (Tells (g.E.Sink.told c.args.err.now) (g.E.Sink.told c.say-in-Err-PairLost.new.err)) (c.as_str-in-Err-PairLost.ensures.value ∙ stops.line_is) c.say-in-Err-PairLost.ensures;
     }
+
+pub returns-in-Err-Refused-clause-refused : goal.returns-in-Err-Refused-clause-refused
+returns-in-Err-Refused-clause-refused g c = λ three.
+    let stops = rw c.in-Err-Refused.field-0-is at c.in-Err-Refused.ensures.stops in
+    record {
+      line = stops.line;
+      comes = stops.comes;
+      tells = subst (Tells (g.E.Sink.told c.args.err.now) (g.E.Sink.told c.say-in-Err-Refused.new.err)) (c.as_str.ensures.value ∙ stops.said_is) c.say-in-Err-Refused.ensures;
+    }
+
+pub returns-in-Err-CannotRead-clause-unread : goal.returns-in-Err-CannotRead-clause-unread
+returns-in-Err-CannotRead-clause-unread g c = λ four.
+    let stops = rw c.in-Err-CannotRead.field-0-is at c.in-Err-CannotRead.ensures.stops in
+    record {
+      name = stops.name;
+      comes = stops.comes;
+      tells = subst (Tells (g.E.Sink.told c.args.err.now) (g.E.Sink.told c.say-in-Err-CannotRead.new.err)) (c.as_str-in-Err-CannotRead.ensures.value ∙ stops.said_is) c.say-in-Err-CannotRead.ensures;
+      rose = rw c.in-Err-CannotRead.field-0-is at c.in-Err-CannotRead.ensures.cause;
+    }

@@ -28,7 +28,7 @@ counted plan trades limits good only number part back rows d count inputs mark s
 pub returns : goal.returns
 returns c =
     let stages : c.stages.result.now ≡ c.args.plan.now.stages = c.stages.ensures.value in
-    let came = c.deref.ensures.value ∙ c.in_ok-rows.ensures ∙ (λ j. rows_after (c.split_at.ensures.front j) ((c.in_ok-copied.ensures ∙ c.rows.ensures.rows) j) [])
+    let came = c.deref.ensures.value ∙ c.in_ok-rows.ensures ∙ (λ j. rows_after (c.split_at.ensures.front j) ((c.in_ok-from_slice.ensures.items ∙ c.rows.ensures.rows) j) [])
     ∙ ap (λ (ss : List Stage). rows_after (take (c.args.stage - 1) ss) c.args.trades.now.rows []) stages in
     counted c.args.plan.now c.args.trades.now c.stages.ensures.limits c.rows.ensures.limits c.requires.merged.0 c.args.stage c.args.part c.split_at.result.1.now c.deref.result.now _
     c.count_to.result (length c.rows-2.result.now) c.mark.result c.requires.some c.requires.there (c.split_at.ensures.back ∙ ap (drop (c.args.stage - 1)) stages) came

@@ -1,8 +1,8 @@
-use Rattle.origin_text.proofs.Pushing.{more, then}
+use Rattle.text_words.proofs.Pushing.{more, then}
 use Rattle.origin_text.proofs.again.push_among.Goals as goal
 
 pub returns : goal.returns
 returns c = rw c.in_default.is (then c.push_text-2.result (λ e.
     let start = c.args.text.now.items in
-    more start (c.push_count.new.text.items) (c.push_text-2.new.text.items) _ _ (more start (c.push_text.new.text.items) (c.push_count.new.text.items) _ _
-    c.in_ok-push_text.ensures c.in_ok-push_count.ensures) e) c.push_text-2.ensures)
+    more start (c.push_number.new.text.items) (c.push_text-2.new.text.items) _ _ (more start (c.push_text.new.text.items) (c.push_number.new.text.items) _ _
+    c.in_ok-push_text.ensures c.in_ok-push_number.ensures) e) c.push_text-2.ensures)

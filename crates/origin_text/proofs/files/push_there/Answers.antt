@@ -1,7 +1,7 @@
 use Rattle.std.proofs.Common.{ℕ, ◌++◌, ◌∙◌, Option, ap, sym}
 use Rattle.tuple_edge.specs.Input.{Input}
 use Rattle.origin_text.specs.Files.{FileView, file_of, files_in, input_text, line_in}
-use Rattle.origin_text.proofs.Pushing.{then}
+use Rattle.text_words.proofs.Pushing.{then}
 use Rattle.origin_text.proofs.files.push_there.Goals as goal
 
 pub returns-clause-text : goal.returns-clause-text

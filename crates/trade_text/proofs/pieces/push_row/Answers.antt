@@ -1,5 +1,5 @@
-use Rattle.origin_text.proofs.Pushing.{more, then}
-use Rattle.origin_text.proofs.rows.push_row.Goals as goal
+use Rattle.text_words.proofs.Pushing.{more, then}
+use Rattle.trade_text.proofs.pieces.push_row.Goals as goal
 
 pub returns : goal.returns
 returns c = then c.push_amounts.result (λ e.
