@@ -11,5 +11,5 @@ mod ended;
 mod run;
 
 pub use ended::Ended;
-pub use partition_runner::{FreeGate, Gate, Unwritten};
+pub use partition_runner::{FreeGate, Gate, Job, Unwritten};
 pub use run::{finish_run, run_and_drain, run_unlogged_and_drain};

@@ -2,43 +2,38 @@
 ghost use mathlib.Core.List.{IsPrefix};
 ghost use Rattle.drained_run.specs.Ended.{IsEnded};
 ghost use Rattle.pair_machine.specs.Output.{output};
+ghost use Rattle.partition_runner.specs.Job.{AreWorkers};
 ghost use Rattle.partition_runner.specs.Ran.{IsLegalKept, emitted_in};
-ghost use Rattle.std.specs.Prelude.{◌≤◌, IfOk};
+ghost use Rattle.std.specs.Prelude.{IfOk};
 ghost use Rattle.trade_text.specs.TradesView.{inputs_in};
-ghost use Rattle.tuple_edge.specs.Limits.{max_threads};
 
 use crate::ended::Ended;
 use core_drain::drain;
 use event_log::{EventBlocks, Keeps};
-use failure_script::Script;
 use flux_core::Core;
-use partition_runner::{Gate, Left, Unwritten, run_logged, run_unlogged};
-use plan_reader::Plan;
+use partition_runner::{Gate, Job, Left, Unwritten, run_logged, run_unlogged};
 use std::alloc::Global;
 use std::thread::Threads;
-use trade_text::Trades;
 use tuple_edge::OutOfMemory;
 
 /// Brings what the threads left to the end of the run: what is left to be done is drained on the caller.
 ///
 /// It ends as a run by `run_and_drain` does, with its events written where those of the threads are. Its rows begin with those that egress had emitted, which are a front of
 /// the plan's output whatever comes.
-pub fn finish_run<K: Keeps>(
+pub fn finish_run<K: Keeps, G: Gate>(
     alloc: Global,
-    plan: &Plan,
-    trades: &Trades,
-    script: &Script,
+    job: &Job<'_, G>,
     left: Left<K>,
 ) -> Result<Ended<K>, OutOfMemory>
-    requires { IsLegalKept K.kept plan.now (inputs_in trades.now) script.now left }
-    ensures ended { IfOk result (IsEnded plan.now (inputs_in trades.now) script.now) }
+    requires { IsLegalKept K.kept job.now.plan.now (inputs_in job.now.trades.now) job.now.script.now left }
+    ensures ended { IfOk result (IsEnded job.now.plan.now (inputs_in job.now.trades.now) job.now.script.now) }
     ensures goes_on { IfOk result (λ ended. IsPrefix (emitted_in left.nodes.items) ended.rows) }
-    ensures front { IsPrefix (emitted_in left.nodes.items) (output plan.now (inputs_in trades.now)) }
+    ensures front { IsPrefix (emitted_in left.nodes.items) (output job.now.plan.now (inputs_in job.now.trades.now)) }
 {
     // This call's clause says that a plan is within the limits.
-    let _stages = plan.stages();
+    let _stages = job.plan.stages();
     let Left { nodes, logs } = left;
-    let mut core = Core::of(alloc, plan, nodes)?;
+    let mut core = Core::of(alloc, job.plan, nodes)?;
     let mut events = EventBlocks::new(alloc);
     let drained = drain(&mut core, &mut events)?;
     Ok(Ended {
@@ -58,36 +53,24 @@ pub fn finish_run<K: Keeps>(
 pub fn run_and_drain<R: Threads + Sync, G: Gate>(
     rt: &R,
     alloc: Global,
-    plan: &Plan,
-    trades: &Trades,
-    script: &Script,
-    threads: u32,
-    turns: u64,
-    gate: &G,
+    job: &Job<'_, G>,
 ) -> Result<Ended, OutOfMemory>
-    requires some { 1 ≤ threads }
-    requires few { threads ≤ max_threads }
-    ensures { IfOk result (IsEnded plan.now (inputs_in trades.now) script.now) }
+    requires { AreWorkers job.now.threads }
+    ensures { IfOk result (IsEnded job.now.plan.now (inputs_in job.now.trades.now) job.now.script.now) }
 {
-    let left = run_logged(rt, alloc, plan, trades, script, threads, turns, gate)?;
-    finish_run(alloc, plan, trades, script, left)
+    let left = run_logged(rt, alloc, job)?;
+    finish_run(alloc, job, left)
 }
 
 /// The same with events that are not written: proofs alone know them, and they take no memory. So such a run has no journal.
 pub fn run_unlogged_and_drain<R: Threads + Sync, G: Gate>(
     rt: &R,
     alloc: Global,
-    plan: &Plan,
-    trades: &Trades,
-    script: &Script,
-    threads: u32,
-    turns: u64,
-    gate: &G,
+    job: &Job<'_, G>,
 ) -> Result<Ended<Unwritten>, OutOfMemory>
-    requires some { 1 ≤ threads }
-    requires few { threads ≤ max_threads }
-    ensures { IfOk result (IsEnded plan.now (inputs_in trades.now) script.now) }
+    requires { AreWorkers job.now.threads }
+    ensures { IfOk result (IsEnded job.now.plan.now (inputs_in job.now.trades.now) job.now.script.now) }
 {
-    let left = run_unlogged(rt, alloc, plan, trades, script, threads, turns, gate)?;
-    finish_run(alloc, plan, trades, script, left)
+    let left = run_unlogged(rt, alloc, job)?;
+    finish_run(alloc, job, left)
 }

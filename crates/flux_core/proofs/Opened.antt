@@ -139,11 +139,11 @@ abbrev pub Bare : PlanView → Bool → List NodeState → CoreView
 Bare plan whole nodes = core_of plan whole (map new_station nodes)
 
 -- what a core is that opens
-pub record IsOpened (core : CoreView) (given : PlanView) (inputs : List Input) : Type 0 where
+pub record IsOpened (core : CoreView) (given : PlanView) (all : List Input) : Type 0 where
   pub is : IsCore core
   pub opens : StandsFor core opening
   pub plan : core.plan ≡ given
-  pub inputs : inputs_of core ≡ inputs
+  pub inputs : inputs_of core ≡ all
 
 opened_bare : (plan : PlanView) (inputs : List Input) (nodes : List NodeState) (d : NodeState) → IsPlan plan → AreTimely (inputs_in (slice_index_or nodes 0 d)) → map id_of nodes ≡ nodes_of plan → AreOpen plan inputs nodes
     → IsOpened (Bare plan true nodes) plan inputs

@@ -1,21 +1,18 @@
 // A run, and its events as one list.
 ghost use Rattle.listed_run.specs.Listed.{IsListed, first_line};
+ghost use Rattle.partition_runner.specs.Job.{AreWorkers};
 ghost use Rattle.partition_runner.specs.Ran.{IsLegalRun};
 ghost use Rattle.run_journal.specs.Text.{lined_from};
-ghost use Rattle.std.specs.Prelude.{◌≡◌, ◌≤◌, IfOk};
+ghost use Rattle.std.specs.Prelude.{◌≡◌, IfOk};
 ghost use Rattle.trade_text.specs.TradesView.{inputs_in};
-ghost use Rattle.tuple_edge.specs.Limits.{max_threads};
 
 use core_drain::drain;
 use event_log::EventBlocks;
-use failure_script::Script;
 use flux_core::Core;
-use partition_runner::{Gate, Ran, run_nodes};
-use plan_reader::Plan;
+use partition_runner::{Gate, Job, Ran, run_nodes};
 use run_journal::{Lined, merge};
 use std::alloc::Global;
 use std::thread::Threads;
-use trade_text::Trades;
 use tuple_edge::{Drained, Event, OutOfMemory, Row};
 
 /// The line of the first event in a journal: before it stands the line that says what the text is.
@@ -49,22 +46,16 @@ fn lined(alloc: Global, events: &[Event]) -> Result<Vec<Lined>, OutOfMemory>
 }
 
 // Brings what the threads left to the end of the run, and makes one list of all events.
-fn finish(
-    alloc: Global,
-    plan: &Plan,
-    trades: &Trades,
-    script: &Script,
-    ran: Ran,
-) -> Result<Listed, OutOfMemory>
-    requires { IsLegalRun plan.now (inputs_in trades.now) script.now ran }
-    ensures { IfOk result (IsListed plan.now (inputs_in trades.now) script.now) }
+fn finish<G: Gate>(alloc: Global, job: &Job<'_, G>, ran: Ran) -> Result<Listed, OutOfMemory>
+    requires { IsLegalRun job.now.plan.now (inputs_in job.now.trades.now) job.now.script.now ran }
+    ensures { IfOk result (IsListed job.now.plan.now (inputs_in job.now.trades.now) job.now.script.now) }
 {
     // This call's clause says that a plan is within the limits.
-    let _stages = plan.stages();
+    let _stages = job.plan.stages();
     let Ran { nodes, histories } = ran;
     let mut events = merge(alloc, &histories)?;
     drop(histories);
-    let mut core = Core::of(alloc, plan, nodes)?;
+    let mut core = Core::of(alloc, job.plan, nodes)?;
     let mut blocks = EventBlocks::new(alloc);
     let drained = drain(&mut core, &mut blocks)?;
     blocks.append_to(&mut events)?;
@@ -83,17 +74,20 @@ fn finish(
 pub fn run_and_list<R: Threads + Sync, G: Gate>(
     rt: &R,
     alloc: Global,
-    plan: &Plan,
-    trades: &Trades,
-    script: &Script,
-    threads: u32,
-    turns: u64,
-    gate: &G,
+    job: &Job<'_, G>,
 ) -> Result<Listed, OutOfMemory>
-    requires some { 1 ≤ threads }
-    requires few { threads ≤ max_threads }
-    ensures { IfOk result (IsListed plan.now (inputs_in trades.now) script.now) }
+    requires { AreWorkers job.now.threads }
+    ensures { IfOk result (IsListed job.now.plan.now (inputs_in job.now.trades.now) job.now.script.now) }
 {
-    let ran = run_nodes(rt, alloc, plan, trades, script, threads, turns, gate)?;
-    finish(alloc, plan, trades, script, ran)
+    let ran = run_nodes(
+        rt,
+        alloc,
+        job.plan,
+        job.trades,
+        job.script,
+        job.threads,
+        job.turns,
+        job.gate,
+    )?;
+    finish(alloc, job, ran)
 }

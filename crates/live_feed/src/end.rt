@@ -8,26 +8,21 @@ ghost use Rattle.trade_text.specs.TradesView.{inputs_in};
 ghost use Rattle.tuple_edge.specs.declared.row.Row.{Row};
 
 use drained_run::{Ended, finish_run};
-use failure_script::Script;
-use partition_runner::{Left, Unwritten};
-use plan_reader::Plan;
+use partition_runner::{Gate, Job, Left, Unwritten};
 use std::alloc::Global;
-use trade_text::Trades;
 use tuple_edge::OutOfMemory;
 
 // Brings what the threads left to the end of the run, if they found memory.
-pub(crate) fn end_of(
+pub(crate) fn end_of<G: Gate>(
     alloc: Global,
-    plan: &Plan,
-    trades: &Trades,
-    script: &Script,
+    job: &Job<'_, G>,
     left: Result<Left<Unwritten>, OutOfMemory>,
 ) -> Result<Ended<Unwritten>, OutOfMemory>
-    requires { IfOk left (IsLegalLeft plan.now (inputs_in trades.now) script.now) }
-    ensures { (given : List Row) → MatchResult left (λ left. IsPrefix given (emitted_in left.nodes.items)) (λ _. IsPrefix given (output plan.now (inputs_in trades.now))) → HasRun plan.now (inputs_in trades.now) script.now given result }
+    requires { IfOk left (IsLegalLeft job.now.plan.now (inputs_in job.now.trades.now) job.now.script.now) }
+    ensures { (given : List Row) → MatchResult left (λ left. IsPrefix given (emitted_in left.nodes.items)) (λ _. IsPrefix given (output job.now.plan.now (inputs_in job.now.trades.now))) → HasRun job.now.plan.now (inputs_in job.now.trades.now) job.now.script.now given result }
 {
     match left {
-        Ok(left) => finish_run(alloc, plan, trades, script, left),
+        Ok(left) => finish_run(alloc, job, left),
         Err(OutOfMemory) => Err(OutOfMemory),
     }
 }

@@ -7,19 +7,19 @@ ghost use Rattle.drained_run.specs.Ended.{IsEnded};
 ghost use Rattle.flux_outside.specs.Outside.{Rose};
 ghost use Rattle.flux_outside.specs.Told.{SinkTold};
 ghost use Rattle.pair_machine.specs.Scripts.{IsSafe};
+ghost use Rattle.partition_runner.specs.Job.{AreWorkers, IsJobOf};
 ghost use Rattle.row_channel.specs.Ends.{receives_from, rows_got, rows_sent, sends_to};
 ghost use Rattle.row_wire.specs.Written.{IsWritten, OffersFront, TakesFront};
 ghost use Rattle.std.specs.Prelude.{◌≡◌, ◌≤◌, ◌⊎◌, [], IsTrue, is_some, length, take};
 ghost use Rattle.trade_text.specs.Text.{part_text};
 ghost use Rattle.trade_text.specs.TradesView.{inputs_in};
-ghost use Rattle.tuple_edge.specs.Limits.{max_threads};
 
 use crate::answer::Live;
 use crate::end::end_of;
 use crate::tap::{RowTap, SendingTap};
 use drained_run::Ended;
 use failure_script::Script;
-use partition_runner::{FedNames, Gate, Tapped, Unwritten, ready_tapped, run_tapped};
+use partition_runner::{FedNames, Gate, Job, Tapped, Unwritten, ready_tapped, run_tapped};
 use plan_reader::Plan;
 use row_channel::{ChannelNames, RowReceiver, RowSender, row_channel};
 use row_wire::{Wire, Written, write_received, write_rest};
@@ -41,16 +41,10 @@ struct RunSide {
 fn run_side<N: FedNames, T: SendingTap + Send, R: Threads + Wait + Sync, G: Gate>(
     rt: &R,
     alloc: Global,
-    plan: &Plan,
-    trades: &Trades,
-    script: &Script,
-    turns: u64,
-    gate: &G,
+    job: &Job<'_, G>,
     ready: &mut Option<Tapped<N, T>>,
 ) -> RunSide
-    requires plan { plan.now ≡ N.plan }
-    requires trades { inputs_in trades.now ≡ N.inputs }
-    requires script { script.now ≡ N.script }
+    requires job { IsJobOf N.plan N.inputs N.script job.now }
     requires ready { IsTrue (is_some ready.old) }
     ensures run { HasRun N.plan N.inputs N.script (rows_sent result.sender) result.end }
     ensures channel { sends_to result.sender ≡ T.channel }
@@ -58,8 +52,10 @@ fn run_side<N: FedNames, T: SendingTap + Send, R: Threads + Wait + Sync, G: Gate
     let Some(ready) = ready.take() else {
         unreachable!()
     };
-    let (left, tap) = run_tapped(rt, alloc, plan, trades, script, turns, gate, ready);
-    let end = end_of(alloc, plan, trades, script, left);
+    let (left, tap) = run_tapped(
+        rt, alloc, job.plan, job.trades, job.script, job.turns, job.gate, ready,
+    );
+    let end = end_of(alloc, job, left);
     let mut sender = tap.into_sender();
     sender.stop(rt);
     RunSide { end, sender }
@@ -132,19 +128,13 @@ fn close<N: FedNames, W: Wire>(
 fn fork<N: FedNames, T: SendingTap + Send, R: Threads + Wait + Sync, W: Wire + Send, G: Gate>(
     rt: &R,
     alloc: Global,
-    plan: &Plan,
-    trades: &Trades,
-    script: &Script,
-    turns: u64,
-    gate: &G,
+    job: &Job<'_, G>,
     ready: &mut Option<Tapped<N, T>>,
     named: &Trades,
     receiver: &mut RowReceiver,
     out: &mut W,
 ) -> (RunSide, Written)
-    requires plan { plan.now ≡ N.plan }
-    requires trades { inputs_in trades.now ≡ N.inputs }
-    requires script { script.now ≡ N.script }
+    requires job { IsJobOf N.plan N.inputs N.script job.now }
     requires ready { IsTrue (is_some ready.old) }
     requires got { rows_got receiver.old ≡ [] }
     ensures run { HasRun N.plan N.inputs N.script (rows_sent result.0.sender) result.0.end }
@@ -160,9 +150,9 @@ fn fork<N: FedNames, T: SendingTap + Send, R: Threads + Wait + Sync, W: Wire + S
             × (receives_from receiver.exit.now ≡ receives_from receiver.entry.now) }
     { write_received(rt, for_writing, named, receiver, out) };
     let mut run = || -> RunSide
-        requires { (plan.now ≡ N.plan) × (inputs_in trades.now ≡ N.inputs) × (script.now ≡ N.script) × IsTrue (is_some ready.now) }
+        requires { IsJobOf N.plan N.inputs N.script job.now × IsTrue (is_some ready.now) }
         ensures { HasRun N.plan N.inputs N.script (rows_sent result.sender) result.end × (sends_to result.sender ≡ T.channel) }
-    { run_side(rt, alloc, plan, trades, script, turns, gate, ready) };
+    { run_side(rt, alloc, job, ready) };
     // The one that waits for the other has the new thread: where none can be made it comes last, and finds what was sent.
     let (written, side) = join_mut(rt, &mut write, &mut run);
     (side, written)
@@ -172,38 +162,20 @@ fn fork<N: FedNames, T: SendingTap + Send, R: Threads + Wait + Sync, W: Wire + S
 fn live_ready<N: FedNames, T: SendingTap + Send, R: Threads + Wait + Sync, W: Wire + Send, G: Gate>(
     rt: &R,
     alloc: Global,
-    plan: &Plan,
-    trades: &Trades,
-    script: &Script,
-    turns: u64,
-    gate: &G,
+    job: &Job<'_, G>,
     ready: Tapped<N, T>,
     receiver: RowReceiver,
     out: &mut W,
 ) -> Live
-    requires plan { plan.now ≡ N.plan }
-    requires trades { inputs_in trades.now ≡ N.inputs }
-    requires script { script.now ≡ N.script }
+    requires job { IsJobOf N.plan N.inputs N.script job.now }
     requires receives { receives_from receiver ≡ T.channel }
     requires got { rows_got receiver ≡ [] }
-    ensures { LivesSo N.plan N.inputs N.script trades.now.symbols (W.told out.old) (W.told out.new) result }
+    ensures { LivesSo N.plan N.inputs N.script job.now.trades.now.symbols (W.told out.old) (W.told out.new) result }
 {
     let mut ready = Some(ready);
     let mut receiver = receiver;
-    let (side, written) = fork(
-        rt,
-        alloc,
-        plan,
-        trades,
-        script,
-        turns,
-        gate,
-        &mut ready,
-        trades,
-        &mut receiver,
-        out,
-    );
-    close::<N, W>(alloc, trades, side, receiver, written, out)
+    let (side, written) = fork(rt, alloc, job, &mut ready, job.trades, &mut receiver, out);
+    close::<N, W>(alloc, job.trades, side, receiver, written, out)
 }
 
 // Runs a plan on one side and writes on the other, over the two ends of a channel.
@@ -211,67 +183,51 @@ fn live_ready<N: FedNames, T: SendingTap + Send, R: Threads + Wait + Sync, W: Wi
 fn live_over<N: FedNames, C: ChannelNames, R: Threads + Wait + Sync, W: Wire + Send, G: Gate>(
     rt: &R,
     alloc: Global,
-    plan: &Plan,
-    trades: &Trades,
-    script: &Script,
-    threads: u32,
-    turns: u64,
-    gate: &G,
+    job: &Job<'_, G>,
     sender: RowSender,
     receiver: RowReceiver,
     out: &mut W,
 ) -> Live
-    requires plan { plan.now ≡ N.plan }
-    requires trades { inputs_in trades.now ≡ N.inputs }
-    requires script { script.now ≡ N.script }
-    requires some { 1 ≤ threads }
-    requires few { threads ≤ max_threads }
+    requires job { IsJobOf N.plan N.inputs N.script job.now }
     requires sends { sends_to sender ≡ C.channel }
     requires receives { receives_from receiver ≡ C.channel }
     requires sent { rows_sent sender ≡ [] }
     requires got { rows_got receiver ≡ [] }
-    ensures { LivesSo N.plan N.inputs N.script trades.now.symbols (W.told out.old) (W.told out.new) result }
+    ensures { LivesSo N.plan N.inputs N.script job.now.trades.now.symbols (W.told out.old) (W.told out.new) result }
 {
     let tap: RowTap<'_, R, C> = RowTap {
         rt,
         sender,
         channel: PhantomData,
     };
-    let Ok(ready) = ready_tapped::<N, RowTap<'_, R, C>>(alloc, plan, trades, script, threads, tap)
-    else {
+    let Ok(ready) = ready_tapped::<N, RowTap<'_, R, C>>(
+        alloc,
+        job.plan,
+        job.trades,
+        job.script,
+        job.threads,
+        tap,
+    ) else {
         return Live::OutOfMemory;
     };
-    live_ready(
-        rt, alloc, plan, trades, script, turns, gate, ready, receiver, out,
-    )
+    live_ready(rt, alloc, job, ready, receiver, out)
 }
 
-// The same for names that are the plan's, over a channel that is made first.
+// The same for names that are the job's, over a channel that is made first.
 #[tactic(auto, using(crate::proofs::Texts::lives_unstarted))]
 fn live_named<N: FedNames, R: Threads + Wait + Sync, W: Wire + Send, G: Gate>(
     rt: &R,
     alloc: Global,
-    plan: &Plan,
-    trades: &Trades,
-    script: &Script,
-    threads: u32,
-    turns: u64,
-    gate: &G,
+    job: &Job<'_, G>,
     out: &mut W,
 ) -> Live
-    requires plan { plan.now ≡ N.plan }
-    requires trades { inputs_in trades.now ≡ N.inputs }
-    requires script { script.now ≡ N.script }
-    requires some { 1 ≤ threads }
-    requires few { threads ≤ max_threads }
-    ensures { LivesSo N.plan N.inputs N.script trades.now.symbols (W.told out.old) (W.told out.new) result }
+    requires job { IsJobOf N.plan N.inputs N.script job.now }
+    ensures { LivesSo N.plan N.inputs N.script job.now.trades.now.symbols (W.told out.old) (W.told out.new) result }
 {
     let Ok((sender, receiver)) = row_channel(alloc) else {
         return Live::OutOfMemory;
     };
-    live_over::<N, Brand, R, W, G>(
-        rt, alloc, plan, trades, script, threads, turns, gate, sender, receiver, out,
-    )
+    live_over::<N, Brand, R, W, G>(rt, alloc, job, sender, receiver, out)
 }
 
 /// Runs a plan over its trades under a failure script, by so many workers, each for so many turns or until egress is
@@ -290,8 +246,7 @@ pub fn live<R: Threads + Wait + Sync, W: Wire + Send, G: Gate>(
     gate: &G,
     out: &mut W,
 ) -> Live
-    requires some { 1 ≤ threads }
-    requires few { threads ≤ max_threads }
+    requires { AreWorkers threads }
     // Why the answer is given: Done where the whole text was put; Lost where that pair is the first lost one of a state that a legal list within the script
     // reaches, and just that state's rows were put; WriteFault where the wire's count of faults rose and a proper front of the text was put.
     ensures answers { AnswersSo plan.now (inputs_in trades.now) script.now trades.now.symbols (W.told out.old) (W.told out.new) result }
@@ -303,5 +258,13 @@ pub fn live<R: Threads + Wait + Sync, W: Wire + Send, G: Gate>(
     // Under a safe script no pair is lost, so where no fault of the wire was counted, all is put, or no memory was to be had.
     ensures complete { IsSafe script.now → (Rose (W.told out.old).faults (W.told out.new).faults → ⊥) → (result ≡ live.Done) ⊎ (result ≡ live.OutOfMemory) }
 {
-    live_named::<Brand, R, W, G>(rt, alloc, plan, trades, script, threads, turns, gate, out)
+    let job = Job {
+        plan,
+        trades,
+        script,
+        threads,
+        turns,
+        gate,
+    };
+    live_named::<Brand, R, W, G>(rt, alloc, &job, out)
 }

@@ -2,3 +2,4 @@ pub mod Ran
 pub mod Drafts
 pub mod Ready
 pub mod Parts
+pub mod Job

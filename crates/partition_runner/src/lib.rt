@@ -11,6 +11,7 @@
 #![tactic(auto)]
 
 mod fed;
+mod job;
 mod lossy_rings;
 mod making;
 mod names;
@@ -19,6 +20,7 @@ mod ready;
 mod rings;
 mod runs;
 
+pub use job::Job;
 pub use linked_run::{FreeGate, Gate};
 pub use lossy_rings::LossyRings;
 pub use names::FedNames;

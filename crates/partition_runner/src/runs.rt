@@ -1,11 +1,12 @@
 // Runs: over rings, over any links, and with a tap beside egress; with written histories, and with unwritten ones.
 ghost use mathlib.Core.List.{IsPrefix};
 ghost use Rattle.pair_machine.specs.Output.{output};
+ghost use Rattle.partition_runner.specs.Job.{AreWorkers, IsJobOf};
 ghost use Rattle.partition_runner.specs.Ran.{IsLegalKept, IsLegalLeft, IsLegalRun, emitted_in};
-ghost use Rattle.std.specs.Prelude.{◌≡◌, ◌≤◌, [], IfOk, MatchResult, false};
+ghost use Rattle.std.specs.Prelude.{◌≡◌, [], IfOk, MatchResult, false};
 ghost use Rattle.trade_text.specs.TradesView.{inputs_in};
-ghost use Rattle.tuple_edge.specs.Limits.{max_threads};
 
+use crate::job::Job;
 use crate::names::FedNames;
 use crate::ran::{Left, Ran};
 use crate::ready::{Ended, Ready, make_ready, run_ready};
@@ -41,8 +42,7 @@ pub fn ready_tapped<N: FedNames, T: Tap + Send>(
     requires plan { plan.now ≡ N.plan }
     requires trades { inputs_in trades.now ≡ N.inputs }
     requires script { script.now ≡ N.script }
-    requires some { 1 ≤ threads }
-    requires few { threads ≤ max_threads }
+    requires workers { AreWorkers threads }
     requires tap { T.given tap ≡ [] }
 {
     // Whoever makes it ready says under which script it will run.
@@ -110,29 +110,26 @@ pub fn run_tapped<R: Threads + Sync, G: Gate, N: FedNames, T: Tap + Send>(
     (left, tap)
 }
 
-// The same over any links, with no tap, of names that are the plan's.
+// The same over any links, with no tap, of names that are the job's.
 fn run_with<N: FedNames, K: Keeps + Send, R: Threads + Sync, M: Links, G: Gate>(
     rt: &R,
     alloc: Global,
-    plan: &Plan,
-    trades: &Trades,
-    script: &Script,
-    threads: u32,
-    turns: u64,
+    job: &Job<'_, G>,
     links: &mut M,
-    gate: &G,
 ) -> Result<Left<K>, OutOfMemory>
-    requires plan { plan.now ≡ N.plan }
-    requires trades { inputs_in trades.now ≡ N.inputs }
-    requires script { script.now ≡ N.script }
-    requires some { 1 ≤ threads }
-    ensures { IfOk result (IsLegalKept K.kept plan.now (inputs_in trades.now) script.now) }
+    requires { IsJobOf N.plan N.inputs N.script job.now }
+    ensures { IfOk result (IsLegalKept K.kept N.plan N.inputs N.script) }
 {
     let tap = Offers { tap: NoTap };
     let ready: Ready<N, K, M, Offers<NoTap>> = make_ready(
-        alloc, plan, trades, threads, links, tap,
+        alloc,
+        job.plan,
+        job.trades,
+        job.threads,
+        links,
+        tap,
     )?;
-    let (left, _tap) = run_named(rt, plan, script, turns, gate, links, ready);
+    let (left, _tap) = run_named(rt, job.plan, job.script, job.turns, job.gate, links, ready);
     left
 }
 
@@ -152,13 +149,18 @@ pub fn run_over<R: Threads + Sync, M: Links, G: Gate>(
     links: &mut M,
     gate: &G,
 ) -> Result<Ran, OutOfMemory>
-    requires some { 1 ≤ threads }
-    requires few { threads ≤ max_threads }
+    requires { AreWorkers threads }
     ensures { IfOk result (IsLegalRun plan.now (inputs_in trades.now) script.now) }
 {
-    let left = run_with::<Brand, Log, R, M, G>(
-        rt, alloc, plan, trades, script, threads, turns, links, gate,
-    )?;
+    let job = Job {
+        plan,
+        trades,
+        script,
+        threads,
+        turns,
+        gate,
+    };
+    let left = run_with::<Brand, Log, R, M, G>(rt, alloc, &job, links)?;
     left.told(alloc)
 }
 
@@ -166,40 +168,24 @@ pub fn run_over<R: Threads + Sync, M: Links, G: Gate>(
 pub fn run_logged<R: Threads + Sync, G: Gate>(
     rt: &R,
     alloc: Global,
-    plan: &Plan,
-    trades: &Trades,
-    script: &Script,
-    threads: u32,
-    turns: u64,
-    gate: &G,
+    job: &Job<'_, G>,
 ) -> Result<Left, OutOfMemory>
-    requires some { 1 ≤ threads }
-    requires few { threads ≤ max_threads }
-    ensures { IfOk result (IsLegalLeft plan.now (inputs_in trades.now) script.now) }
+    requires { AreWorkers job.now.threads }
+    ensures { IfOk result (IsLegalLeft job.now.plan.now (inputs_in job.now.trades.now) job.now.script.now) }
 {
-    run_with::<Brand, Log, R, Rings, G>(
-        rt, alloc, plan, trades, script, threads, turns, &mut Rings, gate,
-    )
+    run_with::<Brand, Log, R, Rings, G>(rt, alloc, job, &mut Rings)
 }
 
 /// The same with histories that are not written: proofs alone know them, and they take no memory.
 pub fn run_unlogged<R: Threads + Sync, G: Gate>(
     rt: &R,
     alloc: Global,
-    plan: &Plan,
-    trades: &Trades,
-    script: &Script,
-    threads: u32,
-    turns: u64,
-    gate: &G,
+    job: &Job<'_, G>,
 ) -> Result<Left<Unwritten>, OutOfMemory>
-    requires some { 1 ≤ threads }
-    requires few { threads ≤ max_threads }
-    ensures { IfOk result (IsLegalLeft plan.now (inputs_in trades.now) script.now) }
+    requires { AreWorkers job.now.threads }
+    ensures { IfOk result (IsLegalLeft job.now.plan.now (inputs_in job.now.trades.now) job.now.script.now) }
 {
-    run_with::<Brand, Unwritten, R, Rings, G>(
-        rt, alloc, plan, trades, script, threads, turns, &mut Rings, gate,
-    )
+    run_with::<Brand, Unwritten, R, Rings, G>(rt, alloc, job, &mut Rings)
 }
 
 /// A run over rings, with the histories as lists.
@@ -213,8 +199,7 @@ pub fn run_nodes<R: Threads + Sync, G: Gate>(
     turns: u64,
     gate: &G,
 ) -> Result<Ran, OutOfMemory>
-    requires some { 1 ≤ threads }
-    requires few { threads ≤ max_threads }
+    requires { AreWorkers threads }
     ensures { IfOk result (IsLegalRun plan.now (inputs_in trades.now) script.now) }
 {
     run_over(

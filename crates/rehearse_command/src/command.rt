@@ -4,15 +4,15 @@ ghost use Rattle.command_course.specs.Steps.{OnlyReads, StopsOf};
 ghost use Rattle.rehearse_command.specs.Courses.{rehearse_course, rehearses, run_under};
 ghost use Rattle.command_course.specs.Answers.{answer_of};
 ghost use Rattle.rehearse_command.specs.Rehearsals.{CameToRehearsal, IsRehearsed};
-ghost use Rattle.std.specs.Prelude.{◌≡◌, ◌≤◌, IfErr, IfOk, option_map};
-ghost use Rattle.tuple_edge.specs.Limits.{max_threads};
+ghost use Rattle.partition_runner.specs.Job.{AreWorkers};
+ghost use Rattle.std.specs.Prelude.{◌≡◌, IfErr, IfOk, option_map};
 
 use crate::reporting::told_again;
 use command_course::{Answer, Feed, Stop, feed_at};
 use failure_script::Script;
 use flux_outside::Files;
 use listed_run::run_and_list;
-use partition_runner::Gate;
+use partition_runner::{Gate, Job};
 use run_command::script_at;
 use std::alloc::Global;
 use std::thread::Threads;
@@ -34,8 +34,7 @@ pub fn rehearse_report<R: Threads + Sync, F: Files, G: Gate>(
     svg: Option<&str>,
     gate: &G,
 ) -> Result<Answer, Stop>
-    requires some { 1 ≤ threads }
-    requires few { threads ≤ max_threads }
+    requires { AreWorkers threads }
     ensures comes { IfOk result (λ answer. CameToRehearsal (F.told files.old) (F.told files.new) (rehearse_course plan.now trades.now script.now (option_map (λ n. n.now) cash.entry)) (option_map (λ n. n.now) svg.entry) (answer_of answer)) }
     ensures stops { IfErr result (λ stop. StopsOf (F.told files.old) (F.told files.new) (rehearse_course plan.now trades.now script.now (option_map (λ n. n.now) cash.entry)) stop) }
     ensures reads { OnlyReads (F.told files.old) (F.told files.new) result }
@@ -58,8 +57,7 @@ fn fed_report<R: Threads + Sync, F: Files, G: Gate>(
     gate: &G,
 ) -> Result<Answer, Stop>
     requires fed { IsFed feed.now }
-    requires some { 1 ≤ threads }
-    requires few { threads ≤ max_threads }
+    requires workers { AreWorkers threads }
     ensures comes { IfOk result (λ answer. CameToRehearsal (F.told files.old) (F.told files.new) (rehearses script.now (feed_of feed.now)) (option_map (λ n. n.now) svg.entry) (answer_of answer)) }
     ensures stops { IfErr result (λ stop. StopsOf (F.told files.old) (F.told files.new) (rehearses script.now (feed_of feed.now)) stop) }
     ensures reads { OnlyReads (F.told files.old) (F.told files.new) result }
@@ -80,8 +78,7 @@ fn scripted_report<R: Threads + Sync, G: Gate>(
     gate: &G,
 ) -> Result<Answer, Stop>
     requires fed { IsFed feed.now }
-    requires some { 1 ≤ threads }
-    requires few { threads ≤ max_threads }
+    requires workers { AreWorkers threads }
     ensures rehearsed { IfOk result (λ answer. IsRehearsed (run_under (feed_of feed.now) script.now) (option_map (λ n. n.now) svg.entry) (answer_of answer)) }
     ensures want { IfErr result (λ stop. stop ≡ Stop.OutOfMemory) }
 {
@@ -101,19 +98,17 @@ fn rehearsed<R: Threads + Sync, G: Gate>(
     gate: &G,
 ) -> Result<Answer, OutOfMemory>
     requires fed { IsFed feed.now }
-    requires some { 1 ≤ threads }
-    requires few { threads ≤ max_threads }
+    requires workers { AreWorkers threads }
     ensures { IfOk result (λ answer. IsRehearsed (run_under (feed_of feed.now) script.now) (option_map (λ n. n.now) svg.entry) (answer_of answer)) }
 {
-    let listed = run_and_list(
-        rt,
-        alloc,
-        &feed.plan,
-        &feed.trades,
+    let job = Job {
+        plan: &feed.plan,
+        trades: &feed.trades,
         script,
         threads,
         turns,
         gate,
-    )?;
+    };
+    let listed = run_and_list(rt, alloc, &job)?;
     told_again(alloc, feed, script, &listed, svg)
 }

@@ -12,7 +12,7 @@ ghost use Rattle.tuple_edge.specs.declared.row.Row.{Row};
 use crate::outcome::{Journal, Outcome};
 use command_course::Feed;
 use command_line::RunOptions;
-use drained_run::{Gate, run_and_drain, run_unlogged_and_drain};
+use drained_run::{Gate, Job, run_and_drain, run_unlogged_and_drain};
 use failure_script::Script;
 use std::alloc::Global;
 use std::thread::Threads;
@@ -75,16 +75,15 @@ fn unlogged_end<'a, R: Threads + Sync, G: Gate>(
     requires unnamed { options.journal ≡ None }
     ensures { IfOk result (λ outcome. HasEnded (run_of (options_in options.entry) is_summary (feed_of feed.now) script.now) outcome.drained (ending_of outcome)) }
 {
-    let ended = run_unlogged_and_drain(
-        rt,
-        alloc,
-        &feed.plan,
-        &feed.trades,
+    let job = Job {
+        plan: &feed.plan,
+        trades: &feed.trades,
         script,
-        options.threads,
-        options.turns as u64,
+        threads: options.threads,
+        turns: options.turns as u64,
         gate,
-    )?;
+    };
+    let ended = run_unlogged_and_drain(rt, alloc, &job)?;
     outcome_of(alloc, feed, ended.rows(), ended.drained(), None, is_summary)
 }
 
@@ -106,16 +105,15 @@ pub(crate) fn run_end<'a, R: Threads + Sync, G: Gate>(
     let Some(name) = options.journal else {
         return unlogged_end(rt, alloc, feed, script, options, is_summary, gate);
     };
-    let ended = run_and_drain(
-        rt,
-        alloc,
-        &feed.plan,
-        &feed.trades,
+    let job = Job {
+        plan: &feed.plan,
+        trades: &feed.trades,
         script,
-        options.threads,
-        options.turns as u64,
+        threads: options.threads,
+        turns: options.turns as u64,
         gate,
-    )?;
+    };
+    let ended = run_and_drain(rt, alloc, &job)?;
     let bytes = ended.journal(alloc)?;
     let journal = Some(Journal { name, bytes });
     outcome_of(

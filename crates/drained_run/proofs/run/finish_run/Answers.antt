@@ -12,38 +12,38 @@ of-requires-clause-names g c = c.requires.nodes_are
 
 pub of-requires-clause-given : goal.of-requires-clause-given
 of-requires-clause-given g c =
-    given c.args.plan.now (inputs_in c.args.trades.now) c.args.script.now (ran_of g.K.Keeps.kept c.args.left) c.stages-stages.ensures.limits
-    (legal_ran g.K.Keeps.kept c.args.plan.now (inputs_in c.args.trades.now) c.args.script.now c.args.left c.requires)
+    given c.args.job.now.plan.now (inputs_in c.args.job.now.trades.now) c.args.job.now.script.now (ran_of g.K.Keeps.kept c.args.left) c.stages-stages.ensures.limits
+    (legal_ran g.K.Keeps.kept c.args.job.now.plan.now (inputs_in c.args.job.now.trades.now) c.args.job.now.script.now c.args.left c.requires)
 
 pub of-requires-clause-all : goal.of-requires-clause-all
 of-requires-clause-all g c =
-    all c.args.plan.now (inputs_in c.args.trades.now) c.args.script.now (ran_of g.K.Keeps.kept c.args.left) c.stages-stages.ensures.limits
-    (legal_ran g.K.Keeps.kept c.args.plan.now (inputs_in c.args.trades.now) c.args.script.now c.args.left c.requires)
+    all c.args.job.now.plan.now (inputs_in c.args.job.now.trades.now) c.args.job.now.script.now (ran_of g.K.Keeps.kept c.args.left) c.stages-stages.ensures.limits
+    (legal_ran g.K.Keeps.kept c.args.job.now.plan.now (inputs_in c.args.job.now.trades.now) c.args.job.now.script.now c.args.left c.requires)
 
 pub returns-clause-ended : goal.returns-clause-ended
-returns-clause-ended g c = run_ends c.args.plan.now (inputs_in c.args.trades.now) c.args.script.now (ran_of g.K.Keeps.kept c.args.left) c.stages-stages.ensures.limits
-    (legal_ran g.K.Keeps.kept c.args.plan.now (inputs_in c.args.trades.now) c.args.script.now c.args.left c.requires)
+returns-clause-ended g c = run_ends c.args.job.now.plan.now (inputs_in c.args.job.now.trades.now) c.args.job.now.script.now (ran_of g.K.Keeps.kept c.args.left) c.stages-stages.ensures.limits
+    (legal_ran g.K.Keeps.kept c.args.job.now.plan.now (inputs_in c.args.job.now.trades.now) c.args.job.now.script.now c.args.left c.requires)
     c.in_ok-core.core c.drain.new.core c.new-events.result.events c.drain.new.events.events c.in_ok-drained.drained
     c.in_ok-core.ensures (ap (λ (b : BlocksView). b.events) c.new-events.ensures) c.drain.ensures.plan c.drain.ensures.inputs c.in_ok-drained.ensures.drained
 
 pub returns-clause-goes_on : goal.returns-clause-goes_on
-returns-clause-goes_on g c = goes_on c.args.plan.now (inputs_in c.args.trades.now) c.args.script.now (ran_of g.K.Keeps.kept c.args.left) c.stages-stages.ensures.limits
-    (legal_ran g.K.Keeps.kept c.args.plan.now (inputs_in c.args.trades.now) c.args.script.now c.args.left c.requires)
+returns-clause-goes_on g c = goes_on c.args.job.now.plan.now (inputs_in c.args.job.now.trades.now) c.args.job.now.script.now (ran_of g.K.Keeps.kept c.args.left) c.stages-stages.ensures.limits
+    (legal_ran g.K.Keeps.kept c.args.job.now.plan.now (inputs_in c.args.job.now.trades.now) c.args.job.now.script.now c.args.left c.requires)
     c.in_ok-core.core c.drain.new.core c.new-events.result.events c.drain.new.events.events c.in_ok-drained.drained
     c.in_ok-core.ensures (ap (λ (b : BlocksView). b.events) c.new-events.ensures) c.drain.ensures.plan c.drain.ensures.inputs c.in_ok-drained.ensures.drained
 
 pub returns-clause-front : goal.returns-clause-front
-returns-clause-front g c = run_front c.args.plan.now (inputs_in c.args.trades.now) c.args.script.now (ran_of g.K.Keeps.kept c.args.left)
-    (legal_ran g.K.Keeps.kept c.args.plan.now (inputs_in c.args.trades.now) c.args.script.now c.args.left c.requires)
+returns-clause-front g c = run_front c.args.job.now.plan.now (inputs_in c.args.job.now.trades.now) c.args.job.now.script.now (ran_of g.K.Keeps.kept c.args.left)
+    (legal_ran g.K.Keeps.kept c.args.job.now.plan.now (inputs_in c.args.job.now.trades.now) c.args.job.now.script.now c.args.left c.requires)
 
 pub returns-in_err-core-clause-front : goal.returns-in_err-core-clause-front
-returns-in_err-core-clause-front g c = run_front c.args.plan.now (inputs_in c.args.trades.now) c.args.script.now (ran_of g.K.Keeps.kept c.args.left)
-    (legal_ran g.K.Keeps.kept c.args.plan.now (inputs_in c.args.trades.now) c.args.script.now c.args.left c.requires)
+returns-in_err-core-clause-front g c = run_front c.args.job.now.plan.now (inputs_in c.args.job.now.trades.now) c.args.job.now.script.now (ran_of g.K.Keeps.kept c.args.left)
+    (legal_ran g.K.Keeps.kept c.args.job.now.plan.now (inputs_in c.args.job.now.trades.now) c.args.job.now.script.now c.args.left c.requires)
 
 pub returns-in_err-drained-clause-front : goal.returns-in_err-drained-clause-front
-returns-in_err-drained-clause-front g c = run_front c.args.plan.now (inputs_in c.args.trades.now) c.args.script.now (ran_of g.K.Keeps.kept c.args.left)
-    (legal_ran g.K.Keeps.kept c.args.plan.now (inputs_in c.args.trades.now) c.args.script.now c.args.left c.requires)
+returns-in_err-drained-clause-front g c = run_front c.args.job.now.plan.now (inputs_in c.args.job.now.trades.now) c.args.job.now.script.now (ran_of g.K.Keeps.kept c.args.left)
+    (legal_ran g.K.Keeps.kept c.args.job.now.plan.now (inputs_in c.args.job.now.trades.now) c.args.job.now.script.now c.args.left c.requires)
 
 pub invariant_of-result : goal.invariant_of-result
-invariant_of-result g c = mergeable c.args.plan.now (inputs_in c.args.trades.now) c.args.script.now (ran_of g.K.Keeps.kept c.args.left)
-    (legal_ran g.K.Keeps.kept c.args.plan.now (inputs_in c.args.trades.now) c.args.script.now c.args.left c.requires)
+invariant_of-result g c = mergeable c.args.job.now.plan.now (inputs_in c.args.job.now.trades.now) c.args.job.now.script.now (ran_of g.K.Keeps.kept c.args.left)
+    (legal_ran g.K.Keeps.kept c.args.job.now.plan.now (inputs_in c.args.job.now.trades.now) c.args.job.now.script.now c.args.left c.requires)

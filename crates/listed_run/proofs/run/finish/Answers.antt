@@ -12,24 +12,24 @@ use Rattle.listed_run.proofs.Ran.{legal_ran, mergeable, ran_of}
 use Rattle.listed_run.proofs.run.finish.Goals as goal
 
 pub merge-requires : goal.merge-requires
-merge-requires c = rw c.deref.ensures.value (mergeable c.args.plan.now (inputs_in c.args.trades.now) c.args.script.now c.args.ran c.requires)
+merge-requires g c = rw c.deref.ensures.value (mergeable c.args.job.now.plan.now (inputs_in c.args.job.now.trades.now) c.args.job.now.script.now c.args.ran c.requires)
 
 pub of-requires-clause-names : goal.of-requires-clause-names
-of-requires-clause-names c = c.requires.nodes_are
+of-requires-clause-names g c = c.requires.nodes_are
 
 pub of-requires-clause-given : goal.of-requires-clause-given
-of-requires-clause-given c =
-    given c.args.plan.now (inputs_in c.args.trades.now) c.args.script.now (ran_of c.args.ran) c.stages-stages.ensures.limits
-    (legal_ran c.args.plan.now (inputs_in c.args.trades.now) c.args.script.now c.args.ran c.requires)
+of-requires-clause-given g c =
+    given c.args.job.now.plan.now (inputs_in c.args.job.now.trades.now) c.args.job.now.script.now (ran_of c.args.ran) c.stages-stages.ensures.limits
+    (legal_ran c.args.job.now.plan.now (inputs_in c.args.job.now.trades.now) c.args.job.now.script.now c.args.ran c.requires)
 
 pub of-requires-clause-all : goal.of-requires-clause-all
-of-requires-clause-all c =
-    all c.args.plan.now (inputs_in c.args.trades.now) c.args.script.now (ran_of c.args.ran) c.stages-stages.ensures.limits
-    (legal_ran c.args.plan.now (inputs_in c.args.trades.now) c.args.script.now c.args.ran c.requires)
+of-requires-clause-all g c =
+    all c.args.job.now.plan.now (inputs_in c.args.job.now.trades.now) c.args.job.now.script.now (ran_of c.args.ran) c.stages-stages.ensures.limits
+    (legal_ran c.args.job.now.plan.now (inputs_in c.args.job.now.trades.now) c.args.job.now.script.now c.args.ran c.requires)
 
 pub returns : goal.returns
-returns c =
-    listed c.args.plan.now (inputs_in c.args.trades.now) c.args.script.now c.args.ran c.stages-stages.ensures.limits c.requires
+returns g c =
+    listed c.args.job.now.plan.now (inputs_in c.args.job.now.trades.now) c.args.job.now.script.now c.args.ran c.stages-stages.ensures.limits c.requires
     c.in_ok-core.core c.drain.new.core c.new-blocks.result.events c.drain.new.events.events c.in_ok-events.events.items c.append_to.new.events.items c.in_ok-drained.drained _
     c.in_ok-core.ensures (ap (λ (b : BlocksView). b.events) c.new-blocks.ensures) c.drain.ensures.plan c.drain.ensures.inputs c.in_ok-drained.ensures.drained
     (c.in_ok-events.ensures ∙ ap (λ hs. logged_events (log_of_histories hs)) c.deref.ensures.value) c.in_ok-append_to.ensures

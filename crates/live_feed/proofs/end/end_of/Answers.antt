@@ -9,9 +9,9 @@ use Rattle.live_feed.proofs.Runs.{has_run}
 use Rattle.live_feed.proofs.end.end_of.Goals as goal
 
 pub returns-in-Ok : goal.returns-in-Ok
-returns-in-Ok c given front =
-    let plan = c.args.plan.now in
-    let inputs = inputs_in c.args.trades.now in
+returns-in-Ok g c given front =
+    let plan = c.args.job.now.plan.now in
+    let inputs = inputs_in c.args.job.now.trades.now in
     let e = c.finish_run.ensures in
-    has_run plan inputs c.args.script.now given (emitted_in c.in-Ok.left.nodes.items) c.finish_run.result e.ended e.goes_on e.front
+    has_run plan inputs c.args.job.now.script.now given (emitted_in c.in-Ok.left.nodes.items) c.finish_run.result e.ended e.goes_on e.front
     (subst (λ (r : Result (Left _) OutOfMemory). MatchResult r (λ ran. IsPrefix given (emitted_in ran.nodes.items)) (λ _. IsPrefix given (output plan inputs))) c.in-Ok.is front)

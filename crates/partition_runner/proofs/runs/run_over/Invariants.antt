@@ -2,7 +2,7 @@ use Rattle.trade_text.specs.TradesView.{inputs_in}
 use Rattle.partition_runner.proofs.runs.run_over.Given as goal
 
 abbrev pub ghosts-run_with-N-RunNames : goal.ghosts-run_with-N-RunNames
-ghosts-run_with-N-RunNames g a = record { plan = a.plan.now; script = a.script.now }
+ghosts-run_with-N-RunNames g a = record { plan = a.job.now.plan.now; script = a.job.now.script.now }
 
 abbrev pub ghosts-run_with-N-FedNames : goal.ghosts-run_with-N-FedNames
-ghosts-run_with-N-FedNames g a = record { inputs = inputs_in a.trades.now }
+ghosts-run_with-N-FedNames g a = record { inputs = inputs_in a.job.now.trades.now }
