@@ -32,11 +32,6 @@ abbrev pub packet_of : Task → Option Packet
 packet_of (task.Take from index packet) = Some packet
 packet_of t = None
 
--- after the clock of what is taken
-abbrev pub clock_of : Task → ℕ
-clock_of (task.Take from index packet) = packet.at
-clock_of t = 0
-
 -- The task is a step of the machine in a course, in each plan within its limits, and it sends these packets.
 abbrev pub DoesStep : {A : Type 0} → (A → NodeId) → (PlanView → List Input → A → Node → Type 0) → Task → A → A → List (NodeId × Body) → Type 0
 DoesStep id stands t old new packets = (plan : PlanView) (inputs : List Input) → IsPlan plan → AreTimely inputs → (clock : ℕ) →

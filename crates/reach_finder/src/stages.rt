@@ -1,7 +1,7 @@
 // What a stage passes on of rows that are told apart by whether they are reached.
 ghost use Rattle.evaluation.specs.StageRows.{HasTime, early_replies, late_replies};
 ghost use Rattle.plan_reader.specs.PlanView.{IsStage};
-ghost use Rattle.reach_finder.specs.Traced.{HasSeen, PartsSaw, marks_in, rows_in, traced_early, traced_late, traced_part, traced_reply, traced_to};
+ghost use Rattle.reach_finder.specs.Traced.{HasSeen, PartsSaw, marks_in, rows_in, traced_early, traced_late, traced_part, traced_reply};
 ghost use Rattle.reach_finder.specs.declared.shades.Traced.{Traced};
 ghost use Rattle.row_reach.specs.Reach.{reached};
 ghost use Rattle.std.specs.Prelude.{◌≡◌, ◌≤◌, ◌++◌, ◌∷◌, [], All, IfOk, List, OnOk, length};

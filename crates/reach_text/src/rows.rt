@@ -5,7 +5,7 @@ ghost use Rattle.reach_text.specs.Told.{kept_by};
 ghost use Rattle.reach_text.specs.Trace.{asked_in, at_in, behind_text, key_text, line_at, lines_at, place_text, shown};
 ghost use Rattle.std.specs.Fmt.{decimal, signed_decimal};
 ghost use Rattle.tuple_edge.specs.Row.{route_of};
-ghost use Rattle.std.specs.Prelude.{◌≡◌, ◌≤◌, ◌<◌, ◌-◌, ◌^◌, ◌++◌, All, IfSome, None, OnOk, Some, codes, drop, length, take};
+ghost use Rattle.std.specs.Prelude.{◌≡◌, ◌≤◌, ◌<◌, ◌-◌, ◌++◌, IfSome, None, OnOk, Some, codes, drop, length, take};
 
 use crate::pieces::push_count;
 use crate::told::{ToldRow, kept_by, rows_before};

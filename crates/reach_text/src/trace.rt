@@ -6,7 +6,7 @@ ghost use Rattle.reach_finder.specs.Traced.{marks_in, rows_in};
 ghost use Rattle.reach_text.specs.Trace.{asked_in, at_in, head_text, output_text, shown, stage_text, stages_text, sum_line, told_of, trace_text};
 ghost use Rattle.row_reach.specs.Reach.{passage};
 ghost use Rattle.std.specs.Fmt.{decimal};
-ghost use Rattle.std.specs.Prelude.{◌≡◌, ◌≤◌, ◌<◌, ◌-◌, ◌^◌, ◌++◌, All, IfOk, None, OnOk, Some, codes, length, map, option_map, slice_get};
+ghost use Rattle.std.specs.Prelude.{◌≡◌, ◌≤◌, ◌<◌, ◌-◌, ◌++◌, All, IfOk, None, OnOk, Some, codes, length, map, option_map, slice_get};
 ghost use Rattle.text_words.specs.Text.{line_text};
 
 use crate::pieces::push_count;

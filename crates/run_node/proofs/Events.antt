@@ -37,12 +37,13 @@ use Rattle.node_tasks.specs.declared.task.Task.{Task}
 use Rattle.node_tasks.specs.declared.task.Task.TheVariants as task
 use Rattle.run_node.specs.declared.fired.Fired.{Fired}
 use Rattle.run_node.specs.Ends.{InLink, OutLink, emitted_to, leads_to}
-use Rattle.run_node.specs.Fits.{CameFor, Fit}
+use Rattle.run_node.specs.Fits.{Fit}
 use Rattle.run_node.specs.Sends.{with_all_sent}
 use Rattle.run_node.specs.SoundNode.{IsNoRecall, IsNoStop, IsNoted, IsSoundNode, TapFits}
-use Rattle.node_tasks.specs.Tasks.{DoesStep, clock_of, event_of, packet_of}
+use Rattle.node_tasks.specs.Tasks.{DoesStep, event_of, packet_of}
 use Rattle.run_node.specs.Fired.{fired_after, is_recall, is_stop, repeats}
 use Rattle.run_node.proofs.SentPackets.{emitted-with_all_sent, leads-with_all_sent}
+use Rattle.run_node.proofs.Merged.{CameFor, clock_of}
 
 stamped_to : (clock : ℕ) (to : NodeId) (xs : List (NodeId × Body)) → Each (λ p. p.at ≡ clock) (packets_to clock to xs)
 stamped_to clock to [] = tt

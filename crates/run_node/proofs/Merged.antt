@@ -1,5 +1,5 @@
 -- What orders stand on: who has merged so many items has merged fewer.
-use Rattle.std.proofs.Common.{◌≡◌, ◌≤◌, ℕ, None, Some, refl, sym, arith}
+use Rattle.std.proofs.Common.{◌≡◌, ◌≤◌, ℕ, None, Some, refl, sym, arith, Unit}
 use Rattle.failure_script.specs.Orders.{partner_of}
 use Rattle.tuple_edge.specs.declared.node.NodeId.{NodeId}
 use Rattle.tuple_edge.specs.declared.node.NodeId.TheVariants as node
@@ -7,10 +7,19 @@ use Rattle.pair_machine.specs.Machine.{partner_node}
 use Rattle.pair_machine.specs.Numbers.{Gathering, Gone, Replica, Running, other}
 use Rattle.pair_machine.specs.Courses.{Arrivals}
 use Rattle.pair_machine.specs.Scripts.{HasMerged}
-use Rattle.node_tasks.specs.Tasks.{clock_of, packet_of}
-use Rattle.run_node.specs.Fits.{CameFor}
+use Rattle.node_tasks.specs.Tasks.{packet_of}
 use Rattle.node_tasks.specs.declared.task.Task.{Task}
 use Rattle.node_tasks.specs.declared.task.Task.TheVariants as task
+
+-- after the clock of what is taken
+abbrev pub clock_of : Task → ℕ
+clock_of (task.Take from index packet) = packet.at
+clock_of t = 0
+
+-- the packet that is to be taken came under its index
+abbrev pub CameFor : Arrivals → Task → Type 0
+CameFor arrived (task.Take from index packet) = arrived from index ≡ Some packet
+CameFor arrived t = Unit {0}
 
 pub has_fewer : (r : Replica) (a b : ℕ) → a ≤ b → HasMerged b r → HasMerged a r
 has_fewer (Gone i) a b le h = h

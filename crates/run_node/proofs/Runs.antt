@@ -16,13 +16,13 @@ use Rattle.node_tasks.specs.declared.task.Task.{Task}
 use Rattle.node_tasks.specs.declared.task.Task.TheVariants as task
 use Rattle.run_node.specs.declared.fired.Fired.{Fired}
 use Rattle.run_node.specs.Ends.{InLink, OutLink}
-use Rattle.run_node.specs.Fits.{CameFor}
 use Rattle.run_node.specs.Sends.{with_all_sent, with_steps_sent}
 use Rattle.run_node.specs.SoundNode.{IsSoundNode}
 use Rattle.node_tasks.specs.Steps.{DoesMake, DoesTask, StepByStep, pieces}
-use Rattle.node_tasks.specs.Tasks.{clock_of, event_of}
+use Rattle.node_tasks.specs.Tasks.{event_of}
 use Rattle.run_node.specs.Fired.{fired_after, repeats}
 use Rattle.run_node.proofs.Events.{sound_after}
+use Rattle.run_node.proofs.Merged.{CameFor, clock_of}
 
 pub or_false : (b : Bool) → (b || false) ≡ b
 or_false true = refl

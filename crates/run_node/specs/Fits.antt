@@ -7,18 +7,11 @@ use Rattle.tuple_edge.specs.declared.event.Event.{Event}
 use Rattle.tuple_edge.specs.declared.event.Stamped.{Stamped}
 use Rattle.tuple_edge.specs.declared.node.NodeId.{NodeId}
 use Rattle.event_log.specs.Views.{makes_after, works_after}
-use Rattle.node_tasks.specs.declared.task.Task.{Task}
-use Rattle.node_tasks.specs.declared.task.Task.TheVariants as task
 use Rattle.run_node.specs.Ends.{InEndView, InLink}
 
 -- of a node's packets, this one is what came from a node under its index
 abbrev pub Came : Arrivals → NodeId → Arrival → Type 0
 Came arrived from a = arrived from a.index ≡ Some a.packet
-
--- the packet that is to be taken came under its index
-abbrev pub CameFor : Arrivals → Task → Type 0
-CameFor arrived (task.Take from index packet) = arrived from index ≡ Some packet
-CameFor arrived t = Unit {0}
 
 -- all that links gave is what came under its index
 abbrev pub Fit : Arrivals → List InLink → Type 0

@@ -1,5 +1,5 @@
 -- An operator's entries rise by key and slot, so what stands after a place is known by its number.
-use Rattle.std.proofs.Common.{◌≡◌, ℕ, ℤ, zero, suc, ◌+◌, ◌<◌, ◌≤◌, Bool, true, false, cond, List, [], ◌∷◌, ◌++◌, length, refl, sym, ap, ◌∙◌, subst, Option, Some, None, slice_get, arith}
+use Rattle.std.proofs.Common.{◌≡◌, ℕ, ℤ, zero, suc, ◌+◌, ◌<◌, ◌≤◌, Bool, true, false, cond, List, [], ◌∷◌, ◌++◌, length, refl, sym, ap, ◌∙◌, subst, Option, Some, None, slice_get, arith, Unit}
 use Rattle.std.proofs.lemmas.Cmp.{nat_cmp_total, on_total, then_total}
 use Rattle.std.proofs.lemmas.List.Elements.{All-head, All-tail}
 use Rattle.std.proofs.lemmas.Map.Keys.{sorted_head, sorted_tail}
@@ -18,7 +18,7 @@ use Rattle.tuple_edge.specs.declared.packet.Entry.{Entry}
 use Rattle.tuple_edge.specs.declared.packet.Entry.TheVariants as entry
 use Rattle.tuple_edge.specs.declared.row.Key.{Key}
 use Rattle.op_spec.specs.Keys.{key_cmp}
-use Rattle.stream_ops.specs.Entries.{AllAfter, AreRising, IsKeyed, all_told, is_after, last_place, place_of, slots, told_last, told_total, told_window}
+use Rattle.stream_ops.specs.Entries.{AllAfter, IsKeyed, all_told, is_after, last_place, place_of, slots, told_last, told_total, told_window}
 use Rattle.stream_ops.specs.Joins.{keyed, told_side, told_sides}
 use Rattle.stream_ops.specs.View.{AreLast, AreRight, IsAnySums, IsSound, IsWindow, old_of}
 use Rattle.stream_ops.specs.declared.operator.Operator.{Operator}
@@ -27,6 +27,11 @@ use Rattle.stream_ops.specs.declared.sums.Sums.{Sums}
 use Rattle.stream_ops.proofs.Sided.{sides_keyed}
 use Rattle.stream_ops.proofs.Keyed.{key_cmp_total, same_key, self_key}
 use Rattle.stream_ops.proofs.Told.{AllOf, has_key}
+
+-- an operator's entries, each above those before it
+abbrev pub AreRising : List Entry → Type 0
+AreRising [] = Unit {0}
+AreRising (e ∷ es) = IsKeyed e × AllAfter (place_of e) es × AreRising es
 
 -- ---- the order of places
 

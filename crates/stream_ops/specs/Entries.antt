@@ -126,8 +126,3 @@ last_place (suc n) es = option_and_then place_of (slice_get es n)
 abbrev pub AllAfter : Option (Key × ℕ) → List Entry → Type 0
 AllAfter at [] = Unit {0}
 AllAfter at (e ∷ es) = (is_after at e ≡ true) × AllAfter at es
-
--- an operator's entries, each above those before it
-abbrev pub AreRising : List Entry → Type 0
-AreRising [] = Unit {0}
-AreRising (e ∷ es) = IsKeyed e × AllAfter (place_of e) es × AreRising es

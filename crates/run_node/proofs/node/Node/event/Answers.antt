@@ -8,10 +8,10 @@ use Rattle.run_node.specs.Fits.{HasHappened}
 use Rattle.run_node.specs.NodeView.{NodeView, NodeName, name_of, out_names, in_names}
 use Rattle.run_node.specs.Sends.{with_all_sent}
 use Rattle.run_node.specs.SoundNode.{IsSoundNode}
-use Rattle.node_tasks.specs.Tasks.{clock_of, event_of}
+use Rattle.node_tasks.specs.Tasks.{event_of}
 use Rattle.run_node.specs.Fired.{fired_after, repeats}
 use Rattle.run_node.proofs.Events.{sound_after, sound_still, tap_later}
-use Rattle.run_node.proofs.Merged.{unclocked, untaken}
+use Rattle.run_node.proofs.Merged.{unclocked, untaken, clock_of}
 use Rattle.run_node.proofs.SentPackets.{names-with_all_sent}
 use Rattle.run_node.proofs.node.Node.event.Goals as goal
 
