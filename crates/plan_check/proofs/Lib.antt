@@ -1,6 +1,5 @@
 pub mod Ends
 pub mod Passing
-pub mod Pushing
 pub mod Quiet
 pub mod Together
 pub mod Unsafe

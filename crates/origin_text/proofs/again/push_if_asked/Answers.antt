@@ -5,7 +5,7 @@ use Rattle.origin_text.specs.Alone.{given_again}
 use Rattle.origin_text.specs.Files.{files_in, rows_in}
 use Rattle.origin_text.specs.Text.{again_line}
 use Rattle.origin_text.specs.declared.alone.Again.{Again}
-use Rattle.origin_text.proofs.Pushing.{then}
+use Rattle.plan_reader.proofs.Pushing.{then}
 use Rattle.origin_text.proofs.again.push_if_asked.Goals as goal
 
 pub returns : goal.returns

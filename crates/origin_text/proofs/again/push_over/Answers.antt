@@ -3,7 +3,7 @@ use Rattle.std.proofs.lemmas.List.{length-map}
 use Rattle.tuple_edge.specs.Input.{Input}
 use Rattle.trade_text.specs.TradesView.{inputs_in}
 use Rattle.trade_text.proofs.Sources.{rows_paired}
-use Rattle.origin_text.proofs.Pushing.{more, then}
+use Rattle.plan_reader.proofs.Pushing.{more, then}
 use Rattle.origin_text.proofs.again.push_over.Goals as goal
 
 pub returns : goal.returns

@@ -5,7 +5,7 @@ use Rattle.tuple_edge.specs.Input.{Input}
 use Rattle.tuple_edge.specs.declared.row.Row.{Row}
 use Rattle.trade_text.specs.TradesView.{inputs_in}
 use Rattle.origin_text.specs.Files.{FileView, came_before, file_of, files_in, input_text, line_in}
-use Rattle.origin_text.proofs.Pushing.{then}
+use Rattle.plan_reader.proofs.Pushing.{then}
 use Rattle.origin_text.proofs.files.push_there.Goals as goal
 
 abbrev none : Row

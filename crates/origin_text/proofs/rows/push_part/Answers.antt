@@ -1,6 +1,6 @@
 use Rattle.std.proofs.Common.{rules, ◌≡◌, arith}
 use Rattle.tuple_edge.specs.Row.{route_of}
-use Rattle.origin_text.proofs.Pushing.{more, then}
+use Rattle.plan_reader.proofs.Pushing.{more, then}
 use Rattle.origin_text.proofs.rows.push_part.Goals as goal
 
 pub returns : goal.returns

@@ -1,6 +1,6 @@
 use Rattle.std.proofs.Common.{◌≡◌, ◌≤◌, ◌-◌, arith, drop, length, length-drop, take}
 use Rattle.std.proofs.lemmas.List.{take_all}
-use Rattle.origin_text.proofs.Pushing.{more, then}
+use Rattle.plan_reader.proofs.Pushing.{more, then}
 use Rattle.origin_text.proofs.rows.push_some.Goals as goal
 
 pub returns-clause-text : goal.returns-clause-text

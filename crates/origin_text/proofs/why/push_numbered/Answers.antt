@@ -1,4 +1,4 @@
-use Rattle.origin_text.proofs.Pushing.{more, then}
+use Rattle.plan_reader.proofs.Pushing.{more, then}
 use Rattle.origin_text.proofs.why.push_numbered.Goals as goal
 
 pub returns : goal.returns

@@ -1,10 +1,10 @@
 use Rattle.std.proofs.Common.{◌≡◌, arith, of_z, to_z, w64}
 use Rattle.std.proofs.lemmas.Int.{ints}
 use Rattle.std.specs.Prelude.{string_bytes}
-use Rattle.plan_check.proofs.Pushing.{then}
+use Rattle.plan_reader.proofs.Pushing.{more}
 use Rattle.plan_check.proofs.sentences.push_keep.Goals as goal
 
 pub returns : goal.returns
 returns c =
     let limit_back : to_z w64 (of_z w64 c.args.limit) ≡ c.args.limit = omega (arith, ints) in
-    then (string_bytes c.args.text.now) (string_bytes c.push_str.new.self) (string_bytes c.push_test.new.text) _ _ c.in_ok-push_str.ensures.bytes (rw limit_back at c.in_ok-push_test.ensures)
+    more (string_bytes c.args.text.now) (string_bytes c.push_str.new.self) (string_bytes c.push_test.new.text) _ _ c.in_ok-push_str.ensures.bytes (rw limit_back at c.in_ok-push_test.ensures)

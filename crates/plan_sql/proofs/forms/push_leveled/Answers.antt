@@ -2,7 +2,7 @@ use Rattle.std.proofs.Common.{◌≡◌, arith, of_z, to_z, w64}
 use Rattle.std.proofs.lemmas.Int.{ints}
 use Rattle.std.specs.Prelude.{string_bytes}
 use Rattle.plan_sql.specs.Forms.{leveled_sql}
-use Rattle.plan_sql.proofs.Pushing.{then}
+use Rattle.plan_reader.proofs.Pushing.{more}
 use Rattle.plan_sql.proofs.forms.push_leveled.Goals as goal
 
 pub returns : goal.returns
@@ -10,4 +10,4 @@ unfolding leveled_sql
 returns c =
     let start = string_bytes c.args.text.now in
     let width_back : to_z w64 (of_z w64 c.args.width) ≡ c.args.width = omega (arith, ints) in
-    then start (string_bytes c.push_str-4.new.self) (string_bytes c.push_str-5.new.self) _ _ (then start (string_bytes c.push_number.new.text) (string_bytes c.push_str-4.new.self) _ _ (then start (string_bytes c.push_str-3.new.self) (string_bytes c.push_number.new.text) _ _ (then start (string_bytes c.push_str-2.new.self) (string_bytes c.push_str-3.new.self) _ _ (then start (string_bytes c.push_str.new.self) (string_bytes c.push_str-2.new.self) _ _ c.in_ok-push_str.ensures.bytes c.in_ok-push_str-2.ensures.bytes) c.in_ok-push_str-3.ensures.bytes) (rw width_back at c.in_ok-push_number.ensures)) c.in_ok-push_str-4.ensures.bytes) c.in_ok-push_str-5.ensures.bytes
+    more start (string_bytes c.push_str-4.new.self) (string_bytes c.push_str-5.new.self) _ _ (more start (string_bytes c.push_number.new.text) (string_bytes c.push_str-4.new.self) _ _ (more start (string_bytes c.push_str-3.new.self) (string_bytes c.push_number.new.text) _ _ (more start (string_bytes c.push_str-2.new.self) (string_bytes c.push_str-3.new.self) _ _ (more start (string_bytes c.push_str.new.self) (string_bytes c.push_str-2.new.self) _ _ c.in_ok-push_str.ensures.bytes c.in_ok-push_str-2.ensures.bytes) c.in_ok-push_str-3.ensures.bytes) (rw width_back at c.in_ok-push_number.ensures)) c.in_ok-push_str-4.ensures.bytes) c.in_ok-push_str-5.ensures.bytes

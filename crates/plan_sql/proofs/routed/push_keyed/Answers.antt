@@ -1,10 +1,10 @@
 use Rattle.std.specs.Prelude.{string_bytes}
 use Rattle.plan_sql.specs.Routed.{keyed_sql}
-use Rattle.plan_sql.proofs.Pushing.{then}
+use Rattle.plan_reader.proofs.Pushing.{more}
 use Rattle.plan_sql.proofs.routed.push_keyed.Goals as goal
 
 pub returns : goal.returns
 unfolding keyed_sql
 returns c =
     let start = string_bytes c.args.text.now in
-    then start (string_bytes c.push_side.new.text) (string_bytes c.push_str-4.new.self) _ _ (then start (string_bytes c.push_str-3.new.self) (string_bytes c.push_side.new.text) _ _ (then start (string_bytes c.push_str-2.new.self) (string_bytes c.push_str-3.new.self) _ _ (then start (string_bytes c.push_str.new.self) (string_bytes c.push_str-2.new.self) _ _ c.in_ok-push_str.ensures.bytes (rw c.row_sql.ensures at c.in_ok-push_str-2.ensures.bytes)) c.in_ok-push_str-3.ensures.bytes) c.in_ok-push_side.ensures) c.in_ok-push_str-4.ensures.bytes
+    more start (string_bytes c.push_side.new.text) (string_bytes c.push_str-4.new.self) _ _ (more start (string_bytes c.push_str-3.new.self) (string_bytes c.push_side.new.text) _ _ (more start (string_bytes c.push_str-2.new.self) (string_bytes c.push_str-3.new.self) _ _ (more start (string_bytes c.push_str.new.self) (string_bytes c.push_str-2.new.self) _ _ c.in_ok-push_str.ensures.bytes (rw c.row_sql.ensures at c.in_ok-push_str-2.ensures.bytes)) c.in_ok-push_str-3.ensures.bytes) c.in_ok-push_side.ensures) c.in_ok-push_str-4.ensures.bytes

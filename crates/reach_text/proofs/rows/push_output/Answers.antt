@@ -1,4 +1,4 @@
-use Rattle.reach_text.proofs.Pushing.{more, then}
+use Rattle.plan_reader.proofs.Pushing.{more, then}
 use Rattle.reach_text.proofs.rows.push_output.Goals as goal
 
 pub returns : goal.returns

@@ -8,7 +8,7 @@ use Rattle.reach_finder.specs.Traced.{marks_in, rows_in}
 use Rattle.reach_finder.specs.declared.shades.Traced.{Traced}
 use Rattle.reach_finder.specs.declared.walk.Passage.{Passage as FoundPassage}
 use Rattle.reach_text.specs.Trace.{asked_in, stage_text}
-use Rattle.reach_text.proofs.Pushing.{then}
+use Rattle.plan_reader.proofs.Pushing.{then}
 use Rattle.reach_text.proofs.trace.push_stage_text.Goals as goal
 
 pub returns-in-Some : goal.returns-in-Some

@@ -3,7 +3,7 @@ use Rattle.std.specs.Prelude.{string_bytes}
 use Rattle.plan_reader.specs.declared.stage.Stage.{Stage}
 use Rattle.trade_text.specs.TradesView.{TradesView}
 use Rattle.plan_check.specs.Sentences.{plan_sentences, trades_sentences}
-use Rattle.plan_check.proofs.Pushing.{then}
+use Rattle.plan_reader.proofs.Pushing.{more}
 use Rattle.trade_check.specs.Symbols.{symbol_sentences}
 use Rattle.trade_check.proofs.check.push_said.Goals as goal
 
@@ -17,5 +17,5 @@ returns c =
     ∙ ap (λ (it : Option TradesView). text ++ (plan_sentences plan ++ trades_sentences it)) c.trades_in.ensures in
     let second : string_bytes c.push_symbols.new.text ≡ string_bytes c.push_sentences.new.text ++ symbol_sentences given plan.stages =
     c.in_ok-push_symbols.ensures ∙ ap (λ (stages : List Stage). string_bytes c.push_sentences.new.text ++ symbol_sentences given stages) c.stages.ensures.value in
-    then text (string_bytes c.push_symbols.new.text) (string_bytes c.push_script.new.text) _ _
-    (then text (string_bytes c.push_sentences.new.text) (string_bytes c.push_symbols.new.text) _ _ first second) c.in_ok-push_script.ensures
+    more text (string_bytes c.push_symbols.new.text) (string_bytes c.push_script.new.text) _ _
+    (more text (string_bytes c.push_sentences.new.text) (string_bytes c.push_symbols.new.text) _ _ first second) c.in_ok-push_script.ensures

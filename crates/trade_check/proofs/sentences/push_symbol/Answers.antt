@@ -5,7 +5,7 @@ use Rattle.tuple_edge.specs.declared.row.Row.{Row}
 use Rattle.trade_text.specs.Symbols.{symbol_at}
 use Rattle.trade_text.specs.TradesView.{TradesView}
 use Rattle.input_faults.specs.Shown.{shown}
-use Rattle.plan_check.proofs.Pushing.{then}
+use Rattle.plan_reader.proofs.Pushing.{more}
 use Rattle.trade_check.specs.Given.{line_of}
 use Rattle.trade_check.specs.Symbols.{before_symbol, place_text}
 use Rattle.trade_check.proofs.sentences.push_symbol.Goals as goal
@@ -25,10 +25,10 @@ returns c =
     c.in_ok-push_shown.ensures ∙ ap (λ (word : List ℕ). string_bytes c.push_str-3.new.self ++ shown word) name in
     let stands : string_bytes c.push_place.new.text ≡ string_bytes c.push_shown.new.text ++ place_text g.name (line_of g (before_symbol c.args.number g.trades.rows + 2)) =
     c.in_ok-push_place.ensures ∙ (λ j. string_bytes c.push_shown.new.text ++ place_text (c.name-name.ensures j) (line j)) in
-    then text (string_bytes c.push_shown.new.text) (string_bytes c.push_place.new.text) _ _
-    (then text (string_bytes c.push_str-3.new.self) (string_bytes c.push_shown.new.text) _ _
-    (then text (string_bytes c.push_stage.new.text) (string_bytes c.push_str-3.new.self) _ _
-    (then text (string_bytes c.push_str-2.new.self) (string_bytes c.push_stage.new.text) _ _
-    (then text (string_bytes c.push_number.new.text) (string_bytes c.push_str-2.new.self) _ _
-    (then text (string_bytes c.push_str.new.self) (string_bytes c.push_number.new.text) _ _ c.in_ok-push_str.ensures.bytes (rw back at c.in_ok-push_number.ensures))
+    more text (string_bytes c.push_shown.new.text) (string_bytes c.push_place.new.text) _ _
+    (more text (string_bytes c.push_str-3.new.self) (string_bytes c.push_shown.new.text) _ _
+    (more text (string_bytes c.push_stage.new.text) (string_bytes c.push_str-3.new.self) _ _
+    (more text (string_bytes c.push_str-2.new.self) (string_bytes c.push_stage.new.text) _ _
+    (more text (string_bytes c.push_number.new.text) (string_bytes c.push_str-2.new.self) _ _
+    (more text (string_bytes c.push_str.new.self) (string_bytes c.push_number.new.text) _ _ c.in_ok-push_str.ensures.bytes (rw back at c.in_ok-push_number.ensures))
     c.in_ok-push_str-2.ensures.bytes) c.in_ok-push_stage.ensures) c.in_ok-push_str-3.ensures.bytes) is_shown) stands
