@@ -3,7 +3,7 @@ use Rattle.std.proofs.Common.{◌≡◌, ◌&&◌, slice_get, Bool, true, false,
 use Rattle.std.specs.BTreeMap.{insert_entry, is_at}
 use Rattle.std.specs.BTreeMap.Range.{is_from_start, range_contains}
 use Rattle.std.specs.Cmp.{IsTotalOrder, Equal-is}
-use Rattle.std.specs.List.{All, AllByRecursion, filter, flat_map}
+use Rattle.std.specs.List.{All, AllByRecursion, filter, find, flat_map}
 use Rattle.std.specs.List.Sorted.{IsStrictlySortedBy}
 use Rattle.std.specs.Map.{keys_of, lookup, set_value}
 use Rattle.std.specs.Option.{IsSome, MatchOption, option_map}
@@ -17,7 +17,7 @@ use Rattle.std.proofs.lemmas.List.Elements.{All-head, All-tail}
 use Rattle.std.proofs.lemmas.Map.{NonePasses, lookup-none}
 use Rattle.std.proofs.lemmas.Map.Entries.{none_below_head}
 use Rattle.std.proofs.lemmas.Map.Keys.{sorted_head, sorted_tail}
-use Rattle.join_stage.specs.Store.{AreKnown, IsAside, IsSorted, IsStore, StoreView, changed, first_where, kept_before, overlay, was, watched}
+use Rattle.join_stage.specs.Store.{AreKnown, IsAside, IsSorted, IsStore, StoreView, changed, kept_before, overlay, was, watched}
 
 -- tests that agree find the same
 pub lookup-same : {K X : Type 0} (t u : K → Bool) → ((q : K) → t q ≡ u q) → (es : List (K × X)) → lookup t es ≡ lookup u es
@@ -165,7 +165,7 @@ sorted-was cmp f (e ∷ es) sorted = sorted-was_by cmp e (was_by f es) (f e.0) (
 
 -- the first of all
 abbrev pub head_of : {X : Type 0} → List X → Option X
-head_of xs = first_where (λ x. true) xs
+head_of xs = find (λ x. true) xs
 
 and_true : (b : Bool) → (b && true) ≡ b
 and_true true = refl
@@ -177,14 +177,14 @@ first-range_by e es later o true is = refl
 first-range_by e es later o false is = is
 
 pub first-range : {K X : Type 0} (cmp : K → K → Ordering) (lo : Bound K) (es : List (K × X))
-    → first_where (λ e. is_from_start cmp lo e.0) es ≡ head_of (filter (λ e. range_contains cmp lo Unbounded e.0) es)
+    → find (λ e. is_from_start cmp lo e.0) es ≡ head_of (filter (λ e. range_contains cmp lo Unbounded e.0) es)
 first-range cmp lo [] = refl
 first-range cmp lo (e ∷ es) =
-    first-range_by e es (filter (λ e. range_contains cmp lo Unbounded e.0) es) (first_where (λ e. is_from_start cmp lo e.0) es) (is_from_start cmp lo e.0) (first-range cmp lo es)
+    first-range_by e es (filter (λ e. range_contains cmp lo Unbounded e.0) es) (find (λ e. is_from_start cmp lo e.0) es) (is_from_start cmp lo e.0) (first-range cmp lo es)
     ∙ ap (λ t. head_of (cond t (e ∷ filter (λ e. range_contains cmp lo Unbounded e.0) es) (filter (λ e. range_contains cmp lo Unbounded e.0) es))) (sym (and_true (is_from_start cmp lo e.0)))
 
 first-was_by : {K X : Type 0} (test : K → Bool) (e : K × X) (rest : List (K × X)) (later : List (K × X)) (i : Option (Option X)) (t : Bool) → test e.0 ≡ t
-    → first_where (λ e. test e.0) rest ≡ head_of later → first_where (λ e. test e.0) (was e i ++ rest) ≡ head_of (cond t (was e i ++ later) later)
+    → find (λ e. test e.0) rest ≡ head_of later → find (λ e. test e.0) (was e i ++ rest) ≡ head_of (cond t (was e i ++ later) later)
 first-was_by test e rest later None true is same = rw is refl
 first-was_by test e rest later (Some None) true is same = same
 first-was_by test e rest later (Some (Some x)) true is same = rw is refl
@@ -197,7 +197,7 @@ was_cond f e es true = refl
 was_cond f e es false = refl
 
 pub first-was : {K X : Type 0} (cmp : K → K → Ordering) (lo : Bound K) (f : K → Option (Option X)) (es : List (K × X))
-    → first_where (λ e. is_from_start cmp lo e.0) (was_by f es) ≡ head_of (was_by f (filter (λ e. range_contains cmp lo Unbounded e.0) es))
+    → find (λ e. is_from_start cmp lo e.0) (was_by f es) ≡ head_of (was_by f (filter (λ e. range_contains cmp lo Unbounded e.0) es))
 first-was cmp lo f [] = refl
 first-was cmp lo f (e ∷ es) =
     let later : List (_) = filter (λ e. range_contains cmp lo Unbounded e.0) es in

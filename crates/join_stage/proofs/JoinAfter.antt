@@ -13,7 +13,7 @@ use Rattle.std.specs.BTreeMap.{insert_entry, is_at}
 use Rattle.std.specs.BTreeMap.Range.{is_from_start}
 use Rattle.std.specs.declared.ops.Bound.{Bound}
 use Rattle.std.specs.Cmp.{IsTotalOrder, eq_by_cmp_equiv}
-use Rattle.std.specs.List.{All}
+use Rattle.std.specs.List.{All, find}
 use Rattle.std.specs.Map.{keys_of, lookup, values_of}
 use Rattle.std.specs.Option.{IfSome, option_and_then, option_map}
 use Rattle.std.specs.Ordering.{int_cmp, is_gt, nat_cmp, ordering_reverse, ordering_then}
@@ -21,7 +21,7 @@ use Rattle.std.specs.declared.cmp.Ordering.{Ordering}
 use Rattle.std.specs.declared.cmp.Ordering.TheVariants.{Less, Equal, Greater}
 use Rattle.std.specs.Prelude.{ℤ, Result, Ok, Err, OnOk, OnErr}
 use Rattle.join_stage.specs.Join.{AreRight, AreSides, IsJoin, IsShort, IsShortFirst, all_told, bound_after, is_after, kept_at, key_cmp, next_after, next_in, no_sides, or_else, pushed, run, same_key_before, sides_after, sides_with, told_sides}
-use Rattle.join_stage.specs.Store.{IsSorted, StoreView, changed, first_from, first_where, old_first, old_value}
+use Rattle.join_stage.specs.Store.{IsSorted, StoreView, changed, first_from, old_first, old_value}
 use Rattle.join_stage.specs.declared.rows.JoinKey.{JoinKey}
 use Rattle.join_stage.specs.declared.rows.Kept.{Kept}
 use Rattle.join_stage.specs.declared.rows.SideRow.{SideRow}
@@ -44,24 +44,24 @@ slot_within s m within = grind (arith, nat_tests)
 place : (at : JoinKey × ℕ) (k : JoinKey) (slot : ℕ) (o : Ordering) → key_cmp at.0 k ≡ o → is_gt (ordering_then (key_cmp k at.0) (nat_cmp slot at.1)) ≡ is_gt (ordering_then (ordering_reverse o) (nat_cmp slot at.1))
 place at k slot o is = ap (λ o. is_gt (ordering_then o (nat_cmp slot at.1))) (key_cmp_total.antisymm k at.0 ∙ ap ordering_reverse is)
 
-first_cond : {X : Type 0} (test : X → Bool) (x : X) (xs ys : List X) (t : Bool) → first_where test (xs ++ ys) ≡ or_else (first_where test xs) (first_where test ys)
-    → cond t (Some x) (first_where test (xs ++ ys)) ≡ or_else (cond t (Some x) (first_where test xs)) (first_where test ys)
+first_cond : {X : Type 0} (test : X → Bool) (x : X) (xs ys : List X) (t : Bool) → find test (xs ++ ys) ≡ or_else (find test xs) (find test ys)
+    → cond t (Some x) (find test (xs ++ ys)) ≡ or_else (cond t (Some x) (find test xs)) (find test ys)
 first_cond test x xs ys true later = refl
 first_cond test x xs ys false later = later
 
-pub first_append : {X : Type 0} (test : X → Bool) (xs ys : List X) → first_where test (xs ++ ys) ≡ or_else (first_where test xs) (first_where test ys)
+pub first_append : {X : Type 0} (test : X → Bool) (xs ys : List X) → find test (xs ++ ys) ≡ or_else (find test xs) (find test ys)
 first_append test [] ys = refl
 first_append test (x ∷ xs) ys = first_cond test x xs ys (test x) (first_append test xs ys)
 
-run_below : (at : JoinKey × ℕ) (k : JoinKey) (s : ℕ) (rows : List SideRow) → key_cmp at.0 k ≡ Greater → first_where (is_after (Some at)) (run k s rows) ≡ None
+run_below : (at : JoinKey × ℕ) (k : JoinKey) (s : ℕ) (rows : List SideRow) → key_cmp at.0 k ≡ Greater → find (is_after (Some at)) (run k s rows) ≡ None
 run_below at k s [] is = refl
 run_below at k s (r ∷ rows) is = rw (place at k s Greater is) (run_below at k (s + 1) rows is)
 
-run_above : (at : JoinKey × ℕ) (k : JoinKey) (s : ℕ) (rows : List SideRow) → key_cmp at.0 k ≡ Less → first_where (is_after (Some at)) (run k s rows) ≡ option_map (kept_at k s) (slice_get rows 0)
+run_above : (at : JoinKey × ℕ) (k : JoinKey) (s : ℕ) (rows : List SideRow) → key_cmp at.0 k ≡ Less → find (is_after (Some at)) (run k s rows) ≡ option_map (kept_at k s) (slice_get rows 0)
 run_above at k s [] is = refl
 run_above at k s (r ∷ rows) is = rw (place at k s Less is) refl
 
-run_passed : (at : JoinKey × ℕ) (k : JoinKey) (s : ℕ) (rows : List SideRow) → key_cmp at.0 k ≡ Equal → at.1 < s → first_where (is_after (Some at)) (run k s rows) ≡ option_map (kept_at k s) (slice_get rows 0)
+run_passed : (at : JoinKey × ℕ) (k : JoinKey) (s : ℕ) (rows : List SideRow) → key_cmp at.0 k ≡ Equal → at.1 < s → find (is_after (Some at)) (run k s rows) ≡ option_map (kept_at k s) (slice_get rows 0)
 run_passed at k s [] is above = refl
 run_passed at k s (r ∷ rows) is above = rw (place at k s Equal is, slot_above s at.1 above) refl
 
@@ -70,7 +70,7 @@ none_got k n zero = refl
 none_got k n (suc d) = refl
 
 run_here : (at : JoinKey × ℕ) (k : JoinKey) (s d : ℕ) (rows : List SideRow) → key_cmp at.0 k ≡ Equal → s + d ≡ at.1 + 1
-    → first_where (is_after (Some at)) (run k s rows) ≡ option_map (kept_at k (at.1 + 1)) (slice_get rows d)
+    → find (is_after (Some at)) (run k s rows) ≡ option_map (kept_at k (at.1 + 1)) (slice_get rows d)
 run_here at k s d [] is sum = none_got k (at.1 + 1) d
 run_here at k s zero (r ∷ rows) is sum =
     let here : s ≡ at.1 + 1 = omega arith in
@@ -79,27 +79,27 @@ run_here at k s (suc d) (r ∷ rows) is sum =
     rw (place at k s Equal is, slot_within s at.1 (omega arith)) (run_here at k (s + 1) d rows is (omega arith))
 
 right_here_by : (at : JoinKey × ℕ) (k : JoinKey) (rows : List SideRow) → key_cmp at.0 k ≡ Equal → (d : ℕ) → at.1 + 1 - 4 ≡ d
-    → first_where (is_after (Some at)) (run k 4 rows) ≡ option_map (kept_at k (d + 4)) (slice_get rows d)
+    → find (is_after (Some at)) (run k 4 rows) ≡ option_map (kept_at k (d + 4)) (slice_get rows d)
 right_here_by at k rows is zero low = right_low (at.1 + 1) refl
   where
-    right_low : (n : ℕ) → at.1 + 1 ≡ n → first_where (is_after (Some at)) (run k 4 rows) ≡ option_map (kept_at k 4) (slice_get rows 0)
+    right_low : (n : ℕ) → at.1 + 1 ≡ n → find (is_after (Some at)) (run k 4 rows) ≡ option_map (kept_at k 4) (slice_get rows 0)
     right_low n here = run_passed at k 4 rows is (let e : at.1 + 1 - 4 ≡ 0 = low in omega arith)
 right_here_by at k rows is (suc d) high =
     let e : suc d + 4 ≡ at.1 + 1 = omega arith in
     run_here at k 4 (suc d) rows is (omega arith) ∙ ap (λ n. option_map (kept_at k n) (slice_get rows (suc d))) (sym e)
 
-sides_here : (at : JoinKey × ℕ) (k : JoinKey) (s : Sides) → key_cmp at.0 k ≡ Equal → first_where (is_after (Some at)) (told_sides k s) ≡ next_in k (at.1 + 1) s
+sides_here : (at : JoinKey × ℕ) (k : JoinKey) (s : Sides) → key_cmp at.0 k ≡ Equal → find (is_after (Some at)) (told_sides k s) ≡ next_in k (at.1 + 1) s
 sides_here at k s is =
     first_append (is_after (Some at)) (run k 0 s.left.items) (run k 4 s.right.items)
-    ∙ ap (λ o. or_else o (first_where (is_after (Some at)) (run k 4 s.right.items))) (run_here at k 0 (at.1 + 1) s.left.items is (omega arith))
+    ∙ ap (λ o. or_else o (find (is_after (Some at)) (run k 4 s.right.items))) (run_here at k 0 (at.1 + 1) s.left.items is (omega arith))
     ∙ ap (or_else (option_map (kept_at k (at.1 + 1)) (slice_get s.left.items (at.1 + 1)))) (right_here_by at k s.right.items is (at.1 + 1 - 4) refl)
 
-sides_above : (at : JoinKey × ℕ) (k : JoinKey) (s : Sides) → key_cmp at.0 k ≡ Less → first_where (is_after (Some at)) (told_sides k s) ≡ next_in k 0 s
+sides_above : (at : JoinKey × ℕ) (k : JoinKey) (s : Sides) → key_cmp at.0 k ≡ Less → find (is_after (Some at)) (told_sides k s) ≡ next_in k 0 s
 sides_above at k s is =
     first_append (is_after (Some at)) (run k 0 s.left.items) (run k 4 s.right.items)
     ∙ rw (run_above at k 0 s.left.items is, run_above at k 4 s.right.items is) refl
 
-sides_below : (at : JoinKey × ℕ) (k : JoinKey) (s : Sides) → key_cmp at.0 k ≡ Greater → first_where (is_after (Some at)) (told_sides k s) ≡ None
+sides_below : (at : JoinKey × ℕ) (k : JoinKey) (s : Sides) → key_cmp at.0 k ≡ Greater → find (is_after (Some at)) (told_sides k s) ≡ None
 sides_below at k s is =
     first_append (is_after (Some at)) (run k 0 s.left.items) (run k 4 s.right.items)
     ∙ rw (run_below at k 0 s.left.items is, run_below at k 4 s.right.items is) refl
@@ -111,40 +111,40 @@ some_row k [] (r ∷ right) rest some = refl
 some_row k (l ∷ left) right rest some = refl
 
 next_by : (n : ℕ) (at : JoinKey × ℕ) (e : JoinKey × Sides) (es : List (JoinKey × Sides)) (o : Ordering) → key_cmp at.0 e.0 ≡ o → AreRight n (e ∷ es)
-    → first_where (is_after (Some at)) (all_told es) ≡ next_after (Some at) es
-    → or_else (first_where (is_after (Some at)) (told_sides e.0 e.1)) (first_where (is_after (Some at)) (all_told es)) ≡ next_after (Some at) (e ∷ es)
+    → find (is_after (Some at)) (all_told es) ≡ next_after (Some at) es
+    → or_else (find (is_after (Some at)) (told_sides e.0 e.1)) (find (is_after (Some at)) (all_told es)) ≡ next_after (Some at) (e ∷ es)
 next_by n at e es Less is right later =
     let none : lookup (is_at (key_cmp at.0)) (e ∷ es) ≡ None = lookup-none (is_at (key_cmp at.0)) (e ∷ es) (none_below_head key_cmp_total at.0 e es right.0 is) in
     let sides : AreSides n e.1 = All-head (AreSides n) e.1 (values_of es) right.1 in
-    rw none (rw (sides_above at e.0 e.1 is, is) (some_row e.0 e.1.left.items e.1.right.items (first_where (is_after (Some at)) (all_told es)) sides.some))
+    rw none (rw (sides_above at e.0 e.1 is, is) (some_row e.0 e.1.left.items e.1.right.items (find (is_after (Some at)) (all_told es)) sides.some))
 next_by n at e es Equal is right later =
     let none : lookup (is_at (key_cmp at.0)) es ≡ None = lookup-none (is_at (key_cmp at.0)) es (none_past_head (eq_by_cmp_equiv key_cmp_total) at.0 e es (IsDistinct-from_sorted key_cmp (keys_of (e ∷ es)) right.0) (rw is refl)) in
-    let here : first_where (is_after (Some at)) (told_sides e.0 e.1) ≡ next_in at.0 (at.1 + 1) e.1 = sides_here at e.0 e.1 is ∙ ap (λ k. next_in k (at.1 + 1) e.1) (sym (same_key at.0 e.0 is)) in
+    let here : find (is_after (Some at)) (told_sides e.0 e.1) ≡ next_in at.0 (at.1 + 1) e.1 = sides_here at e.0 e.1 is ∙ ap (λ k. next_in k (at.1 + 1) e.1) (sym (same_key at.0 e.0 is)) in
     rw (here, later, none, is) refl
 next_by n at e es Greater is right later = rw (sides_below at e.0 e.1 is, is) later
 
-next_list : (n : ℕ) (at : JoinKey × ℕ) (es : List (JoinKey × Sides)) → AreRight n es → first_where (is_after (Some at)) (all_told es) ≡ next_after (Some at) es
+next_list : (n : ℕ) (at : JoinKey × ℕ) (es : List (JoinKey × Sides)) → AreRight n es → find (is_after (Some at)) (all_told es) ≡ next_after (Some at) es
 next_list n at [] right = refl
 next_list n at (e ∷ es) right =
     first_append (is_after (Some at)) (told_sides e.0 e.1) (all_told es)
     ∙ next_by n at e es (key_cmp at.0 e.0) refl right (next_list n at es (sorted_tail key_cmp e.0 (keys_of es) right.0, All-tail (AreSides n) e.1 (values_of es) right.1))
 
 first_of : (k : JoinKey) (left right : List SideRow) (rest : List Kept) → 1 ≤ length left + length right
-    → first_where (is_after None) ((run k 0 left ++ run k 4 right) ++ rest) ≡ or_else (option_map (kept_at k 0) (slice_get left 0)) (option_map (kept_at k 4) (slice_get right 0))
+    → find (is_after None) ((run k 0 left ++ run k 4 right) ++ rest) ≡ or_else (option_map (kept_at k 0) (slice_get left 0)) (option_map (kept_at k 4) (slice_get right 0))
 first_of k [] [] rest some = absurd (omega arith)
 first_of k [] (r ∷ right) rest some = refl
 first_of k (l ∷ left) right rest some = refl
 
-first_list : (n : ℕ) (es : List (JoinKey × Sides)) → AreRight n es → first_where (is_after None) (all_told es) ≡ next_after None es
+first_list : (n : ℕ) (es : List (JoinKey × Sides)) → AreRight n es → find (is_after None) (all_told es) ≡ next_after None es
 first_list n [] right = refl
 first_list n (e ∷ es) right = let sides : AreSides n e.1 = All-head (AreSides n) e.1 (values_of es) right.1 in first_of e.0 e.1.left.items e.1.right.items (all_told es) sides.some
 
-pub next_told : (n : ℕ) (after : Option (JoinKey × ℕ)) (es : List (JoinKey × Sides)) → AreRight n es → next_after after es ≡ first_where (is_after after) (all_told es)
+pub next_told : (n : ℕ) (after : Option (JoinKey × ℕ)) (es : List (JoinKey × Sides)) → AreRight n es → next_after after es ≡ find (is_after after) (all_told es)
 next_told n None es right = sym (first_list n es right)
 next_told n (Some at) es right = sym (next_list n at es right)
 
 pub next_old : (n : ℕ) (after : Option (JoinKey × ℕ)) (old : Option (List (JoinKey × Sides))) → IfSome old (AreRight n)
-    → or_else (same_key_before after old) (option_and_then (λ e. next_in e.0 0 e.1) (old_first key_cmp (bound_after after) old)) ≡ option_and_then (first_where (is_after after)) (option_map all_told old)
+    → or_else (same_key_before after old) (option_and_then (λ e. next_in e.0 0 e.1) (old_first key_cmp (bound_after after) old)) ≡ option_and_then (find (is_after after)) (option_map all_told old)
 next_old n None None right = refl
 next_old n (Some at) None right = refl
 next_old n None (Some es) right = next_told n None es right

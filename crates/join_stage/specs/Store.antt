@@ -1,8 +1,8 @@
 -- What is kept by key, and what was kept when a watch began.
-use Rattle.std.specs.Prelude.{◌≡◌, Bool, cond, List, [], ◌∷◌, Option, Some, None}
+use Rattle.std.specs.Prelude.{◌≡◌, List, [], ◌∷◌, Option, Some, None}
 use Rattle.std.specs.BTreeMap.{BTreeMap, is_at}
 use Rattle.std.specs.BTreeMap.Range.{is_from_start}
-use Rattle.std.specs.List.{flat_map}
+use Rattle.std.specs.List.{find, flat_map}
 use Rattle.std.specs.List.Sorted.{IsStrictlySortedBy}
 use Rattle.std.specs.Map.{keys_of, lookup}
 use Rattle.std.specs.Option.{IfSome, IsSome, option_and_then, option_map}
@@ -13,11 +13,6 @@ use Rattle.std.specs.declared.ops.Bound.{Bound}
 pub record StoreView (K X : Type 0) : Type 0 where
   pub kept : List (K × X)
   pub old : Option (List (K × X))
-
--- the first that passes a test
-abbrev pub first_where : {X : Type 0} → (X → Bool) → List X → Option X
-first_where test [] = None
-first_where test (x ∷ xs) = cond (test x) (Some x) (first_where test xs)
 
 -- other entries are kept
 abbrev pub changed : {K X : Type 0} → StoreView K X → List (K × X) → StoreView K X
@@ -65,7 +60,7 @@ module _ {K X : Type 0} (cmp : K → K → Ordering) where
 
   -- the first entry from a bound on
   abbrev pub first_from : Bound K → List (K × X) → Option (K × X)
-  first_from bound entries = first_where (λ e. is_from_start cmp bound e.0) entries
+  first_from bound entries = find (λ e. is_from_start cmp bound e.0) entries
 
   -- the first entry from a bound on, of what was kept when the watch began
   abbrev pub old_first : Bound K → Option (List (K × X)) → Option (K × X)

@@ -1,7 +1,7 @@
 // The join: each row is paired with the last rows of the other side that lie in its window.
 ghost use Rattle.join_stage.specs.Join.{IsJoin, has_room, row_of_kept, IsShort, IsShortFirst, JoinView, all_told, bound_after, is_after, joined, kept_at, key_cmp, next_in, no_sides, same_key_after, same_key_before, other_side, pair_of, pairs_with, saturating_sum, sides_with};
 ghost use Rattle.join_stage.specs.Limits.{first_right_slot, max_join_rows};
-ghost use Rattle.join_stage.specs.Store.{IsSorted, changed, first_from, first_where, old_first, old_value};
+ghost use Rattle.join_stage.specs.Store.{IsSorted, changed, first_from, old_first, old_value};
 ghost use Rattle.std.specs.BTreeMap.{insert_entry, is_at};
 ghost use Rattle.std.specs.Map.{lookup};
 ghost use Rattle.std.specs.Map.Iter.{ShowsInOrder, deref_pair};
@@ -11,6 +11,7 @@ ghost use Rattle.std.specs.Ordering.{int_eq};
 ghost use Rattle.std.specs.declared.ops.Bound.{Bound};
 ghost use Rattle.join_stage.specs.declared.rows.JoinKey.{JoinKey};
 ghost use Rattle.std.specs.Prelude.{◌≡◌, ◌≤◌, ◌++◌, [], ◌∷◌, Some, None, IfOk, if◌then◌else◌, OnOk, OnErr, ◌+◌, length, slice_get};
+ghost use Rattle.std.specs.List.{find};
 
 use crate::rows::{FIRST_RIGHT_SLOT, JoinKey, Kept, Pair, SideRow, SidedRow, Sides};
 use crate::store::{KeyedStore, OutOfMemory};
@@ -419,7 +420,7 @@ impl JoinState {
     /// The first kept row whose (key, slot) is above this one, or the first of all. None exactly
     /// past the last.
     pub fn entry_after(&self, after: Option<(JoinKey, u32)>) -> Option<Kept>
-        ensures { result ≡ first_where (is_after after) (all_told self.now.sides.kept) }
+        ensures { result ≡ find (is_after after) (all_told self.now.sides.kept) }
     {
         match here_after(&self.sides, &after) {
             Some(kept) => Some(kept),
@@ -429,7 +430,7 @@ impl JoinState {
 
     /// The same of what was kept when the watch began. None also where there is no watch.
     pub fn old_after(&self, after: Option<(JoinKey, u32)>) -> Option<Kept>
-        ensures { result ≡ option_and_then (first_where (is_after after)) (option_map all_told self.now.sides.old) }
+        ensures { result ≡ option_and_then (find (is_after after)) (option_map all_told self.now.sides.old) }
     {
         match here_before(&self.sides, &after) {
             Some(kept) => Some(kept),

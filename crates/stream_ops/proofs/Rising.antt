@@ -4,14 +4,13 @@ use Rattle.std.proofs.lemmas.Cmp.{nat_cmp_total, on_total, then_total}
 use Rattle.std.proofs.lemmas.List.Elements.{All-head, All-tail}
 use Rattle.std.proofs.lemmas.Map.Keys.{sorted_head, sorted_tail}
 use Rattle.std.specs.Cmp.{IsTotalOrder}
-use Rattle.std.specs.List.{AllByRecursion}
+use Rattle.std.specs.List.{AllByRecursion, find}
 use Rattle.std.specs.Map.{keys_of, values_of}
 use Rattle.std.specs.Option.{IfSome, option_and_then, option_map}
 use Rattle.std.specs.Ordering.{is_gt, nat_cmp, ordering_reverse, ordering_then}
 use Rattle.std.specs.declared.cmp.Ordering.{Ordering}
 use Rattle.std.specs.declared.cmp.Ordering.TheVariants.{Less, Equal, Greater}
 use Rattle.join_stage.specs.Join.{AreSides}
-use Rattle.join_stage.specs.Store.{first_where}
 use Rattle.join_stage.specs.declared.rows.SideRow.{SideRow}
 use Rattle.join_stage.proofs.JoinAfter.{slot_above}
 use Rattle.tuple_edge.specs.declared.packet.Entry.{Entry}
@@ -72,7 +71,7 @@ not_above_self (entry.Kept edge number item) keyed = cc
 -- ---- what stands after a place
 
 -- all above: the first one
-first_of_all : (at : Option (Key × ℕ)) (es : List Entry) → AllAfter at es → first_where (is_after at) es ≡ slice_get es 0
+first_of_all : (at : Option (Key × ℕ)) (es : List Entry) → AllAfter at es → find (is_after at) es ≡ slice_get es 0
 first_of_all at [] after = refl
 first_of_all at (e ∷ es) after = rw after.0 refl
 
@@ -85,15 +84,15 @@ above_at at (e ∷ es) zero f after there =
 above_at at (e ∷ es) (suc n) f after there = above_at at es n f after.1 there
 
 -- the entries after the n-th begin with the next one
-pub next_after_place : (es : List Entry) (n : ℕ) → AreRising es → n ≤ length es → first_where (is_after (last_place n es)) es ≡ slice_get es n
+pub next_after_place : (es : List Entry) (n : ℕ) → AreRising es → n ≤ length es → find (is_after (last_place n es)) es ≡ slice_get es n
 next_after_place [] zero rising within = refl
 next_after_place [] (suc n) rising within = absurd (omega arith)
 next_after_place (e ∷ es) zero rising within = refl
 next_after_place (e ∷ es) (suc zero) rising within = rw (not_above_self e rising.0) (first_of_all (place_of e) es rising.1)
 next_after_place (e ∷ es) (suc (suc n)) rising within = by_last (slice_get es n) refl (next_after_place es (suc n) rising.2 (omega arith))
   where
-    by_last : (o : Option Entry) → slice_get es n ≡ o → first_where (is_after (option_and_then place_of (slice_get es n))) es ≡ slice_get es (suc n)
-        → cond (is_after (option_and_then place_of (slice_get es n)) e) (Some e) (first_where (is_after (option_and_then place_of (slice_get es n))) es) ≡ slice_get es (suc n)
+    by_last : (o : Option Entry) → slice_get es n ≡ o → find (is_after (option_and_then place_of (slice_get es n))) es ≡ slice_get es (suc n)
+        → cond (is_after (option_and_then place_of (slice_get es n)) e) (Some e) (find (is_after (option_and_then place_of (slice_get es n))) es) ≡ slice_get es (suc n)
     by_last None is later = absurd (some_there es n (omega arith) is)
       where
         some_there : (es : List Entry) (n : ℕ) → n < length es → slice_get es n ≡ None → ⊥
@@ -105,11 +104,11 @@ next_after_place (e ∷ es) (suc (suc n)) rising within = by_last (slice_get es 
         rw apart later
 
 -- each of them is an operator's
-pub first_keyed : (at : Option (Key × ℕ)) (es : List Entry) → AreRising es → IfSome (first_where (is_after at) es) IsKeyed
+pub first_keyed : (at : Option (Key × ℕ)) (es : List Entry) → AreRising es → IfSome (find (is_after at) es) IsKeyed
 first_keyed at [] rising = tt
 first_keyed at (e ∷ es) rising = by_test (is_after at e) (first_keyed at es rising.2)
   where
-    by_test : (t : Bool) → IfSome (first_where (is_after at) es) IsKeyed → IfSome (cond t (Some e) (first_where (is_after at) es)) IsKeyed
+    by_test : (t : Bool) → IfSome (find (is_after at) es) IsKeyed → IfSome (cond t (Some e) (find (is_after at) es)) IsKeyed
     by_test true later = rising.0
     by_test false later = later
 
@@ -229,11 +228,11 @@ sound_rises (operator.Crossing by limit totals) sound = old_rises total_rises to
 sound_rises (operator.Join by width column compare limit join) sound = old_rises (sides_rise join.rows sound.0.3) (keyed join.sides).old sound.1.1
 
 -- what is given after a place
-pub old_in_turn : (o : Option (List Entry)) → IfSome o AreRising → (old : List Entry) (n : ℕ) → o ≡ Some old → n ≤ length old → option_and_then (first_where (is_after (last_place n old))) o ≡ slice_get old n
+pub old_in_turn : (o : Option (List Entry)) → IfSome o AreRising → (old : List Entry) (n : ℕ) → o ≡ Some old → n ≤ length old → option_and_then (find (is_after (last_place n old))) o ≡ slice_get old n
 old_in_turn o rising old n is within =
     let rises : AreRising old = subst (λ (o : Option (List Entry)). IfSome o AreRising) is rising in
-    ap (option_and_then (first_where (is_after (last_place n old)))) is ∙ next_after_place old n rises within
+    ap (option_and_then (find (is_after (last_place n old)))) is ∙ next_after_place old n rises within
 
-pub old_keyed : (at : Option (Key × ℕ)) (o : Option (List Entry)) → IfSome o AreRising → IfSome (option_and_then (first_where (is_after at)) o) IsKeyed
+pub old_keyed : (at : Option (Key × ℕ)) (o : Option (List Entry)) → IfSome o AreRising → IfSome (option_and_then (find (is_after at)) o) IsKeyed
 old_keyed at None rising = tt
 old_keyed at (Some old) rising = first_keyed at old rising

@@ -2,7 +2,7 @@
 use Rattle.std.proofs.Common.{◌≡◌, ℕ, ℤ, ◌+◌, ◌-◌, ◌≤◌, pos, Bool, true, false, not, cond, List, [], ◌∷◌, ◌++◌, drop, length, map, refl, sym, ap, ◌∙◌, Option, Some, None, option_map, arith}
 use Rattle.std.proofs.lemmas.List.{drop-map, length-map, map-append}
 use Rattle.std.specs.BTreeMap.{insert_entry, is_at}
-use Rattle.std.specs.List.{filter}
+use Rattle.std.specs.List.{filter, find}
 use Rattle.std.specs.Map.{lookup}
 use Rattle.std.specs.Option.{option_and_then}
 use Rattle.std.specs.Ordering.{int_eq}
@@ -11,7 +11,6 @@ use Rattle.std.specs.declared.cmp.Ordering.TheVariants.{Less, Equal, Greater}
 use Rattle.circular_buffer.specs.Buffer.{buffer, keep_last}
 use Rattle.join_stage.specs.Join.{AreSides, last_sides, other_side, pair_of, pairs_with, rows_of_side, run, sides_of, sides_with}
 use Rattle.join_stage.specs.Join as join
-use Rattle.join_stage.specs.Store.{first_where}
 use Rattle.join_stage.specs.declared.rows.JoinKey.{JoinKey}
 use Rattle.join_stage.specs.declared.rows.Kept.{Kept}
 use Rattle.join_stage.specs.declared.rows.SideRow.{SideRow}
@@ -225,20 +224,20 @@ next_place None x = refl
 next_place (Some at) x = refl
 
 first_told : (after : Option (Key × ℕ)) (xs : List Kept)
-    → option_map entry_of_kept (first_where (join.is_after (option_map (λ (at : Key × ℕ). (join_key at.0, at.1)) after)) xs) ≡ first_where (is_after after) (map entry_of_kept xs)
+    → option_map entry_of_kept (find (join.is_after (option_map (λ (at : Key × ℕ). (join_key at.0, at.1)) after)) xs) ≡ find (is_after after) (map entry_of_kept xs)
 first_told after [] = refl
 first_told after (x ∷ xs) =
     by_test (join.is_after (option_map (λ (at : Key × ℕ). (join_key at.0, at.1)) after) x) (first_told after xs)
-    ∙ ap (λ t. cond t (Some (entry_of_kept x)) (first_where (is_after after) (map entry_of_kept xs))) (next_place after x)
+    ∙ ap (λ t. cond t (Some (entry_of_kept x)) (find (is_after after) (map entry_of_kept xs))) (next_place after x)
   where
     by_test : (t : Bool)
-        → option_map entry_of_kept (first_where (join.is_after (option_map (λ (at : Key × ℕ). (join_key at.0, at.1)) after)) xs) ≡ first_where (is_after after) (map entry_of_kept xs)
-        → option_map entry_of_kept (cond t (Some x) (first_where (join.is_after (option_map (λ (at : Key × ℕ). (join_key at.0, at.1)) after)) xs)) ≡ cond t (Some (entry_of_kept x)) (first_where (is_after after) (map entry_of_kept xs))
+        → option_map entry_of_kept (find (join.is_after (option_map (λ (at : Key × ℕ). (join_key at.0, at.1)) after)) xs) ≡ find (is_after after) (map entry_of_kept xs)
+        → option_map entry_of_kept (cond t (Some x) (find (join.is_after (option_map (λ (at : Key × ℕ). (join_key at.0, at.1)) after)) xs)) ≡ cond t (Some (entry_of_kept x)) (find (is_after after) (map entry_of_kept xs))
     by_test true later = refl
     by_test false later = later
 
 pub old_told : (after : Option (Key × ℕ)) (old : Option (List (JoinKey × Sides)))
-    → option_map entry_of_kept (option_and_then (first_where (join.is_after (option_map (λ (at : Key × ℕ). (join_key at.0, at.1)) after))) (option_map join.all_told old))
-    ≡ option_and_then (first_where (is_after after)) (option_map (all_told told_sides) (option_map by_key old))
+    → option_map entry_of_kept (option_and_then (find (join.is_after (option_map (λ (at : Key × ℕ). (join_key at.0, at.1)) after))) (option_map join.all_told old))
+    ≡ option_and_then (find (is_after after)) (option_map (all_told told_sides) (option_map by_key old))
 old_told after None = refl
-old_told after (Some es) = first_told after (join.all_told es) ∙ ap (first_where (is_after after)) (entries_told es)
+old_told after (Some es) = first_told after (join.all_told es) ∙ ap (find (is_after after)) (entries_told es)

@@ -1,10 +1,10 @@
 // A join over the rows of this dataflow: keys, sides and windows in the words of the crate below.
 ghost use Rattle.join_stage.specs.Join.{joined, key_cmp, other_side, pairs_with, row_of_kept};
-ghost use Rattle.join_stage.specs.Store.{first_where};
 ghost use Rattle.std.specs.BTreeMap.{is_at};
 ghost use Rattle.std.specs.Map.{lookup};
 ghost use Rattle.std.specs.Option.{option_and_then};
 ghost use Rattle.std.specs.Prelude.{◌≡◌, ◌≤◌, ◌≤ℤ◌, ◌+◌, ◌++◌, pos, OnErr, OnOk, Some, None, length, map, option_map, vec_capacity, vec_len};
+ghost use Rattle.std.specs.List.{find};
 ghost use Rattle.stream_ops.specs.Entries.{all_told, is_after};
 ghost use Rattle.stream_ops.specs.Joins.{entry_of_kept, join_key, kept_row, key_of_join, keyed, row_of_pair, side_entry, side_row, told_side, told_sides};
 
@@ -107,7 +107,7 @@ fn join_place(after: &Option<(Key, u32)>) -> Option<(JoinKey, u32)>
 
 // The next entry of what was kept when the watch began.
 pub(crate) fn joined_after(join: &JoinState, after: &Option<(Key, u32)>) -> Option<Entry>
-    ensures { result ≡ option_and_then (first_where (is_after after.now)) (option_map (all_told told_sides) (keyed join.now.sides).old) }
+    ensures { result ≡ option_and_then (find (is_after after.now)) (option_map (all_told told_sides) (keyed join.now.sides).old) }
 {
     entry_if_kept(&join.old_after(join_place(after)))
 }

@@ -3,8 +3,8 @@ ghost use Rattle.std.specs.Prelude.{ℕ, ◌≡◌, ◌≤◌, ◌+◌, ◌∷�
 ghost use Rattle.op_spec.specs.Spec.{IsSpec, most_rows};
 ghost use Rattle.op_spec.specs.Times.{IsTime};
 ghost use Rattle.stream_ops.specs.Answers.{end_answer, row_answer};
-ghost use Rattle.join_stage.specs.Store.{first_where};
 ghost use Rattle.std.specs.Option.{option_and_then};
+ghost use Rattle.std.specs.List.{find};
 ghost use Rattle.stream_ops.specs.Entries.{is_after};
 ghost use Rattle.stream_ops.specs.Kept.{keys_after};
 ghost use Rattle.stream_ops.specs.State.{IsNextEntry};
@@ -287,7 +287,7 @@ impl Operator {
     // The first entry above a key and slot, of those when the watch began.
     pub(crate) fn old_after(&self, after: &Option<(Key, u32)>) -> Option<Entry>
         requires { IsSound self.now }
-        ensures { result ≡ option_and_then (first_where (is_after after.now)) (old_of self.now) }
+        ensures { result ≡ option_and_then (find (is_after after.now)) (old_of self.now) }
     {
         match self {
             Operator::Keep { .. } => None,

@@ -3,8 +3,8 @@ ghost use Rattle.std.specs.Prelude.{ℕ, IfSome, slice_get, ◌≡◌, ◌≤◌
 ghost use Rattle.op_spec.specs.Spec.{IsSpec};
 ghost use Rattle.op_spec.specs.Times.{IsTimely};
 ghost use Rattle.stream_ops.specs.Answers.{IsOpen, answer};
-ghost use Rattle.join_stage.specs.Store.{first_where};
 ghost use Rattle.std.specs.Option.{option_and_then};
+ghost use Rattle.std.specs.List.{find};
 ghost use Rattle.stream_ops.specs.Entries.{IsKeyed, entries, is_after, last_place};
 ghost use Rattle.tuple_edge.specs.declared.packet.Entry.{Entry};
 ghost use Rattle.stream_ops.specs.State.{IsNextEntry, StandsFor, most_after, most_by, rebuilt, unseen};
@@ -142,7 +142,7 @@ impl OpState {
     /// The first of the old entries whose (key, slot) is above this one, or the first of all. None
     /// exactly where there is no such entry, or no watch.
     pub fn old_after(&self, after: Option<(Key, u32)>) -> Option<Entry>
-        ensures value { result ≡ option_and_then (first_where (is_after after)) self.now.old }
+        ensures value { result ≡ option_and_then (find (is_after after)) self.now.old }
 
         // After the place of the n-th of them, or after none, comes the next one.
         ensures in_turn { (old : List Entry) (n : ℕ) → self.now.old ≡ Some old → n ≤ length old → after ≡ last_place n old

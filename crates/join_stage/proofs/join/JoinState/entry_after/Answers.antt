@@ -1,7 +1,8 @@
 use Rattle.std.proofs.Common.{◌∙◌, ap, Option}
 use Rattle.std.specs.Option.{option_and_then}
+use Rattle.std.specs.List.{find}
 use Rattle.join_stage.specs.Join.{JoinView, all_told, bound_after, is_after, key_cmp, next_in, or_else}
-use Rattle.join_stage.specs.Store.{first_from, first_where}
+use Rattle.join_stage.specs.Store.{first_from}
 use Rattle.join_stage.specs.declared.rows.Kept.{Kept}
 use Rattle.join_stage.proofs.JoinAfter.{next_told, short_first, short_lookup}
 use Rattle.join_stage.proofs.join.JoinState.entry_after.Goals as goal
@@ -17,7 +18,7 @@ returns-in-Some c =
     let later : Option Kept = option_and_then (λ e. next_in e.0 0 e.1) (first_from key_cmp (bound_after c.args.after) c.self.inside.sides.kept) in
     ap (λ (o : Option Kept). or_else o later) c.in-Some.ensures
     ∙ next_told c.self.inside.rows c.args.after c.self.inside.sides.kept c.self.invariant.0.2
-    ∙ ap (λ (s : JoinView). first_where (is_after c.args.after) (all_told s.sides.kept)) c.self.view_is
+    ∙ ap (λ (s : JoinView). find (is_after c.args.after) (all_told s.sides.kept)) c.self.view_is
 
 pub returns-in-None : goal.returns-in-None
 returns-in-None c =
@@ -25,4 +26,4 @@ returns-in-None c =
     c.later_after.ensures
     ∙ ap (λ (o : Option Kept). or_else o later) c.in-None.ensures
     ∙ next_told c.self.inside.rows c.args.after c.self.inside.sides.kept c.self.invariant.0.2
-    ∙ ap (λ (s : JoinView). first_where (is_after c.args.after) (all_told s.sides.kept)) c.self.view_is
+    ∙ ap (λ (s : JoinView). find (is_after c.args.after) (all_told s.sides.kept)) c.self.view_is

@@ -1,7 +1,8 @@
 use Rattle.std.proofs.Common.{◌∙◌, ap, Option}
 use Rattle.std.specs.Option.{option_and_then, option_map}
+use Rattle.std.specs.List.{find}
 use Rattle.join_stage.specs.Join.{JoinView, all_told, bound_after, is_after, key_cmp, next_in, or_else}
-use Rattle.join_stage.specs.Store.{first_where, old_first}
+use Rattle.join_stage.specs.Store.{old_first}
 use Rattle.join_stage.specs.declared.rows.Kept.{Kept}
 use Rattle.join_stage.proofs.JoinAfter.{next_old, short_first_old, short_value_old}
 use Rattle.join_stage.proofs.join.JoinState.old_after.Goals as goal
@@ -17,7 +18,7 @@ returns-in-Some c =
     let later : Option Kept = option_and_then (λ e. next_in e.0 0 e.1) (old_first key_cmp (bound_after c.args.after) c.self.inside.sides.old) in
     ap (λ (o : Option Kept). or_else o later) c.in-Some.ensures
     ∙ next_old c.self.inside.rows c.args.after c.self.inside.sides.old c.self.invariant.0.3
-    ∙ ap (λ (s : JoinView). option_and_then (first_where (is_after c.args.after)) (option_map all_told s.sides.old)) c.self.view_is
+    ∙ ap (λ (s : JoinView). option_and_then (find (is_after c.args.after)) (option_map all_told s.sides.old)) c.self.view_is
 
 pub returns-in-None : goal.returns-in-None
 returns-in-None c =
@@ -25,4 +26,4 @@ returns-in-None c =
     c.later_before.ensures
     ∙ ap (λ (o : Option Kept). or_else o later) c.in-None.ensures
     ∙ next_old c.self.inside.rows c.args.after c.self.inside.sides.old c.self.invariant.0.3
-    ∙ ap (λ (s : JoinView). option_and_then (first_where (is_after c.args.after)) (option_map all_told s.sides.old)) c.self.view_is
+    ∙ ap (λ (s : JoinView). option_and_then (find (is_after c.args.after)) (option_map all_told s.sides.old)) c.self.view_is
