@@ -5,7 +5,7 @@ use mathlib.Core.Logic.{dite}
 use native.Mathlib.Decide.{ℕ_discrete}
 use Rattle.atomic_table.specs.Table.{turned, rest}
 use Rattle.claim_board.specs.Lists.{is_in, without, is_distinct, all_below, places_of, rotated}
-use Rattle.std.specs.Prelude.{option_to_list}
+use Rattle.std.specs.Prelude.{◌==◌, option_to_list}
 use Rattle.claim_board.proofs.Lists.{in_other, in_without_same, in_without_other}
 use Rattle.claim_board.proofs.Distinct.{and_parts, and_both, not_true}
 

@@ -3,7 +3,7 @@ use Rattle.std.proofs.Common.{ℕ, suc, ◌≡◌, ◌≤◌, ◌<◌, ◌+◌, 
 use Rattle.std.specs.Prelude.{nat_le}
 use Rattle.std.proofs.lemmas.Bool.Decides.{nat_tests}
 use Rattle.std.proofs.lemmas.List.{get_or-map, get_or_append_left, length-map}
-use Rattle.plan_reader.specs.Nodes.{has_pair, sources_of}
+use Rattle.plan_reader.specs.Nodes.{has_pair, parts_of, sources_of}
 use Rattle.plan_reader.specs.PlanView.{PlanView, partitions}
 use Rattle.plan_reader.specs.declared.stage.Stage.{Stage}
 
@@ -16,13 +16,18 @@ partitions_next sources stages i d here =
 partitions_at : (sources : ℕ) (stages : List Stage) (i j : ℕ) (d : Stage) → i < length stages → suc i ≡ j → (get_or stages i d).parts ≡ get_or (partitions sources stages) j 0
 partitions_at sources stages i j d here next = subst (λ (n : ℕ). (get_or stages i d).parts ≡ get_or (partitions sources stages) n 0) next (partitions_next sources stages i d here)
 
-pub has_pair_there : (plan : PlanView) (stage part : ℕ) (d : Stage) → 1 ≤ stage → stage ≤ length plan.stages
-    → nat_lt part (get_or plan.stages (stage - 1) d).parts ≡ has_pair plan stage part
-has_pair_there plan stage part d low high =
+pub has_pair_there : (plan : PlanView) (stage part : ℕ) → 1 ≤ stage → stage ≤ length plan.stages
+    → nat_lt part (parts_of plan stage) ≡ has_pair plan stage part
+has_pair_there plan stage part low high =
     let above : nat_le 1 stage ≡ true = grind (arith, nat_tests) in
     let below : nat_le stage (length plan.stages) ≡ true = grind (arith, nat_tests) in
+    rw (above, below) refl
+
+pub sources_after : (plan : PlanView) (stage : ℕ) (d : Stage) → 1 ≤ stage → stage ≤ length plan.stages
+    → (get_or plan.stages (stage - 1) d).parts ≡ sources_of plan (stage + 1)
+sources_after plan stage d low high =
     let here : stage - 1 < length plan.stages = omega (arith, low, high) in
-    rw (above, below, partitions_at plan.version plan.stages (stage - 1) stage d here (omega (arith, low))) refl
+    partitions_at plan.version plan.stages (stage - 1) (stage + 1 - 1) d here (omega (arith, low))
 
 pub sources_of_later : (plan : PlanView) (stage : ℕ) (d : Stage) → 1 < stage → stage ≤ length plan.stages + 1
     → (get_or plan.stages (stage - 2) d).parts ≡ sources_of plan stage

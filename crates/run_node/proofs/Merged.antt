@@ -1,5 +1,5 @@
 -- What orders stand on: who has merged so many items has merged fewer.
-use Rattle.std.proofs.Common.{◌≡◌, ◌≤◌, ℕ, None, Some, refl, sym, arith, Unit}
+use Rattle.std.proofs.Common.{◌≡◌, ◌≤◌, ℕ, None, Some, refl, sym, arith}
 use Rattle.failure_script.specs.Orders.{partner_of}
 use Rattle.tuple_edge.specs.declared.node.NodeId.{NodeId}
 use Rattle.tuple_edge.specs.declared.node.NodeId.TheVariants as node
