@@ -9,7 +9,7 @@ use Rattle.row_origin.specs.Stages.{early_causes, late_causes, placed_from}
 use Rattle.origin_finder.specs.Said.{HasNoted, IsLeft}
 use Rattle.origin_finder.specs.declared.said.Speaker.{Speaker}
 use Rattle.origin_finder.proofs.Saying.{all_noted, none_noted}
-use Rattle.origin_finder.proofs.Times.{early_timely, late_timely}
+use Rattle.evaluation.proofs.Times.{early_timely, late_timely}
 use Rattle.origin_finder.proofs.origins.pass_stage.Goals as goal
 
 pub returns-clause-times : goal.returns-clause-times

@@ -15,7 +15,7 @@ use Rattle.row_reach.specs.Reach.{passages}
 use Rattle.reach_finder.specs.Found.{passage_of}
 use Rattle.reach_finder.specs.Traced.{marks_in, rows_in}
 use Rattle.reach_finder.specs.declared.shades.Traced.{Traced}
-use Rattle.reach_finder.proofs.Times.{early_timely, late_timely}
+use Rattle.evaluation.proofs.Times.{early_timely, late_timely}
 use Rattle.reach_finder.proofs.Tracing.{none_left}
 use Rattle.reach_finder.proofs.Walking.{one_stage_on}
 use Rattle.reach_finder.proofs.walk.passages.Goals as goal
