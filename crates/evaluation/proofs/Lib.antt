@@ -1,3 +1,4 @@
+pub mod Coming
 pub mod StageRows
 pub mod Taking
 pub mod Times

@@ -14,6 +14,7 @@ pub mod Noting
 pub mod Opened
 pub mod Placed
 pub mod Placing
+pub mod PlanNumbers
 pub mod Promised
 pub mod Pulling
 pub mod Sendings

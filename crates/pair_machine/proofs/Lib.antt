@@ -12,6 +12,7 @@ pub mod DrainMoves
 pub mod DrainSteps
 pub mod DrainSums
 pub mod DrainWhole
+pub mod EachPair
 pub mod EdgeLaws
 pub mod EdgeLengths
 pub mod EdgeRows

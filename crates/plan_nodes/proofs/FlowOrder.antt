@@ -1,8 +1,9 @@
 -- The order of a plan's nodes is the one that the machine's numbers give.
-use Rattle.std.proofs.Common.{◌≡◌, ◌∙◌, ◌+◌, ◌-◌, ◌≤◌, ℕ, zero, suc, true, List, [], ◌∷◌, ◌++◌, length, take, refl, sym, ap, arith, append_assoc, append-nil}
+use Rattle.std.proofs.Common.{◌≡◌, ◌∙◌, ◌+◌, ◌-◌, ◌≤◌, ℕ, zero, suc, true, List, [], ◌∷◌, ◌++◌, length, take, refl, sym, ap, arith, append-nil}
 use Rattle.std.specs.List.{flat_map}
 use Rattle.std.specs.Prelude.{All}
 use Rattle.std.proofs.lemmas.List.Elements.{All-cons, All-nil}
+use Rattle.std.proofs.lemmas.List.Concat.{flat_map-append}
 use Rattle.tuple_edge.specs.Input.{Input}
 use Rattle.tuple_edge.specs.declared.node.NodeId.TheVariants as node
 use Rattle.plan_reader.specs.Nodes.{has_node, parts_of}
@@ -14,15 +15,11 @@ use Rattle.pair_machine.proofs.EdgeLaws.{get_of, parts_at}
 use Rattle.plan_nodes.specs.NodeOrder.{nodes_at, nodes_in, nodes_of, pair_nodes, stage_nodes, stages_nodes}
 use Rattle.plan_nodes.proofs.NodeOrder.{length_take, nodes_there, stages_more, take_next_of}
 
-each_joined : {X A : Type 0} (f : X → List A) (xs ys : List X) → flat_map f (xs ++ ys) ≡ flat_map f xs ++ flat_map f ys
-each_joined f [] ys = refl
-each_joined f (y ∷ xs) ys = ap (λ r. f y ++ r) (each_joined f xs ys) ∙ sym (append_assoc (f y) (flat_map f xs) (flat_map f ys))
-
 stage_parts : (s n : ℕ) → stage_nodes s n ≡ flat_map nodes_at (parts_below s n)
 stage_parts s zero = refl
 stage_parts s (suc n) =
     ap (λ l. l ++ pair_nodes s n) (stage_parts s n) ∙ ap (λ l. flat_map nodes_at (parts_below s n) ++ l) (sym (append-nil (pair_nodes s n)))
-    ∙ sym (each_joined nodes_at (parts_below s n) (partition s n ∷ []))
+    ∙ sym (flat_map-append nodes_at (parts_below s n) (partition s n ∷ []))
 
 take_whole : {X : Type 0} (xs : List X) → take (length xs) xs ≡ xs
 take_whole [] = refl
@@ -47,7 +44,7 @@ module _ (plan : PlanView) (inputs : List Input) where
       ∙ ap (λ l. l ++ stage_nodes (suc k) found.0.parts) (up_to k (omega arith))
       ∙ ap (λ l. flat_map nodes_at (pairs_up_to (flow_of plan inputs) k) ++ l) (stage_parts (suc k) found.0.parts
       ∙ ap (λ n. flat_map nodes_at (parts_below (suc k) n)) (sym (ap (λ n. parts_of plan n) place ∙ parts)))
-      ∙ sym (each_joined nodes_at (pairs_up_to (flow_of plan inputs) k) (parts_below (suc k) ((flow_of plan inputs).sources (suc k + 1))))
+      ∙ sym (flat_map-append nodes_at (pairs_up_to (flow_of plan inputs) k) (parts_below (suc k) ((flow_of plan inputs).sources (suc k + 1))))
 
   pub in_order : nodes_of plan ≡ nodes_in (flow_of plan inputs)
   unfolding flow_of

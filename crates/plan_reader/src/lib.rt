@@ -25,7 +25,7 @@ pub use limits::{
     DEFAULT_HOLD, DEFAULT_MARK, EDGES_PER_MARK, MAX_HOLD, MAX_MARK, MAX_PARTS, MAX_PLAN_BYTES,
     MAX_STAGES, MAX_VERSION, MIN_HOLD,
 };
-pub use names::{MAX_NAME_DIGITS, cut_at, node_named};
+pub use names::{MAX_NAME_DIGITS, cut_at, node_named, place_named};
 pub use plan::Plan;
 pub use read::read_plan;
 pub use stage::Stage;

@@ -27,9 +27,9 @@ pub fn cut_at(word: &[u8], mark: u8) -> Option<(&[u8], &[u8])>
     Some((front, back))
 }
 
-// The stage or partition that a word names.
+/// The stage or partition that a word names: a number of 1 to [`MAX_NAME_DIGITS`] digits. None for every other word.
 #[tactic(auto, unfolding(crate::specs::Names::place_named))]
-fn place_named(word: &[u8]) -> Option<u32>
+pub fn place_named(word: &[u8]) -> Option<u32>
     ensures { result ≡ place_named word.now }
 {
     if word.len() > MAX_NAME_DIGITS {

@@ -19,7 +19,7 @@ fn push_pair(nodes: &mut Vec<NodeId>, stage: u32, part: u32) -> Result<(), OutOf
 }
 
 // Appends the replicas of a stage, by its place among the stages.
-#[tactic(auto, using(crate::proofs::Parts::parts_next))]
+#[tactic(auto, using(pair_machine::proofs::EachPair::parts_next))]
 fn push_stage(nodes: &mut Vec<NodeId>, place: u32, stage: &Stage) -> Result<(), OutOfMemory>
     requires { place < 2 ^ 31 }
     ensures { OnOk result (nodes.new.items ≡ nodes.old.items ++ stage_replicas place stage.now) }

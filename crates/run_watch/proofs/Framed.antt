@@ -1,62 +1,20 @@
--- The modes of all pairs come pair by pair, and the frames column by column.
-use Rattle.std.proofs.Common.{◌≡◌, ◌∙◌, ◌≤◌, ◌<◌, ◌+◌, ◌*◌, ℕ, zero, suc, true, List, [], ◌∷◌, ◌++◌, Ok, append_assoc, append-nil, drop, length, length-drop, refl, sym, take, ap, arith}
+-- The frames come column by column.
+use Rattle.std.proofs.Common.{◌≡◌, ◌∙◌, ◌≤◌, ◌+◌, ◌*◌, ℕ, zero, suc, List, [], ◌∷◌, ◌++◌, Ok, drop, length, length-drop, refl, sym, take, ap, arith}
 use Rattle.std.specs.Prelude.{◌/◌}
 use Rattle.std.proofs.Math.Nat.{div-one, le-mul_of_pos_right}
 use Rattle.std.proofs.lemmas.Nat.{div-add-mod'}
-use Rattle.std.specs.List.{flat_map}
 use Rattle.tuple_edge.specs.Input.{Input}
 use Rattle.tuple_edge.specs.declared.node.NodeId.TheVariants as node
-use Rattle.plan_reader.specs.Nodes.{has_pair, sources_of}
 use Rattle.plan_reader.specs.PlanView.{PlanView}
 use Rattle.pair_machine.specs.Counts.{flow_of}
-use Rattle.pair_machine.specs.Drain.{pairs_up_to, partition, parts_below}
-use Rattle.pair_machine.specs.Flow.{Flow}
-use Rattle.pair_machine.specs.Numbers.{Partition}
-use Rattle.pair_machine.proofs.PlanNodes.{nodes_named}
 use Rattle.pair_machine.specs.Machine.{State, follow}
 use Rattle.pair_machine.proofs.Legal.{follow_append}
 use Rattle.run_journal.specs.declared.lined.Lined.{Lined}
-use Rattle.flux_core.specs.CoreView.{CoreView, flow_in}
 use Rattle.flux_core.specs.Follows.{events_of}
 use Rattle.flux_core.proofs.Sendings.{length-take-of}
 use Rattle.run_watch.specs.Columns.{cut, frame_at, frame_in, frames_along, share}
 use Rattle.run_watch.specs.FrameView.{FrameView}
 use Rattle.run_watch.proofs.SeenLaws.{events_joined}
-
--- ---- pair by pair
-
-one_more : {X A : Type 0} (f : X → List A) (xs : List X) (x : X) → flat_map f (xs ++ x ∷ []) ≡ flat_map f xs ++ f x
-one_more f [] x = append-nil (f x)
-one_more f (y ∷ xs) x = ap (λ r. f y ++ r) (one_more f xs x) ∙ sym (append_assoc (f y) (flat_map f xs) (f x))
-
-joined : {X A : Type 0} (f : X → List A) (xs ys : List X) → flat_map f (xs ++ ys) ≡ flat_map f xs ++ flat_map f ys
-joined f [] ys = refl
-joined f (y ∷ xs) ys = ap (λ r. f y ++ r) (joined f xs ys) ∙ sym (append_assoc (f y) (flat_map f xs) (flat_map f ys))
-
-pub parts_next : {A : Type 0} (f : Partition → List A) (stage n : ℕ) → flat_map f (parts_below stage (n + 1)) ≡ flat_map f (parts_below stage n) ++ f (partition stage n)
-parts_next f stage n = ap (λ k. flat_map f (parts_below stage k)) {x = n + 1} {y = suc n} (omega arith) ∙ one_more f (parts_below stage n) (partition stage n)
-
-pub pairs_next : {A : Type 0} (f : Partition → List A) (flow : Flow) (n : ℕ) → flat_map f (pairs_up_to flow (n + 1)) ≡ flat_map f (pairs_up_to flow n) ++ flat_map f (parts_below (n + 1) (flow.sources (n + 1 + 1)))
-pairs_next f flow n =
-    ap (λ k. flat_map f (pairs_up_to flow k)) {x = n + 1} {y = suc n} (omega arith)
-    ∙ joined f (pairs_up_to flow n) (parts_below (suc n) (flow.sources (suc n + 1)))
-    ∙ ap (λ k. flat_map f (pairs_up_to flow n) ++ flat_map f (parts_below k (flow.sources (k + 1)))) {x = suc n} {y = n + 1} (omega arith)
-
--- ---- the plan's pairs
-
-pub pair_named : (plan : PlanView) (inputs : List Input) (stage part : ℕ) → 1 ≤ stage → stage ≤ length plan.stages → part < sources_of plan (stage + 1) → has_pair plan stage part ≡ true
-unfolding flow_of
-pair_named plan inputs stage part low high within = (nodes_named plan inputs (node.Control stage part)).named ((low, high), within)
-
-pub sources_in : (core : CoreView) (stage : ℕ) → sources_of core.plan stage ≡ (flow_in core).sources stage
-unfolding flow_of
-sources_in core stage = refl
-
-pub stages_in : (core : CoreView) → length core.plan.stages ≡ (flow_in core).stages
-unfolding flow_of
-stages_in core = refl
-
--- ---- column by column
 
 pub share_most : (n c : ℕ) → share n (suc c) ≤ n
 share_most n c =

@@ -1,9 +1,6 @@
 -- Texts of the numbers below another, and of the elements of a list.
 use Rattle.std.proofs.Common.{◌≡◌, ◌∙◌, ◌<◌, ◌+◌, ℕ, zero, suc, List, [], ◌∷◌, ◌++◌, append_assoc, append-nil, length, refl, slice_index_or, sym, take, ap, arith}
 use Rattle.std.specs.List.{flat_map}
-use Rattle.pair_machine.specs.Drain.{pairs_up_to, partition, parts_below}
-use Rattle.pair_machine.specs.Flow.{Flow}
-use Rattle.pair_machine.specs.Numbers.{Partition}
 use Rattle.state_text.specs.StateText.{lines_below}
 
 pub lines_same : (n : ℕ) (f g : ℕ → List ℕ) → ((q : ℕ) → q < n → f q ≡ g q) → lines_below n f ≡ lines_below n g
@@ -17,27 +14,8 @@ pub each_same : {X : Type 0} (xs : List X) (f g : X → List ℕ) → ((x : X) �
 each_same [] f g h = refl
 each_same (x ∷ xs) f g h = λ j. h x j ++ each_same xs f g h j
 
-pub each_one_more : {X A : Type 0} (f : X → List A) (xs : List X) (x : X) → flat_map f (xs ++ x ∷ []) ≡ flat_map f xs ++ f x
-each_one_more f [] x = append-nil (f x)
-each_one_more f (y ∷ xs) x = ap (λ r. f y ++ r) (each_one_more f xs x) ∙ sym (append_assoc (f y) (flat_map f xs) (f x))
-
-pub each_joined : {X A : Type 0} (f : X → List A) (xs ys : List X) → flat_map f (xs ++ ys) ≡ flat_map f xs ++ flat_map f ys
-each_joined f [] ys = refl
-each_joined f (y ∷ xs) ys = ap (λ r. f y ++ r) (each_joined f xs ys) ∙ sym (append_assoc (f y) (flat_map f xs) (flat_map f ys))
-
 pub lines_next : (n : ℕ) (f : ℕ → List ℕ) → lines_below (n + 1) f ≡ lines_below n f ++ f n
 lines_next n f = ap (λ k. lines_below k f) {x = n + 1} {y = suc n} (omega arith)
-
--- ---- pair by pair
-
-pub parts_next : {A : Type 0} (f : Partition → List A) (stage n : ℕ) → flat_map f (parts_below stage (n + 1)) ≡ flat_map f (parts_below stage n) ++ f (partition stage n)
-parts_next f stage n = ap (λ k. flat_map f (parts_below stage k)) {x = n + 1} {y = suc n} (omega arith) ∙ each_one_more f (parts_below stage n) (partition stage n)
-
-pub pairs_next : {A : Type 0} (f : Partition → List A) (flow : Flow) (n : ℕ) → flat_map f (pairs_up_to flow (n + 1)) ≡ flat_map f (pairs_up_to flow n) ++ flat_map f (parts_below (n + 1) (flow.sources (n + 1 + 1)))
-pairs_next f flow n =
-    ap (λ k. flat_map f (pairs_up_to flow k)) {x = n + 1} {y = suc n} (omega arith)
-    ∙ each_joined f (pairs_up_to flow n) (parts_below (suc n) (flow.sources (suc n + 1)))
-    ∙ ap (λ k. flat_map f (pairs_up_to flow n) ++ flat_map f (parts_below k (flow.sources (k + 1)))) {x = suc n} {y = n + 1} (omega arith)
 
 -- ---- pieces put together
 

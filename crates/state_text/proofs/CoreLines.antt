@@ -1,5 +1,5 @@
 -- The lines of a core's nodes and links are those of whatever state the core stands for.
-use Rattle.std.proofs.Common.{◌≡◌, ◌∙◌, ◌<◌, ◌≤◌, ◌+◌, ℕ, Bool, true, false, IsTrue, List, [], ◌∷◌, ◌++◌, Some, length, refl, sym, ap, subst}
+use Rattle.std.proofs.Common.{◌≡◌, ◌∙◌, ◌+◌, ℕ, Bool, true, false, IsTrue, List, [], ◌∷◌, ◌++◌, Some, length, refl, sym, ap, subst}
 use Rattle.std.specs.Prelude.{◌↔◌, All}
 use Rattle.std.proofs.lemmas.List.Elements.{All-head, All-tail}
 use Rattle.std.specs.List.{flat_map}
@@ -60,10 +60,6 @@ known : (core : CoreView) → IsCore core → Known core
 known core is = known_of core core.whole is.known
 
 -- ---- a pair
-
-pub pair_named : (plan : PlanView) (inputs : List Input) (stage part : ℕ) → 1 ≤ stage → stage ≤ length plan.stages → part < sources_of plan (stage + 1) → has_pair plan stage part ≡ true
-unfolding flow_of
-pair_named plan inputs stage part low high within = (nodes_named plan inputs (node.Control stage part)).named ((low, high), within)
 
 module _ (core : CoreView) (is : IsCore core) (stage part : ℕ) (named : has_pair core.plan stage part ≡ true) where
   has : (w : Which) → HasNode (flow_in core) (node.Replica stage part w)
@@ -161,13 +157,3 @@ pub link_lines : (core : CoreView) (s : State) → StandsFor core s → (nodes :
 link_lines core s stands nodes all there =
     all_same core s stands nodes nodes there
     ∙ ap (λ ns. flat_map (λ from. flat_map (λ to. sent_line (link from to) (length (s.sent (link from to)))) ns) ns) all
-
--- ---- the plan's numbers in the flow of a core
-
-pub sources_in : (core : CoreView) (stage : ℕ) → sources_of core.plan stage ≡ (flow_in core).sources stage
-unfolding flow_of
-sources_in core stage = refl
-
-pub stages_in : (core : CoreView) → length core.plan.stages ≡ (flow_in core).stages
-unfolding flow_of
-stages_in core = refl

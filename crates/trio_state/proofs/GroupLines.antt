@@ -1,12 +1,10 @@
 -- The lines of a core's groups are those of whatever state the core stands for.
-use Rattle.std.proofs.Common.{◌≡◌, ◌∙◌, ◌<◌, ◌≤◌, ◌+◌, ℕ, suc, true, List, [], ◌∷◌, ◌++◌, Option, None, Some, append_assoc, append-nil, length, refl, sym, ap, arith}
-use Rattle.std.specs.List.{flat_map}
+use Rattle.std.proofs.Common.{◌≡◌, ◌∙◌, ◌<◌, ◌≤◌, ◌+◌, ℕ, true, List, ◌++◌, Option, None, Some, append_assoc, length, refl, sym, ap}
 use Rattle.tuple_edge.specs.Input.{Input}
 use Rattle.text_words.specs.Lines.{Word}
 use Rattle.plan_reader.specs.Nodes.{has_pair, sources_of}
 use Rattle.plan_reader.specs.PlanView.{PlanView}
 use Rattle.pair_machine.specs.Counts.{flow_of}
-use Rattle.pair_machine.specs.Drain.{pairs_up_to, partition, parts_below}
 use Rattle.pair_machine.specs.Flow.{Flow}
 use Rattle.pair_machine.specs.Numbers.{Partition}
 use Rattle.trio_machine.specs.Machine.{State, controller_in, replica_in}
@@ -47,25 +45,6 @@ replica_lines plan inputs r n s named h =
 
 pub joined_four : (a l i o m : List ℕ) → a ++ l ++ i ++ o ++ m ≡ a ++ (l ++ i ++ o ++ m)
 joined_four a l i o m = ap (λ t. t ++ m) (ap (λ t. t ++ o) (append_assoc a l i) ∙ append_assoc a (l ++ i) o) ∙ append_assoc a (l ++ i ++ o) m
-
--- ---- group by group
-
-each_one_more : {X : Type 0} (f : X → List ℕ) (xs : List X) (x : X) → flat_map f (xs ++ x ∷ []) ≡ flat_map f xs ++ f x
-each_one_more f [] x = append-nil (f x)
-each_one_more f (y ∷ xs) x = ap (λ r. f y ++ r) (each_one_more f xs x) ∙ sym (append_assoc (f y) (flat_map f xs) (f x))
-
-each_joined : {X : Type 0} (f : X → List ℕ) (xs ys : List X) → flat_map f (xs ++ ys) ≡ flat_map f xs ++ flat_map f ys
-each_joined f [] ys = refl
-each_joined f (y ∷ xs) ys = ap (λ r. f y ++ r) (each_joined f xs ys) ∙ sym (append_assoc (f y) (flat_map f xs) (flat_map f ys))
-
-pub parts_next : (f : Partition → List ℕ) (stage n : ℕ) → flat_map f (parts_below stage (n + 1)) ≡ flat_map f (parts_below stage n) ++ f (partition stage n)
-parts_next f stage n = ap (λ k. flat_map f (parts_below stage k)) {x = n + 1} {y = suc n} (omega arith) ∙ each_one_more f (parts_below stage n) (partition stage n)
-
-pub groups_next : (f : Partition → List ℕ) (flow : Flow) (n : ℕ) → flat_map f (pairs_up_to flow (n + 1)) ≡ flat_map f (pairs_up_to flow n) ++ flat_map f (parts_below (n + 1) (flow.sources (n + 1 + 1)))
-groups_next f flow n =
-    ap (λ k. flat_map f (pairs_up_to flow k)) {x = n + 1} {y = suc n} (omega arith)
-    ∙ each_joined f (pairs_up_to flow n) (parts_below (suc n) (flow.sources (suc n + 1)))
-    ∙ ap (λ k. flat_map f (pairs_up_to flow n) ++ flat_map f (parts_below k (flow.sources (k + 1)))) {x = suc n} {y = n + 1} (omega arith)
 
 -- ---- the plan's numbers in the flow of a core
 

@@ -1,10 +1,9 @@
 // The names of the nodes and links of groups.
 ghost use Rattle.std.specs.Prelude.{◌≡◌};
-ghost use Rattle.plan_reader.specs.Names.{place_named};
 ghost use Rattle.trio_text.specs.Names.{ends_named, group_node_named, member_named, trio_node_named};
 
-use plan_reader::{MAX_NAME_DIGITS, cut_at};
-use text_words::{is_word, number_of};
+use plan_reader::{cut_at, place_named};
+use text_words::is_word;
 use trio_machine::TrioNode;
 
 // The two nodes of a link.
@@ -12,18 +11,6 @@ use trio_machine::TrioNode;
 pub(crate) struct Ends {
     pub(crate) from: TrioNode,
     pub(crate) to: TrioNode,
-}
-
-// The stage or partition that a word names.
-#[tactic(auto, unfolding(plan_reader::specs::Names::place_named))]
-fn place_named(word: &[u8]) -> Option<u32>
-    ensures { result ≡ place_named word.now }
-{
-    if word.len() > MAX_NAME_DIGITS {
-        return None;
-    }
-    let n = number_of(word)?;
-    Some(n as u32)
 }
 
 // A node of the group that runs this partition of this stage.

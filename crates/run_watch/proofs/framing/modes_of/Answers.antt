@@ -4,7 +4,8 @@ use Rattle.plan_reader.specs.PlanView.{PlanView}
 use Rattle.pair_machine.specs.Drain.{pairs_up_to, parts_below}
 use Rattle.flux_core.specs.CoreView.{flow_in}
 use Rattle.run_watch.specs.Columns.{pair_modes}
-use Rattle.run_watch.proofs.Framed.{pairs_next, stages_in}
+use Rattle.pair_machine.proofs.EachPair.{pairs_next}
+use Rattle.flux_core.proofs.PlanNumbers.{stages_in}
 use Rattle.run_watch.proofs.framing.modes_of.Goals as goal
 
 pub loop-stage-preserved : goal.loop-stage-preserved

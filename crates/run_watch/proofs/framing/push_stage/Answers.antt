@@ -5,7 +5,8 @@ use Rattle.plan_reader.specs.PlanView.{PlanView}
 use Rattle.pair_machine.specs.Drain.{partition, parts_below}
 use Rattle.flux_core.specs.CoreView.{flow_in, inputs_of}
 use Rattle.run_watch.specs.Columns.{pair_modes}
-use Rattle.run_watch.proofs.Framed.{pair_named, parts_next, sources_in}
+use Rattle.pair_machine.proofs.EachPair.{parts_next}
+use Rattle.flux_core.proofs.PlanNumbers.{pair_named, sources_in}
 use Rattle.run_watch.proofs.framing.push_stage.Goals as goal
 
 pub loop-part-init : goal.loop-part-init

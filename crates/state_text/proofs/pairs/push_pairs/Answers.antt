@@ -4,8 +4,8 @@ use Rattle.plan_reader.specs.PlanView.{PlanView}
 use Rattle.pair_machine.specs.Drain.{pairs_up_to, parts_below}
 use Rattle.flux_core.specs.CoreView.{flow_in}
 use Rattle.state_text.specs.StateText.{pair_text}
-use Rattle.state_text.proofs.Below.{pairs_next}
-use Rattle.state_text.proofs.CoreLines.{stages_in}
+use Rattle.pair_machine.proofs.EachPair.{pairs_next}
+use Rattle.flux_core.proofs.PlanNumbers.{stages_in}
 use Rattle.state_text.proofs.pairs.push_pairs.Goals as goal
 
 pub loop-stage-init : goal.loop-stage-init

@@ -5,8 +5,8 @@ use Rattle.plan_reader.specs.PlanView.{PlanView}
 use Rattle.pair_machine.specs.Drain.{partition, parts_below}
 use Rattle.flux_core.specs.CoreView.{flow_in, inputs_of}
 use Rattle.state_text.specs.StateText.{pair_text}
-use Rattle.state_text.proofs.Below.{parts_next}
-use Rattle.state_text.proofs.CoreLines.{pair_named, sources_in}
+use Rattle.pair_machine.proofs.EachPair.{parts_next}
+use Rattle.flux_core.proofs.PlanNumbers.{pair_named, sources_in}
 use Rattle.state_text.proofs.pairs.push_stage.Goals as goal
 
 pub loop-part-init : goal.loop-part-init

@@ -4,7 +4,8 @@ use Rattle.plan_reader.specs.PlanView.{PlanView}
 use Rattle.pair_machine.specs.Drain.{pairs_up_to, parts_below}
 use Rattle.trio_core.specs.CoreView.{flow_in}
 use Rattle.trio_state.specs.GroupsText.{group_text}
-use Rattle.trio_state.proofs.GroupLines.{groups_next, stages_in}
+use Rattle.pair_machine.proofs.EachPair.{pairs_next}
+use Rattle.trio_state.proofs.GroupLines.{stages_in}
 use Rattle.trio_state.proofs.groups.push_groups.Goals as goal
 
 pub loop-stage-init : goal.loop-stage-init
@@ -20,7 +21,7 @@ loop-stage-preserved c s stands =
     c.in_ok-push_stage.ensures s stands
     ∙ ap (λ t. t ++ more) (c.loop-stage.invariant s stands)
     ∙ append_assoc old (flat_map f (pairs_up_to flow stage)) more
-    ∙ ap (λ t. old ++ t) (sym (groups_next f flow stage))
+    ∙ ap (λ t. old ++ t) (sym (pairs_next f flow stage))
 
 pub returns : goal.returns
 returns c s stands =

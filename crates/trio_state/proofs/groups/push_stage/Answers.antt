@@ -5,7 +5,8 @@ use Rattle.plan_reader.specs.PlanView.{PlanView}
 use Rattle.pair_machine.specs.Drain.{partition, parts_below}
 use Rattle.trio_core.specs.CoreView.{flow_in, inputs_of}
 use Rattle.trio_state.specs.GroupsText.{group_text}
-use Rattle.trio_state.proofs.GroupLines.{group_named, parts_next, sources_in}
+use Rattle.pair_machine.proofs.EachPair.{parts_next}
+use Rattle.trio_state.proofs.GroupLines.{group_named, sources_in}
 use Rattle.trio_state.proofs.groups.push_stage.Goals as goal
 
 pub loop-part-init : goal.loop-part-init
