@@ -8,9 +8,9 @@ use Rattle.pair_machine.specs.Counts.{flow_of}
 use Rattle.pair_machine.proofs.PlanNodes.{nodes_named}
 use Rattle.flux_core.specs.CoreView.{CoreView, flow_in}
 
-pub pair_named : (plan : PlanView) (rows : List Input) (stage part : ℕ) → 1 ≤ stage → stage ≤ length plan.stages → part < sources_of plan (stage + 1) → has_pair plan stage part ≡ true
+pub pair_named : (plan : PlanView) (inputs : List Input) (stage part : ℕ) → 1 ≤ stage → stage ≤ length plan.stages → part < sources_of plan (stage + 1) → has_pair plan stage part ≡ true
 unfolding flow_of
-pair_named plan rows stage part low high within = (nodes_named plan rows (node.Control stage part)).named ((low, high), within)
+pair_named plan inputs stage part low high within = (nodes_named plan inputs (node.Control stage part)).named ((low, high), within)
 
 pub sources_in : (core : CoreView) (stage : ℕ) → sources_of core.plan stage ≡ (flow_in core).sources stage
 unfolding flow_of
