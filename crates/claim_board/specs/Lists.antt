@@ -1,5 +1,5 @@
 -- Lists of places and of seats' numbers.
-use Rattle.std.specs.Prelude.{ℕ, Bool, true, false, ◌==◌, nat_lt, ◌||◌, ◌&&◌, not, if◌then◌else◌, ◌+◌, List, [], ◌∷◌, ◌++◌}
+use Rattle.std.specs.Prelude.{ℕ, Bool, true, false, ◌==◌, nat_lt, ◌||◌, ◌&&◌, not, if◌then◌else◌, List, [], ◌∷◌, ◌++◌}
 
 -- k stands in the list
 abbrev pub is_in : ℕ → List ℕ → Bool

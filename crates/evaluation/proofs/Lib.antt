@@ -1,3 +1,4 @@
+pub mod ComingRows
 pub mod Coming
 pub mod StageRows
 pub mod Taking

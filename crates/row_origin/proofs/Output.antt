@@ -11,7 +11,8 @@ use Rattle.plan_reader.specs.declared.stage.Stage.{Stage}
 use Rattle.pair_machine.specs.Edges.{sent_by}
 use Rattle.pair_machine.specs.Ingress.{last_stamp}
 use Rattle.pair_machine.proofs.Egress.{output-is}
-use Rattle.evaluation.specs.StageRows.{ComesTo, early_replies, late_replies}
+use Rattle.evaluation.specs.StageRows.{early_replies, late_replies}
+use Rattle.evaluation.proofs.ComingRows.{ComesTo}
 use Rattle.evaluation.proofs.Coming.{first_comes, next_comes}
 use Rattle.evaluation.proofs.StageRows.{rows_are}
 use Rattle.row_origin.specs.Laws.{RowsAreTheOutput}

@@ -11,7 +11,8 @@ use Rattle.pair_machine.specs.Edges.{sent_by}
 use Rattle.pair_machine.specs.Ingress.{last_stamp}
 use Rattle.pair_machine.proofs.Egress.{output-is}
 use Rattle.pair_machine.proofs.Times.{IsTimelyInput, merged_timely, sent_timely}
-use Rattle.evaluation.specs.StageRows.{ComesTo, HasTime, early_replies, late_replies}
+use Rattle.evaluation.specs.StageRows.{HasTime, early_replies, late_replies}
+use Rattle.evaluation.proofs.ComingRows.{ComesTo}
 use Rattle.evaluation.proofs.Coming.{first_comes, next_comes}
 use Rattle.evaluation.proofs.StageRows.{early_times, late_times, rows_are}
 use Rattle.evaluation.proofs.output.evaluate.Goals as goal
