@@ -101,8 +101,9 @@ fn shown_once<R: Threads + Sync>(
     head: Lines<'_>,
     body: Lines<'_>,
     values: Option<&str>,
+    most_lines: usize,
 ) -> Result<Vec<u8>, Stop> {
-    let mut stage = Stage::new(alloc, fails_of(alloc, body)?);
+    let mut stage = Stage::new(alloc, fails_of(alloc, body)?, most_lines);
     take_lines(rt, alloc, &mut stage, head, None)?;
     take_lines(rt, alloc, &mut stage, body, values)?;
     Ok(stage.into_shown())
@@ -127,16 +128,17 @@ fn run_each<R: Threads + Sync>(
     head: Lines<'_>,
     body: Lines<'_>,
     values: &[String],
+    most_lines: usize,
     shown: &mut Vec<u8>,
 ) -> Result<(), Stop> {
     let Some((value, others)) = values.split_first() else {
         return Ok(());
     };
-    let first = shown_once(rt, alloc, head, body, Some(value.as_str()))?;
+    let first = shown_once(rt, alloc, head, body, Some(value.as_str()), most_lines)?;
     shown.extend_from_slice(first.as_slice())?;
     let mut alike = 0u32;
     for value in others {
-        let other = shown_once(rt, alloc, head, body, Some(value.as_str()))?;
+        let other = shown_once(rt, alloc, head, body, Some(value.as_str()), most_lines)?;
         if !push_other(value.as_str(), first.as_slice(), other.as_slice(), shown)? {
             alike = alike.saturating_add(1);
         }
@@ -146,19 +148,20 @@ fn run_each<R: Threads + Sync>(
     Ok(())
 }
 
-/// Appends what is shown of a case.
+/// Appends what is shown of a case, with texts of more lines than so many cut short.
 pub(crate) fn run_case<R: Threads + Sync>(
     rt: &R,
     alloc: Global,
     head: Lines<'_>,
     body: Lines<'_>,
+    most_lines: usize,
     shown: &mut Vec<u8>,
 ) -> Result<(), Stop> {
     let values = values_of(alloc, body)?;
     if !values.is_empty() {
-        return run_each(rt, alloc, head, body, values.as_slice(), shown);
+        return run_each(rt, alloc, head, body, values.as_slice(), most_lines, shown);
     }
-    let once = shown_once(rt, alloc, head, body, None)?;
+    let once = shown_once(rt, alloc, head, body, None, most_lines)?;
     shown.extend_from_slice(once.as_slice())?;
     Ok(())
 }

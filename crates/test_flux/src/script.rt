@@ -30,21 +30,24 @@ fn lines_between<'a>(lines: &'a [&'a str], from: usize, to: usize) -> Lines<'a> 
     }
 }
 
-/// Appends what is shown of the cases of a text.
+/// Appends what is shown of the cases of a file with this name and text. What a case writes of more lines than so many is cut short.
 pub(crate) fn run_text<R: Threads + Sync>(
     rt: &R,
     alloc: Global,
+    name: &str,
     text: &str,
+    most_lines: usize,
     shown: &mut Vec<u8>,
 ) -> Result<(), Stop> {
     let lines: Vec<&str> = text.lines().collect(alloc)?;
     let lines = lines.as_slice();
     let head = lines_between(lines, 0, next_case(lines, 0));
     for (place, line) in lines.iter().enumerate() {
-        if let Some(name) = case_name(line) {
-            push_line(shown, "== ", name.as_bytes())?;
+        if let Some(case) = case_name(line) {
+            let title = format!(in alloc; "{name}: {case}")?;
+            push_line(shown, "== ", title.as_bytes())?;
             let body = lines_between(lines, place, next_case(lines, place.saturating_add(1)));
-            run_case(rt, alloc, head, body, shown)?;
+            run_case(rt, alloc, head, body, most_lines, shown)?;
         }
     }
     Ok(())

@@ -2,8 +2,8 @@
 use std::alloc::Global;
 use tuple_edge::OutOfMemory;
 
-/// A text of more lines is cut short.
-const MAX_LINES: usize = 40;
+/// A text of more lines is cut short, where it isn't to be shown whole.
+pub(crate) const MAX_LINES: usize = 40;
 
 /// So many of its lines are then shown, at its front and at its end.
 const SHOWN_LINES: usize = 3;
@@ -38,10 +38,11 @@ fn push_cut(
     push_line(shown, ".. ", line.as_bytes())
 }
 
-/// Appends a text with this before each line. Of many lines only a few are shown.
+/// Appends a text with this before each line. Of more lines than so many only a few are shown.
 pub(crate) fn push_text(
     alloc: Global,
     shown: &mut Vec<u8>,
+    most_lines: usize,
     front: &str,
     text: &[u8],
 ) -> Result<(), OutOfMemory> {
@@ -51,7 +52,10 @@ pub(crate) fn push_text(
     let body = text.strip_suffix(b"\n").unwrap_or(text);
     let lines = body.split(|byte| *byte == b'\n').count();
     for (place, line) in body.split(|byte| *byte == b'\n').enumerate() {
-        if lines <= MAX_LINES || place < SHOWN_LINES || lines.saturating_sub(place) <= SHOWN_LINES {
+        if lines <= most_lines
+            || place < SHOWN_LINES
+            || lines.saturating_sub(place) <= SHOWN_LINES
+        {
             push_line(shown, front, line)?;
         } else if place == SHOWN_LINES {
             push_cut(alloc, shown, text, lines)?;

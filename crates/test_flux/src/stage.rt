@@ -30,12 +30,15 @@ pub(crate) struct Stage {
     part: Part,
     sinks: Sinks,
     holds: bool,
+    // A text of more lines is shown cut short.
+    most_lines: usize,
     shown: Vec<u8>,
 }
 
 impl Stage {
-    /// A case without files, with the numbers of the calls of files that will fail.
-    pub(crate) fn new(alloc: Global, fails: Vec<u64>) -> Stage {
+    /// A case without files, with the numbers of the calls of files that will fail. Texts of more lines than so many are
+    /// shown cut short.
+    pub(crate) fn new(alloc: Global, fails: Vec<u64>, most_lines: usize) -> Stage {
         Stage {
             alloc,
             files: MemFiles::new(alloc, fails),
@@ -45,6 +48,7 @@ impl Stage {
             part: Part::All,
             sinks: Sinks::new(alloc),
             holds: false,
+            most_lines,
             shown: Vec::new(alloc),
         }
     }
@@ -153,7 +157,13 @@ impl Stage {
             }
         }
         self.show_output(called.out.taken())?;
-        push_text(self.alloc, &mut self.shown, "! ", called.err.taken())?;
+        push_text(
+            self.alloc,
+            &mut self.shown,
+            self.most_lines,
+            "! ",
+            called.err.taken(),
+        )?;
         let status = called.status;
         let line = format!(in self.alloc; "{status}")?;
         push_line(&mut self.shown, "= ", line.as_bytes())
@@ -162,11 +172,23 @@ impl Stage {
     // Shows what was asked for of an output.
     fn show_output(&mut self, output: &[u8]) -> Result<(), OutOfMemory> {
         match self.part {
-            Part::All => push_text(self.alloc, &mut self.shown, "", output),
-            Part::Last => push_text(self.alloc, &mut self.shown, "", last_of(output)),
+            Part::All => push_text(self.alloc, &mut self.shown, self.most_lines, "", output),
+            Part::Last => push_text(
+                self.alloc,
+                &mut self.shown,
+                self.most_lines,
+                "",
+                last_of(output),
+            ),
             Part::Rows => {
                 let rows = rows_of(self.alloc, output)?;
-                push_text(self.alloc, &mut self.shown, "", rows.as_slice())
+                push_text(
+                    self.alloc,
+                    &mut self.shown,
+                    self.most_lines,
+                    "",
+                    rows.as_slice(),
+                )
             }
         }
     }

@@ -1,7 +1,7 @@
 //! Tests of the texts that are read and written, by public calls: what no command of `flux` shows. That is the
 //! canonical text of what was read, the limits of a text handed in at once, what each error says of itself, the nodes
 //! and links of a plan, lines, words and numbers, the symbols of trades, what a failure script says is due, histories
-//! that are merged, and buckets that are fed and moved. What is read and refused otherwise is in the cases of
+//! that are merged, buckets that are fed and moved, and which events of groups of three are refused and where. What is read and refused otherwise is in the cases of
 //! test_flux.
 //!
 //! Its functions are tests and what serves them. It stands above the readers so that each of them is proved once, and
@@ -36,5 +36,7 @@ mod summaries;
 mod texts;
 #[cfg(test)]
 mod trades;
+#[cfg(test)]
+mod trio;
 #[cfg(test)]
 mod words;

@@ -1,19 +1,10 @@
 // Texts of events of groups of three: what is refused and where, and what each line says.
-use plan_reader::{Plan, read_plan};
+use crate::fixture::two;
 use run_journal::EventsError;
 use std::alloc::Global;
 use std::test::Fail;
 use trio_machine::{TrioEvent, TrioNode};
 use trio_text::{TrioLined, push_trio_node, read_trio};
-
-// A plan of two stages, of two partitions and of one.
-const TWO: &[u8] =
-    b"flux 1\nstage 1 parts 2 by account total account\nstage 2 parts 1 by symbol total symbol\n";
-
-// That plan.
-fn two(alloc: Global) -> Result<Plan, Fail> {
-    Ok(read_plan(alloc, TWO)?)
-}
 
 // Why a text is refused.
 fn refusal(alloc: Global, text: &str) -> Result<Option<EventsError>, Fail> {
