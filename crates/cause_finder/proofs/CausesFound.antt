@@ -13,18 +13,22 @@ use Rattle.op_spec.specs.declared.spec.Compare.{Compare}
 use Rattle.op_spec.specs.declared.spec.By.{By}
 use Rattle.op_spec.specs.declared.spec.OpSpec.{OpSpec}
 use Rattle.op_spec.specs.declared.spec.OpSpec.TheVariants as op
-use Rattle.stream_ops.specs.Answers.{end_answer, window_row}
+use Rattle.stream_ops.specs.Answers.{answer, end_answer, window_row}
 use Rattle.stream_ops.specs.Joins.{is_left}
 use Rattle.stream_ops.specs.Rows.{keys_in, rows_with}
 use Rattle.stream_ops.specs.Sums.{crosses, sums_of}
-use Rattle.row_cause.specs.Causes.{Cause, alone, end_causes, items_in, of_its_key, of_key, open_rows, partners, row_causes, rows_in, said_at_end, said_by, spoke, window_causes}
+use Rattle.row_cause.specs.Causes.{Cause, alone, end_causes, items_in, of_its_key, of_key, open_rows, partners, row_causes, rows_in, said_at_end, said_by, spoke, spoken, window_causes}
 use Rattle.row_cause.specs.Laws.{one_by_one}
 use Rattle.row_cause.specs.declared.placed.Placed.{Placed}
 use Rattle.row_cause.proofs.Alone.{rows_rest}
 use Rattle.row_cause.proofs.Ends.{ends_rest}
-use Rattle.cause_finder.specs.Found.{RestsOn, answers_of}
+use Rattle.cause_finder.specs.Found.{RestsOn}
 use Rattle.cause_finder.specs.Trails.{keyed_by, resting}
 use Rattle.row_origin.specs.Stages.{causes_of}
+
+-- what an operator answers to what made it speak, after these rows
+abbrev pub answers_of : OpSpec → List Placed → Option Placed → List Row
+answers_of op before speaker = answer op (items_in before) (spoken speaker)
 
 -- ---- how many
 

@@ -12,3 +12,4 @@ pub mod NewSeats
 pub mod ValuesBack
 pub mod Turns
 pub mod RuleLaws
+pub mod Counted

@@ -4,10 +4,11 @@ use borrow.Author.Tests.{ltb-true}
 use mathlib.Core.Logic.{dite}
 use native.Mathlib.Decide.{ℕ_discrete}
 use Rattle.atomic_table.specs.Table.{turned, rest}
-use Rattle.claim_board.specs.Lists.{is_in, without, is_distinct, all_below, places_of, rotated, count_before}
+use Rattle.claim_board.specs.Lists.{is_in, without, is_distinct, all_below, places_of, rotated}
 use Rattle.std.specs.Prelude.{option_to_list}
 use Rattle.claim_board.proofs.Lists.{in_other, in_without_same, in_without_other}
 use Rattle.claim_board.proofs.Distinct.{and_parts, and_both, not_true}
+use Rattle.claim_board.proofs.Counted.{count_before}
 
 places_snoc : {S : Type 0} (l : List (ℕ × S)) (x : ℕ × S) → places_of (l ++ x ∷ []) ≡ places_of l ++ x.0 ∷ []
 places_snoc [] x = refl

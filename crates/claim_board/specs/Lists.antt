@@ -1,5 +1,5 @@
 -- Lists of places and of seats' numbers.
-use Rattle.std.specs.Prelude.{ℕ, Bool, true, false, ◌==◌, nat_lt, ◌||◌, ◌&&◌, not, if◌then◌else◌, ◌+◌, List, [], ◌∷◌, ◌++◌}
+use Rattle.std.specs.Prelude.{ℕ, Bool, true, false, ◌==◌, nat_lt, ◌||◌, ◌&&◌, not, if◌then◌else◌, List, [], ◌∷◌, ◌++◌}
 
 -- k stands in the list
 abbrev pub is_in : ℕ → List ℕ → Bool
@@ -30,8 +30,3 @@ places_of (x ∷ xs) = x.0 ∷ places_of xs
 abbrev pub rotated : List ℕ → List ℕ
 rotated [] = []
 rotated (x ∷ xs) = xs ++ x ∷ []
-
--- how many numbers stand before k
-abbrev pub count_before : ℕ → List ℕ → ℕ
-count_before k [] = 0
-count_before k (x ∷ xs) = if k == x then 0 else 1 + count_before k xs

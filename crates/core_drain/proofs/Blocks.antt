@@ -21,10 +21,14 @@ use Rattle.pair_machine.proofs.DrainWhole.{drain_whole}
 use Rattle.pair_machine.proofs.Legal.{legal_split}
 use Rattle.pair_machine.proofs.PlanFlow.{plan_is_flow}
 use Rattle.pair_machine.proofs.Tests.{nat_not}
-use Rattle.core_drain.specs.Progress.{IsBlock, IsTurnOf, MayBegin, Start, before_turn, consumer_of, done_before, flow_at, makes_left, partition_in, pulls_of, pulls_up_to, turn_of}
+use Rattle.core_drain.specs.Progress.{IsBlock, IsTurnOf, MayBegin, Start, before_turn, consumer_of, done_before, flow_at, makes_left, partition_in, pulls_of, turn_of}
 use Rattle.core_drain.proofs.Events.{along, drains_front, drains_split}
 use Rattle.core_drain.proofs.Fronts.{IsFront, events_front, front_after, front_more, front_on, front_self, pairs_next, parts_front, pulls_front, stages_front}
 use Rattle.core_drain.proofs.Over.{feed_lowers, grew_at, lowered, make_lowers, pull_lowers, sum_less, work_lowers}
+
+-- what a consumer pulls from the first n of its sources
+abbrev pub pulls_up_to : Start → NodeId → ℕ → List Event
+pulls_up_to b to n = pulls_below (flow_at b) b.state (partition_in (flow_at b) to) to (consumer_of b to) n
 
 pub undone_events : (f : Flow) (s : State) → (IsEgressDone f s → ⊥) → drain f s ≡ drain_events f s
 undone_events f s undone = let e : ((egress_in (s.nodes node.Egress)).count == f.total (egress_partition f)) ≡ false = nat_not (egress_in (s.nodes node.Egress)).count (f.total (egress_partition f)) undone in simp e

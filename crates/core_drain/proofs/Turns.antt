@@ -21,9 +21,9 @@ use Rattle.pair_machine.proofs.PlanNodes.{nodes_named}
 use Rattle.pair_machine.proofs.Tests.{both, nat_not}
 use Rattle.flux_core.specs.CoreView.{CoreView}
 use Rattle.flux_core.specs.Stands.{StandsFor}
-use Rattle.core_drain.specs.Progress.{IsAfter, IsBlock, IsTurnOf, MayBegin, Start, before_turn, consumer_of, done_before, flow_at, makes_left, pairs_before, partition_in, pulls_of, pulls_up_to, turn_of}
+use Rattle.core_drain.specs.Progress.{IsAfter, IsBlock, IsTurnOf, MayBegin, Start, before_turn, consumer_of, done_before, flow_at, makes_left, pairs_before, partition_in, pulls_of, turn_of}
 use Rattle.core_drain.proofs.Along.{along_at}
-use Rattle.core_drain.proofs.Blocks.{last_turn, makes_block, turn}
+use Rattle.core_drain.proofs.Blocks.{last_turn, makes_block, pulls_up_to, turn}
 use Rattle.core_drain.proofs.Fronts.{pairs_next}
 use Rattle.core_drain.proofs.Pairs.{drainer_ahead}
 

@@ -9,7 +9,7 @@ use Rattle.plan_reader.specs.PlanView.{IsPlan, PlanView}
 use Rattle.pair_machine.specs.Boundary.{egress_partition}
 use Rattle.pair_machine.specs.CountLaws.{IsOfStage}
 use Rattle.pair_machine.specs.Counts.{flow_of}
-use Rattle.pair_machine.specs.Drain.{AreDrainEvents, IsDrainEvent, IsDrainable, IsEgressDone, consumer_in, drain_events, drain_into, drain_pairs, drainer, pairs_up_to, partition, parts_below, pulls_below, pulls_into}
+use Rattle.pair_machine.specs.Drain.{AreDrainEvents, IsDrainEvent, IsDrainable, IsEgressDone, consumer_in, drain_events, drain_into, drain_pairs, drainer, pairs_up_to, partition, parts_below, pulls_into}
 use Rattle.pair_machine.specs.Flow.{Flow}
 use Rattle.pair_machine.specs.Legal.{IsLegalFrom}
 use Rattle.pair_machine.specs.Machine.{State, egress_in, ingress_in, new_consumer, replica_in, step}
@@ -135,10 +135,6 @@ done_before b stage part = replicate (makes_left b) event.Make ++ drain_pairs (f
 -- all events before the turn of a consumer
 abbrev pub before_turn : Start → NodeId → List Event
 before_turn b to = let p = partition_in (flow_at b) to in done_before b p.stage p.part
-
--- what a consumer pulls from the first n of its sources
-abbrev pub pulls_up_to : Start → NodeId → ℕ → List Event
-pulls_up_to b to n = pulls_below (flow_at b) b.state (partition_in (flow_at b) to) to (consumer_of b to) n
 
 -- what a consumer pulls from all its sources
 abbrev pub pulls_of : Start → NodeId → List Event

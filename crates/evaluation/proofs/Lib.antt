@@ -1,2 +1,3 @@
+pub mod ComingRows
 pub mod StageRows
 pub mod Taking

@@ -34,7 +34,8 @@ use Rattle.pair_machine.specs.Edges.{answered, goes_to, passed, sent_by_part, se
 use Rattle.pair_machine.specs.Ingress.{mark_after, sent_together}
 use Rattle.pair_machine.proofs.EdgeLengths.{rows_of-answered}
 use Rattle.pair_machine.proofs.Sending.{merged_part}
-use Rattle.evaluation.specs.StageRows.{HasRows, HasTime, Past, Rises, alike, early_replies, late_replies, part_replies, row_replies, rows_to, tail_of}
+use Rattle.evaluation.specs.StageRows.{HasTime, alike, early_replies, late_replies, part_replies, row_replies, rows_to}
+use Rattle.evaluation.proofs.ComingRows.{HasRows, Past, Rises, tail_of}
 
 -- ---- answers depend on the rows before alone
 

@@ -89,6 +89,7 @@ whole_of entry.Whole stamped = stamped ∷ []
 abbrev pub after_event : Progress → Entry → Stamped → Progress
 after_event now e stamped = record { clock = stamped.clock; taken = counted e stamped.event now.taken; used = now.used + needed e }
 
+-- the same, where the entry stands for the event that it means
 abbrev pub after_entry : Names → Progress → Entry → Progress
 after_entry names now e = after_event now e (meaning names now e)
 

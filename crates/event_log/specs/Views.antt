@@ -13,10 +13,11 @@ pub record LogView : Type 0 where
   pub entries : List Stamped
   pub spare : ℕ
 
--- logs as lists with their nodes, and histories likewise
+-- logs as lists with their nodes
 abbrev pub named_logs : List LogView → List (NodeId × List Stamped)
 named_logs logs = map (λ l. (l.node, l.entries)) logs
 
+-- histories as lists with their nodes
 abbrev pub named_histories : List History → List (NodeId × List Stamped)
 named_histories histories = map (λ h. (h.node, h.entries.items)) histories
 

@@ -27,7 +27,7 @@ use Rattle.flux_core.specs.Acts.{IsActOf, IsRefusedSo}
 use Rattle.flux_core.specs.CoreView.{CoreView, Standing, StationView, ended_at, flow_in, inputs_of, standing, station}
 use Rattle.flux_core.specs.Refusals.{IsRefusal}
 use Rattle.flux_core.specs.Stands.{ContentStands, IsCore, IsGiven, IsKnown, IsReached, StandsFor}
-use Rattle.flux_core.specs.Steps.{GoesOn, HasChanged, HasSoundState, IsApplied, IsTaskOf, MayApply}
+use Rattle.flux_core.specs.Steps.{GoesOn, HasSoundState, IsApplied, IsTaskOf, MayApply}
 use Rattle.flux_core.specs.declared.asked.Asked.{Asked}
 use Rattle.flux_core.specs.declared.error.ApplyError.{ApplyError}
 use Rattle.flux_core.specs.declared.error.ApplyError.TheVariants as error
@@ -35,6 +35,7 @@ use Rattle.flux_core.proofs.KeepsOwed.{keeps_drainable}
 use Rattle.flux_core.proofs.Placing.{all_same, inputs_same as inputs_kept}
 use Rattle.flux_core.proofs.Steps.{goes_on}
 use Rattle.flux_core.proofs.There.{there}
+use Rattle.flux_core.proofs.Changes.{HasChanged}
 
 -- ---- what is known goes on
 

@@ -1,4 +1,5 @@
 pub mod ByName
+pub mod Changes
 pub mod Contents
 pub mod Done
 pub mod EndsOf

@@ -12,9 +12,10 @@ use Rattle.plan_nodes.specs.declared.state.NodeState.{NodeState}
 use Rattle.plan_nodes.proofs.NodeOrder.{Apart, differs, nodes_apart}
 use Rattle.flux_core.specs.CoreView.{CoreView, HoldsAll, Standing, StationView, core_of, ended_at, found, gone_at, inputs_at, inputs_of, names_of, standing, station}
 use Rattle.flux_core.specs.Stands.{IsCore}
-use Rattle.flux_core.specs.Steps.{ActedAt, HasChanged}
+use Rattle.flux_core.specs.Steps.{ActedAt}
 use Rattle.flux_core.specs.declared.asked.Asked.{Asked}
 use Rattle.flux_core.proofs.Lists.{get-at, get-back, length-map-of, same-there, set-same}
+use Rattle.flux_core.proofs.Changes.{HasChanged}
 
 if_true : {X : Type 0} (b : Bool) (x y : X) → b ≡ true → (if b then x else y) ≡ x
 if_true true x y e = refl

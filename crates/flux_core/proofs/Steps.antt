@@ -28,10 +28,11 @@ use Rattle.flux_core.specs.Acts.{ActsSo, IsActOf}
 use Rattle.flux_core.specs.CoreView.{CoreView, Log, Standing, flow_in, inputs_of, station}
 use Rattle.flux_core.specs.Sent.{bodies_to}
 use Rattle.flux_core.specs.Stands.{ContentStands, PacketsStand, StandsFor, StationStands}
-use Rattle.flux_core.specs.Steps.{GoesOn, HasChanged, IsTaskOf, MayStep}
+use Rattle.flux_core.specs.Steps.{GoesOn, IsTaskOf, MayStep}
 use Rattle.flux_core.specs.declared.asked.Asked.{Asked}
 use Rattle.flux_core.proofs.Placing.{inputs_same}
 use Rattle.flux_core.proofs.Sendings.{bodies-append}
+use Rattle.flux_core.proofs.Changes.{HasChanged}
 
 -- ---- lists related one by one
 

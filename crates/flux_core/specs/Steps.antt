@@ -11,7 +11,7 @@ use Rattle.pair_machine.specs.Sound.{IsSound}
 use Rattle.plan_reader.specs.PlanView.{PlanView}
 use Rattle.plan_nodes.specs.States.{gone_of, has_ended, id_of, inputs_in}
 use Rattle.flux_core.specs.Acts.{ActsSo, IsActOf}
-use Rattle.flux_core.specs.CoreView.{CoreView, Log, StationView, flow_in, inputs_of, names_of, standing, station}
+use Rattle.flux_core.specs.CoreView.{CoreView, Log, StationView, flow_in, inputs_of, station}
 use Rattle.flux_core.specs.Stands.{StandsFor}
 use Rattle.flux_core.specs.declared.asked.Asked.{Asked}
 
@@ -35,19 +35,6 @@ pub record ActedAt (t : Asked) (place : ℕ) (olds news : List StationView) : Ty
   pub after : StationView
   pub was : slice_get olds place ≡ Some before
   pub now : news ≡ slice_set olds place after
-  pub acted : HasActed t before after
-
--- so did the node of a name, and the others stayed as they were
-pub record HasChanged (n : NodeId) (t : Asked) (old new : CoreView) : Type 0 where
-  pub plan : new.plan ≡ old.plan
-  pub whole : new.whole ≡ old.whole
-  pub names : names_of new.stations ≡ names_of old.stations
-  pub others : (m : NodeId) → m ≢ n → station new m ≡ station old m
-  pub before : StationView
-  pub after : StationView
-  pub id : id_of before.node ≡ n
-  pub was : station old n ≡ standing (Some before)
-  pub now : station new n ≡ standing (Some after)
   pub acted : HasActed t before after
 
 -- a state is sound

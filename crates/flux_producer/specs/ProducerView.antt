@@ -2,7 +2,6 @@
 use Rattle.std.specs.Prelude.{◌≡◌, ℕ, ◌+◌, ◌<◌, ◌≤◌, Bool, true, false, List, length, map, nat_lt, if◌then◌else◌, slice_index_or, slice_set, replicate}
 use Rattle.tuple_edge.specs.Limits.{edge_limit, number_limit}
 use Rattle.tuple_edge.specs.declared.item.Item.{Item}
-use Rattle.tuple_edge.specs.declared.node.EdgeId.{EdgeId}
 use Rattle.ack_buffer.specs.Buffer.{BufferView}
 use Rattle.flux_producer.specs.Limits.{max_copies}
 use Rattle.flux_producer.specs.OutEdge.{OutEdgeView, acknowledged, cursor_of, over, rewound, sent, unused, wanted, with_item}
@@ -36,10 +35,6 @@ pub record IsProducer (copies room : ℕ) (edges : List OutEdgeView) : Type 0 wh
 -- the out-edge to a target; where there is none, one on which nothing was produced
 abbrev pub edge_at : ProducerView → ℕ → OutEdgeView
 edge_at p t = slice_index_or p.edges t unused
-
--- the name of the edge to a target
-abbrev pub id_of : ProducerView → ℕ → EdgeId
-id_of p t = record { stage = p.stage; from = p.from; to = t }
 
 -- the buffer of the edge to a target
 abbrev pub buffer_at : ProducerView → ℕ → BufferView

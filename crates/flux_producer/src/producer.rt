@@ -3,7 +3,7 @@ ghost use Rattle.ack_buffer.specs.Buffer.{item_at};
 ghost use Rattle.flux_producer.specs.Due.{IsLeast, NoneWaits, due_of, due_to, soonest_below};
 ghost use Rattle.flux_producer.specs.Limits.{least_room, max_copies};
 ghost use Rattle.flux_producer.specs.OutEdge.{over, rewound, unused, with_item};
-ghost use Rattle.flux_producer.specs.ProducerView.{HasRoom, HaveMoreRoom, KeepsRoom, MayGrow, acked, buffer_at, contents_of, cursor_at, edge_at, emitted, emitted_to_all, id_of, leading, opening, over_buffers, sent_on, wanted_from};
+ghost use Rattle.flux_producer.specs.ProducerView.{HasRoom, HaveMoreRoom, KeepsRoom, MayGrow, acked, buffer_at, contents_of, cursor_at, edge_at, emitted, emitted_to_all, leading, opening, over_buffers, sent_on, wanted_from};
 ghost use Rattle.flux_producer.specs.StandsFor.{BuffersStandFor, StandsFor, with_next};
 ghost use Rattle.std.specs.Prelude.{◌≡◌, ◌≢◌, ◌≤◌, ◌<◌, ◌+◌, ◌-◌, ◌++◌, ◌∷◌, ◌↔◌, [], ℕ, List, length, None, Some, IfOk, OnErr, OnOk, IsTrue, IfNone, IfSome, map, max, replicate, slice_get};
 ghost use Rattle.tuple_edge.specs.Limits.{number_limit};
@@ -14,7 +14,7 @@ use crate::edge::OutEdge;
 use ack_buffer::AckBuffer;
 use std::alloc::Global;
 use std::marker::Model;
-use tuple_edge::{EdgeId, Item, NUMBER_LIMIT, OutOfMemory};
+use tuple_edge::{Item, NUMBER_LIMIT, OutOfMemory};
 
 // `make_room` makes room for so many items at least.
 const LEAST_ROOM: u64 = 64;
@@ -391,18 +391,6 @@ impl Producer {
         ensures { result ≡ length self.now.edges }
     {
         self.edges.len() as u32
-    }
-
-    /// The name of the edge to a target.
-    pub fn edge_id(&self, to: u32) -> EdgeId
-        requires { to < length self.now.edges }
-        ensures { result ≡ id_of self.now to }
-    {
-        EdgeId {
-            stage: self.stage,
-            from: self.from,
-            to,
-        }
     }
 
     /// How many replicas each target has: 1 to [`MAX_COPIES`](crate::MAX_COPIES).

@@ -5,9 +5,10 @@ use Rattle.command_course.specs.Course.{Course, Leads, Reads, Refuses, Runs, Wri
 use Rattle.flux_outside.specs.Outside.{Call, Names}
 use Rattle.flux_outside.specs.Told.{FilesTold}
 use Rattle.run_command.specs.Endings.{Ending}
-use Rattle.flux_top.specs.Clauses.{Accepts, ComesTo, ComesToRefusal, Finishes, LeadsTo, Rejects}
+use Rattle.flux_top.specs.Clauses.{Accepts, ComesTo, ComesToRefusal, LeadsTo, Rejects}
 use Rattle.flux_top.specs.Ends.{Ends, EndsOrLoses, IsAtEnd, Loses, LosesNone}
 use Rattle.flux_top.specs.Outcome.{asked}
+use Rattle.flux_top.specs.Programs.{Finishes}
 
 -- a course that reads no further input
 abbrev IsOver : Course → Type 0
@@ -121,7 +122,7 @@ no_loss pair (Runs run) ending sure loses = loses.lost.unsafe sure
 no_loss pair (Refuses line) ending sure loses = sure
 
 pub accepted_unlost : (before after : FilesTold) (words : List (List ℕ)) (pair : Partition) (ending : Ending) → Accepts before.contents words LosesNone
-    → Finishes before after words (Loses pair) ending → ⊥
+    → Finishes (ComesTo before after words (Loses pair)) before after ending → ⊥
 accepted_unlost before after words pair ending accepted finishes =
     let it = accepted_of before.contents words LosesNone accepted in
     let lost = finishes.comes in

@@ -7,12 +7,13 @@ use Rattle.command_course.specs.declared.stop.Stop.{Stop}
 use Rattle.command_course.specs.declared.stop.Stop.TheVariants as stop
 use Rattle.flux_outside.specs.Outside.{StopsAtWant}
 use Rattle.flux_outside.specs.Told.{FilesTold, SinkTold}
-use Rattle.flux_top.specs.Clauses.{HasCause, IsComplete, KeepsTo, SaysAt, StaysAt, StopsTo, Tells, WritesWhole}
+use Rattle.flux_top.specs.Clauses.{HasCause, IsComplete, KeepsTo, SaysAt, StaysAt, StopsTo, WritesWhole}
 use Rattle.flux_top.specs.Ends.{Ends, EndsOrLoses, IsAtEnd, Loses, LosesNone, saves_of}
 use Rattle.flux_top.specs.Lines.{cannot_write_line, memory_line, usage_line}
 use Rattle.flux_top.specs.Stops.{status_at}
 use Rattle.flux_top.proofs.Completeness.{accepted_asked, accepted_unlost, accepted_unrefused, either_at_end, ends_at_end, loses_at_end, rejected_asked, rejected_unended, sure_at_end}
 use Rattle.flux_top.proofs.Courses.{wants_for}
+use Rattle.flux_top.specs.Programs.{Tells}
 
 -- ---- what is said
 

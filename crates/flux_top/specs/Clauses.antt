@@ -25,10 +25,6 @@ IsStatus status = (status ≡ 0) ⊎ (status ≡ 2) ⊎ (status ≡ 3) ⊎ (stat
 abbrev pub MaySave : ℕ → Type 0
 MaySave status = (status ≡ 0) ⊎ (status ≡ 5) ⊎ (status ≡ 6) ⊎ (status ≡ 8)
 
--- a line was taken whole, or a proper prefix of it where the count of faults rose; each put was given all that was left of it
-abbrev pub Tells : SinkTold → SinkTold → List ℕ → Type 0
-Tells = program.Tells
-
 -- It is one of the statuses that there are, and at those that have a line of their own that line is said.
 abbrev pub SaysAt : ℕ → SinkTold → SinkTold → Type 0
 SaysAt = program.SaysAt lines IsStatus
@@ -44,10 +40,6 @@ pub record ComesTo (before after : FilesTold) (words : List (List ℕ)) (ends : 
   pub comes : AsksFor words (λ course. program.CameThen before after more course there)
   pub ends_so : ends there ending
 
--- The words' command came to its end. Where it has a journal, the last call saved it.
-abbrev pub Finishes : FilesTold → FilesTold → List (List ℕ) → (Course → Ending → Type 0) → Ending → Type 0
-Finishes before after words ends = program.Finishes (ComesTo before after words ends) before after
-
 -- and its text was written whole, each put being given all that was left of it
 abbrev pub WritesWhole : FilesTold → FilesTold → List (List ℕ) → (Course → Ending → Type 0) → SinkTold → SinkTold → Type 0
 WritesWhole before after words ends = program.WritesWhole (ComesTo before after words ends) before after
@@ -55,10 +47,6 @@ WritesWhole before after words ends = program.WritesWhole (ComesTo before after 
 -- or a proper prefix of it, in the same way, as the count of the sink's faults rose; or its journal was not saved, as the count of faults of saves rose, and nothing was written
 abbrev pub WritesNot : FilesTold → FilesTold → List (List ℕ) → SinkTold → SinkTold → Type 0
 WritesNot before after words = program.WritesNot (ComesTo before after words EndsOrLoses) before after
-
--- The words' command came to its end, but its journal was not saved, as the count of faults of saves rose.
-abbrev pub SavesNot : FilesTold → FilesTold → List (List ℕ) → Type 0
-SavesNot before after words = program.SavesNot (ComesTo before after words EndsOrLoses) before after
 
 -- the files hold what they held, but for a journal for whose save no memory was to be had
 abbrev pub KeepsFiles : FilesTold → FilesTold → List (List ℕ) → Type 0

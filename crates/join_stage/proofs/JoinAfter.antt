@@ -20,12 +20,16 @@ use Rattle.std.specs.Ordering.{int_cmp, is_gt, nat_cmp, ordering_reverse, orderi
 use Rattle.std.specs.declared.cmp.Ordering.{Ordering}
 use Rattle.std.specs.declared.cmp.Ordering.TheVariants.{Less, Equal, Greater}
 use Rattle.std.specs.Prelude.{ℤ, Result, Ok, Err, OnOk, OnErr}
-use Rattle.join_stage.specs.Join.{AreRight, AreSides, IsJoin, IsShort, IsShortFirst, all_told, bound_after, is_after, kept_at, key_cmp, next_after, next_in, no_sides, or_else, pushed, run, same_key_before, sides_after, sides_with, told_sides}
+use Rattle.join_stage.specs.Join.{AreRight, AreSides, IsJoin, IsShort, IsShortFirst, all_told, bound_after, is_after, kept_at, key_cmp, next_in, no_sides, or_else, pushed, run, same_key_after, same_key_before, sides_after, sides_with, told_sides}
 use Rattle.join_stage.specs.Store.{IsSorted, StoreView, changed, first_from, first_where, old_first, old_value}
 use Rattle.join_stage.specs.declared.rows.JoinKey.{JoinKey}
 use Rattle.join_stage.specs.declared.rows.Kept.{Kept}
 use Rattle.join_stage.specs.declared.rows.SideRow.{SideRow}
 use Rattle.join_stage.specs.declared.rows.Sides.{Sides}
+
+-- the next kept row: of the same key, or the first one of a later key
+abbrev pub next_after : Option (JoinKey × ℕ) → List (JoinKey × Sides) → Option Kept
+next_after after es = or_else (same_key_after after es) (option_and_then (λ e. next_in e.0 0 e.1) (first_from key_cmp (bound_after after) es))
 
 pub key_cmp_total : IsTotalOrder key_cmp
 key_cmp_total = then_total (on_total (λ (k : JoinKey). k.account) int_cmp_total) (on_total (λ (k : JoinKey). k.symbol) int_cmp_total)

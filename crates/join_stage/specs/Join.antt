@@ -11,7 +11,7 @@ use Rattle.std.specs.Ordering.{int_cmp, int_eq, is_gt, nat_cmp, ordering_then}
 use Rattle.std.specs.declared.cmp.Ordering.{Ordering}
 use Rattle.circular_buffer.specs.Buffer.{Buffer, buffer, keep_last}
 use Rattle.join_stage.specs.Limits.{first_right_slot, max_join_rows}
-use Rattle.join_stage.specs.Store.{IsSorted, StoreView, changed, first_from, old_value}
+use Rattle.join_stage.specs.Store.{IsSorted, StoreView, changed, old_value}
 use Rattle.join_stage.specs.declared.rows.JoinKey.{JoinKey}
 use Rattle.join_stage.specs.declared.rows.Kept.{Kept}
 use Rattle.join_stage.specs.declared.rows.Pair.{Pair}
@@ -158,7 +158,3 @@ same_key_after (Some at) es = option_and_then (next_in at.0 (at.1 + 1)) (lookup 
 abbrev pub same_key_before : Option (JoinKey × ℕ) → Option (List (JoinKey × Sides)) → Option Kept
 same_key_before None old = None
 same_key_before (Some at) old = option_and_then (next_in at.0 (at.1 + 1)) (old_value key_cmp at.0 old)
-
--- the next kept row: of the same key, or the first one of a later key
-abbrev pub next_after : Option (JoinKey × ℕ) → List (JoinKey × Sides) → Option Kept
-next_after after es = or_else (same_key_after after es) (option_and_then (λ e. next_in e.0 0 e.1) (first_from key_cmp (bound_after after) es))

@@ -9,6 +9,7 @@ pub record UsesAll (last : ℕ) (edges : List (List Item)) : Type 0 where
   pub below : (q c : ℕ) → q < length edges → c < length (merged last edges) → used last edges q c < length (edge_of edges q)
   pub whole : (q : ℕ) → q < length edges → used last edges q (length (merged last edges)) ≡ length (edge_of edges q)
 
+-- all items of all edges are used at the end of every merged list
 abbrev pub AllAreUsed : Type 0
 AllAreUsed = (last : ℕ) (edges : List (List Item)) → AreEdges last edges → UsesAll last edges
 

@@ -22,9 +22,11 @@ starting marks count = record { marks = marks; waiting = replicate (length marks
 abbrev pub opening : ℕ → MergeView
 opening edges = starting (replicate edges 0) 0
 
+-- the number up to which items of an edge have come
 abbrev pub mark_of : MergeView → ℕ → ℕ
 mark_of m edge = slice_index_or m.marks edge 0
 
+-- the items of an edge that wait to be merged
 abbrev pub waiting_of : MergeView → ℕ → List Item
 waiting_of m edge = slice_index_or m.waiting edge []
 
@@ -34,6 +36,7 @@ waiting_of m edge = slice_index_or m.waiting edge []
 abbrev pub answer_to : ℕ → ℕ → Offer
 answer_to number mark = if nat_le number mark then offer.Repeat mark else if number == mark + 1 then offer.Taken else offer.Gap mark
 
+-- what an offer of this number on an edge is answered
 abbrev pub offer_of : MergeView → ℕ → ℕ → Offer
 offer_of m edge number = answer_to number (mark_of m edge)
 
@@ -62,6 +65,7 @@ abbrev pub lesser : Option Head → Head → Option Head
 lesser None head = Some head
 lesser (Some other) head = Some (if comes_before head.item other.item head.source other.source then head else other)
 
+-- whether a list of items has one
 abbrev pub has_item : List Item → Bool
 has_item [] = false
 has_item (i ∷ is) = true
@@ -93,6 +97,7 @@ taken_from waiting source (item.Row stamp row) = slice_set waiting source (drop 
 taken_from waiting source (item.Mark stamp) = map (without (item.Mark stamp)) waiting
 taken_from waiting source (item.End stamp) = map (without (item.End stamp)) waiting
 
+-- the item of a head, if there is one
 abbrev pub item_of : Option Head → Option Item
 item_of None = None
 item_of (Some head) = Some head.item
@@ -102,5 +107,6 @@ abbrev pub after_head : MergeView → Option Head → MergeView
 after_head m None = m
 after_head m (Some head) = record { marks = m.marks; waiting = taken_from m.waiting head.source head.item; count = m.count + 1 }
 
+-- a merge after its least head was asked for
 abbrev pub after_next : MergeView → MergeView
 after_next m = after_head m (least m.waiting)

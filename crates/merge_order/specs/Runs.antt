@@ -12,6 +12,7 @@ pub data Call : Type 0 where
   Offers : (edge number : ℕ) → (i : Item) → Call
   Nexts : Call
 
+-- a merge after a call
 abbrev pub after_call : MergeView → Call → MergeView
 after_call m (Offers edge number i) = after_offer m edge number i
 after_call m Nexts = after_next m
@@ -21,6 +22,7 @@ abbrev pub after_calls : MergeView → List Call → MergeView
 after_calls m [] = m
 after_calls m (call ∷ calls) = after_calls (after_call m call) calls
 
+-- the item that a call gives, if it gives one
 abbrev pub given_by : MergeView → Call → List Item
 given_by m (Offers edge number i) = []
 given_by m Nexts = option_to_list (item_of (least m.waiting))

@@ -21,13 +21,14 @@ use Rattle.pair_machine.proofs.Egress.{output-is}
 use Rattle.pair_machine.proofs.Stages.{sent_by-next}
 use Rattle.pair_machine.proofs.Together.{merge_in_order}
 use Rattle.trade_text.specs.Inputs.{inputs_of}
-use Rattle.evaluation.specs.StageRows.{HasRows, alike, early_replies, late_replies, rows_to}
+use Rattle.evaluation.specs.StageRows.{alike, early_replies, late_replies, rows_to}
 use Rattle.evaluation.proofs.StageRows.{ingress_rows, rows_are, stage_rows}
 use Rattle.bucket_move.specs.ByKey.{is_by_key, is_keyed, is_one_keyed}
 use Rattle.bucket_move.specs.Rows.{items_of}
 use Rattle.bucket_move.proofs.ByKeyAnswers.{row_answer-part}
 use Rattle.bucket_move.proofs.StatesAfter.{items_of-push}
 use Rattle.move_command.specs.Laws.{OneOperatorAnswers}
+use Rattle.evaluation.proofs.ComingRows.{HasRows}
 
 -- ---- what the stage answers
 

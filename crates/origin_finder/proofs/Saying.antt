@@ -10,9 +10,8 @@ use Rattle.row_cause.specs.Causes.{Cause, of_key, row_causes}
 use Rattle.row_cause.specs.declared.placed.Placed.{Placed}
 use Rattle.row_origin.specs.Stages.{causes_of, early_causes, placed_from, placed_to}
 use Rattle.row_origin.proofs.Placing.{placed-left, placed-more}
-use Rattle.cause_finder.specs.Found.{answers_of}
 use Rattle.cause_finder.specs.Trails.{keyed_by, own_among, resting}
-use Rattle.cause_finder.proofs.CausesFound.{as_many, ended_rests, speaker_is, there}
+use Rattle.cause_finder.proofs.CausesFound.{answers_of, as_many, ended_rests, speaker_is, there}
 use Rattle.origin_finder.specs.Said.{AreCaused, HasNoted, IsCaused, IsLeft, IsNext, key_in, speaker_of, speakers_of}
 use Rattle.origin_finder.specs.declared.said.Speaker.{Speaker}
 

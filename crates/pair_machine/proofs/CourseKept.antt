@@ -5,7 +5,7 @@ use Rattle.std.proofs.lemmas.Bool.{eqb-true, eq-eqb}
 use Rattle.std.proofs.lemmas.List.{append-nil}
 use mathlib.Core.List.{IsPrefix}
 use Rattle.tuple_edge.specs.declared.event.Event.TheVariants as event
-use Rattle.pair_machine.specs.Courses.{ActFor, ActsFor, Agree, AllAsked, Arrivals, AskedAt, Extends, IsSentAtItsIndex, IsStep, IsTrueCourse, IsTrueHistory, IsTrueNode, MeetsBeforeEach, Moment, Pairwise, Replayed, StandsAt, TookBefore, TookSent, acted_on, also, course_of, given, given_back, moment_of, onto, replay, sent_at, taken_at}
+use Rattle.pair_machine.specs.Courses.{ActFor, ActsFor, Agree, AllAsked, Arrivals, AskedAt, IsSentAtItsIndex, IsStep, IsTrueCourse, IsTrueHistory, IsTrueNode, MeetsBeforeEach, Moment, Pairwise, Replayed, StandsAt, TookBefore, TookSent, acted_on, also, course_of, given, given_back, moment_of, onto, replay, sent_at, taken_at}
 use Rattle.pair_machine.specs.Flow.{Flow}
 use Rattle.pair_machine.specs.Links.{IsThere, link}
 use Rattle.pair_machine.specs.Lists.{Each}
@@ -21,6 +21,10 @@ use Rattle.tuple_edge.specs.declared.packet.Packet.{Packet}
 use Rattle.pair_machine.proofs.Lists.{each_append, each_map}
 use Rattle.pair_machine.proofs.ControllerTurns.{messages_to-append}
 use Rattle.pair_machine.proofs.Tests.{nat_not}
+
+-- what came stays
+abbrev pub Extends : Arrivals → Arrivals → Type 0
+Extends arrived arrived_after = (from : NodeId) (k : ℕ) (p : Packet) → arrived from k ≡ Some p → arrived_after from k ≡ Some p
 
 -- agreement -------------------------------------------------------------------
 

@@ -8,7 +8,7 @@ use Rattle.plan_reader.specs.PlanView.{PlanView}
 use Rattle.pair_machine.specs.Asked.{Asks}
 use Rattle.pair_machine.specs.Contents.{BodyStands}
 use Rattle.pair_machine.specs.Counts.{flow_of}
-use Rattle.pair_machine.specs.Courses.{Arrivals, Extends, IsStep, IsTrueNode, Moment, TookBefore, onto, taken_at}
+use Rattle.pair_machine.specs.Courses.{Arrivals, IsStep, IsTrueNode, Moment, TookBefore, onto, taken_at}
 use Rattle.pair_machine.specs.Links.{IsThere}
 use Rattle.pair_machine.specs.Lists.{Each}
 use Rattle.pair_machine.specs.Machine.{at_node}
@@ -16,7 +16,7 @@ use Rattle.pair_machine.specs.Numbers.{Node}
 use Rattle.pair_machine.specs.Scripts.{DoesNotRepeat, HappenOnce, IsAllowedAt}
 use Rattle.pair_machine.specs.Within.{IsWithinScript, history_events}
 use Rattle.pair_machine.specs.declared.order.Order.{Order}
-use Rattle.pair_machine.proofs.CourseKept.{one_more_met}
+use Rattle.pair_machine.proofs.CourseKept.{Extends, one_more_met}
 
 some_left : (pre : List Moment) (m : Moment) (post : List Moment) → onto pre (m ∷ post) ≡ [] → ⊥
 some_left [] m post e = cc

@@ -200,7 +200,3 @@ module _ (f : Flow) (Stands : LinkId → Body → Message → Type 0) (Asks : No
 -- what came on a link under an index is what was sent there at that place, also where some was lost, repeated or overtaken
 abbrev pub IsSentAtItsIndex : (ℕ → Option Packet) → List Packet → Type 0
 IsSentAtItsIndex arrived sent = (k : ℕ) (p : Packet) → arrived k ≡ Some p → nth_from_one sent k ≡ Some p
-
--- what came stays
-abbrev pub Extends : Arrivals → Arrivals → Type 0
-Extends arrived arrived_after = (from : NodeId) (k : ℕ) (p : Packet) → arrived from k ≡ Some p → arrived_after from k ≡ Some p

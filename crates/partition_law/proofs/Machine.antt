@@ -19,9 +19,10 @@ use Rattle.pair_machine.specs.Output.{output}
 use Rattle.pair_machine.proofs.Egress.{output-is, stage_at}
 use Rattle.pair_machine.proofs.Stages.{sent_by-next, stages_have_parts}
 use Rattle.pair_machine.proofs.Together.{merge_in_order}
-use Rattle.evaluation.specs.StageRows.{ComesTo, HasRows, Rises, early_replies, late_replies, tail_of}
+use Rattle.evaluation.specs.StageRows.{early_replies, late_replies}
 use Rattle.evaluation.proofs.StageRows.{ingress_rows, rows_are, stage_rows}
 use Rattle.partition_law.proofs.Stages.{early_through, late_through}
+use Rattle.evaluation.proofs.ComingRows.{ComesTo, HasRows, Rises, tail_of}
 
 -- the same rows of another list that is equal
 of_equal : (last : ℕ) (list other : List Item) (early late : List Row) (rising : Type 0) → other ≡ list → (h : HasRows last list early late) → (rising → Rises last h.front)

@@ -9,11 +9,11 @@ use Rattle.trade_text.specs.declared.error.Field.{Field}
 use Rattle.trade_text.specs.declared.error.ReadError.{ReadError}
 use Rattle.trade_text.specs.declared.error.ReadError.TheVariants as error
 use Rattle.trade_text.specs.declared.trade_file.TradeForm.{TradeForm}
-use Rattle.record_faults.specs.Alone.{AreRecords}
 use Rattle.record_faults.specs.EachRecord.{accepted, fault_in, faults_from, opening, rows_from, unless_refused}
 use Rattle.record_faults.specs.Laws.{AcceptedAreAccepted}
 use Rattle.record_faults.proofs.Alone.{numbered_so, trade_so}
 use Rattle.record_faults.proofs.Rows.{is_file, written_file}
+use Rattle.record_faults.proofs.Records.{AreRecords}
 
 -- a trade that is accepted is accepted under any number, and gives the same
 same_row : (room m n : ℕ) (so_far more : RowsRead TradeForm) (fields : List (List ℕ)) → row_onto trade_in room n so_far fields ≡ Ok more → row_onto trade_in room m so_far fields ≡ Ok more

@@ -5,4 +5,5 @@ mod SymbolFacts
 pub mod Accepted
 pub mod Alone
 pub mod First
+pub mod Records
 pub mod Rows

@@ -17,8 +17,9 @@ use Rattle.trade_text.specs.declared.error.ReadError.TheVariants as error
 use Rattle.trade_text.proofs.Marks.{strip_bom-plain}
 use Rattle.trade_text.proofs.Reading.{text_is}
 use Rattle.trade_text.proofs.RecordFacts.{IsAfter, next_record-after, records_left-more, records_left-none}
-use Rattle.record_faults.specs.Alone.{AreRecords, IsRecord, lone_text}
+use Rattle.record_faults.specs.Alone.{IsRecord, lone_text}
 use Rattle.record_faults.specs.Written.{file_text, rows_text}
+use Rattle.record_faults.proofs.Records.{AreRecords}
 
 -- ---- each record has a field
 

@@ -23,11 +23,6 @@ use Rattle.record_faults.specs.declared.trades.TradeJudge.{TradeJudge}
 abbrev pub IsRecord : List (List ℕ) → Type 0
 IsRecord fields = read_back fields ≡ fields
 
--- each of these is a record
-abbrev pub AreRecords : List (List (List ℕ)) → Type 0
-AreRecords [] = Unit {0}
-AreRecords (fields ∷ records) = IsRecord fields × AreRecords records
-
 -- records behind an empty line, as csv writes them; the empty line keeps a mark in the header from being one of the file
 abbrev pub lone_text : List (List (List ℕ)) → List ℕ
 lone_text records = 10 ∷ rows_text records

@@ -101,6 +101,7 @@ row_causes (op.Join by width n column compare limit) before r = join_causes widt
 
 -- ---- and of those that answer the end: a window for each key rests on the rows of its level
 
+-- the causes of the rows by which an operator answers the end, after these rows
 abbrev pub end_causes : OpSpec → List Placed → List Cause
 end_causes (op.Keep column compare limit) before = []
 end_causes (op.Total by) before = []

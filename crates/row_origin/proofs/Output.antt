@@ -18,10 +18,11 @@ use Rattle.pair_machine.specs.Output.{output}
 use Rattle.pair_machine.proofs.Egress.{output-is, stage_at}
 use Rattle.pair_machine.proofs.Stages.{sent_by-next, stages_have_parts}
 use Rattle.pair_machine.proofs.Together.{merge_in_order}
-use Rattle.evaluation.specs.StageRows.{ComesTo, HasRows, Rises, early_replies, late_replies, tail_of}
+use Rattle.evaluation.specs.StageRows.{early_replies, late_replies}
 use Rattle.evaluation.proofs.StageRows.{ingress_rows, rows_are, stage_rows}
 use Rattle.row_origin.specs.Laws.{RowsAreTheOutput}
 use Rattle.row_origin.specs.Origins.{rows_after}
+use Rattle.evaluation.proofs.ComingRows.{ComesTo, HasRows, Rises, tail_of}
 
 -- the same list and rows
 same_rows : (last : ℕ) (list other : List Item) (early first late rest : List Row) (rising : Type 0) → other ≡ list → first ≡ early → rest ≡ late

@@ -47,6 +47,7 @@ abbrev pub told_back : List Told
 told_back =
     told_at 30 9 1 (happening.AskedBack stopped) ∷ told_at 40 9 1 (happening.Begun stopped 2) ∷ told_at 90 12 3 (happening.CaughtUp stopped 2 30 4) ∷ []
 
+-- the texts of rehearsals that were worked by hand are those that are defined
 pub record WorkedRehearsal : Type 0 where
   -- the whole text
   pub text : rehearsal_text told orders merged 2 Done 2 ≡

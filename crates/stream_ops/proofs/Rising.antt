@@ -18,7 +18,7 @@ use Rattle.tuple_edge.specs.declared.packet.Entry.{Entry}
 use Rattle.tuple_edge.specs.declared.packet.Entry.TheVariants as entry
 use Rattle.tuple_edge.specs.declared.row.Key.{Key}
 use Rattle.op_spec.specs.Keys.{key_cmp}
-use Rattle.stream_ops.specs.Entries.{AllAfter, AreRising, IsKeyed, all_told, is_after, last_place, place_of, slots, told_last, told_total, told_window}
+use Rattle.stream_ops.specs.Entries.{IsKeyed, all_told, is_after, last_place, place_of, slots, told_last, told_total, told_window}
 use Rattle.stream_ops.specs.Joins.{keyed, told_side, told_sides}
 use Rattle.stream_ops.specs.View.{AreLast, AreRight, IsAnySums, IsSound, IsWindow, old_of}
 use Rattle.stream_ops.specs.declared.operator.Operator.{Operator}
@@ -27,6 +27,16 @@ use Rattle.stream_ops.specs.declared.sums.Sums.{Sums}
 use Rattle.stream_ops.proofs.Sided.{sides_keyed}
 use Rattle.stream_ops.proofs.Keyed.{key_cmp_total, same_key, self_key}
 use Rattle.stream_ops.proofs.Told.{AllOf, has_key}
+
+-- all these entries are above a place
+abbrev pub AllAfter : Option (Key × ℕ) → List Entry → Type 0
+AllAfter at [] = Unit {0}
+AllAfter at (e ∷ es) = (is_after at e ≡ true) × AllAfter at es
+
+-- an operator's entries, each above those before it
+abbrev pub AreRising : List Entry → Type 0
+AreRising [] = Unit {0}
+AreRising (e ∷ es) = IsKeyed e × AllAfter (place_of e) es × AreRising es
 
 -- ---- the order of places
 

@@ -35,8 +35,8 @@ use Rattle.stream_ops.specs.Entries.{all_told, entries, slots, sums_entry, told_
 use Rattle.stream_ops.specs.Joins.{by_key, is_left, join_key, keyed, side_row, sided_row, sides_of_rows, told_sides}
 use Rattle.stream_ops.specs.Kept.{Keeps, last_of_rows, open_window, total_of_rows, window_of_rows}
 use Rattle.stream_ops.specs.Rows.{keys_in, rows_of, rows_with}
-use Rattle.stream_ops.specs.Steps.{last_added, last_with, no_sums, opened_by, total_with, window_late, window_with}
-use Rattle.stream_ops.specs.Sums.{amounts, sums_of}
+use Rattle.stream_ops.specs.Steps.{last_added, last_with, no_sums, opened_by, total_with, window_with}
+use Rattle.stream_ops.specs.Sums.{amounts, sums_of, sums_with}
 use Rattle.stream_ops.specs.State.{StandsFor, StateView}
 use Rattle.stream_ops.specs.View.{AreLast, AreRight, IsAnySums, IsRight, IsSound, IsWindow, KeepsOf, entries_of, seen, spec_of}
 use Rattle.stream_ops.specs.declared.operator.Operator.{Operator}
@@ -49,6 +49,10 @@ use Rattle.stream_ops.proofs.Keyed.{key_cmp_total, self_key}
 use Rattle.stream_ops.proofs.Lasts.{last-push, total-push}
 use Rattle.stream_ops.proofs.Levels.{window-push}
 use Rattle.stream_ops.proofs.Told.{AllOf, Tells, told_exact}
+
+-- an open window with a row that opens no later one
+abbrev pub window_late : OpenWindow → Row → OpenWindow
+window_late opened r = record { number = opened.number; start = opened.start; sums = sums_with opened.sums (amounts r) }
 
 -- each entry is what a look-up finds
 abbrev AllFound : {X : Type 0} → List (Key × X) → List (Key × X) → Type 0

@@ -1,5 +1,5 @@
 -- The entries by which an operator's state goes to another replica: what it keeps of each key, as numbers.
-use Rattle.std.specs.Prelude.{ℕ, ℤ, pos, zero, suc, ◌≡◌, ◌+◌, Bool, true, false, List, [], ◌∷◌, ◌++◌, Option, Some, None, flat_map, map, slice_get}
+use Rattle.std.specs.Prelude.{ℕ, ℤ, pos, zero, suc, ◌+◌, Bool, true, false, List, [], ◌∷◌, ◌++◌, Option, Some, None, flat_map, map, slice_get}
 use Rattle.std.specs.Option.{IsSome, option_and_then, option_map}
 use Rattle.join_stage.specs.Join.{or_else}
 use Rattle.join_stage.specs.Store.{old_first, old_value}
@@ -121,13 +121,3 @@ IsKeyed e = IsSome (place_of e)
 abbrev pub last_place : ℕ → List Entry → Option (Key × ℕ)
 last_place zero es = None
 last_place (suc n) es = option_and_then place_of (slice_get es n)
-
--- all these entries are above a place
-abbrev pub AllAfter : Option (Key × ℕ) → List Entry → Type 0
-AllAfter at [] = Unit {0}
-AllAfter at (e ∷ es) = (is_after at e ≡ true) × AllAfter at es
-
--- an operator's entries, each above those before it
-abbrev pub AreRising : List Entry → Type 0
-AreRising [] = Unit {0}
-AreRising (e ∷ es) = IsKeyed e × AllAfter (place_of e) es × AreRising es

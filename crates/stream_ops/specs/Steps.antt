@@ -39,10 +39,6 @@ sums_last (Some b) = fold sums_with no_sums b.items
 abbrev pub opened_by : ℤ → Row → OpenWindow
 opened_by width r = record { number = window_of width r; start = window_of width r *ℤ width; sums = sums_with no_sums (amounts r) }
 
--- an open window with a row that opens no later one
-abbrev pub window_late : OpenWindow → Row → OpenWindow
-window_late opened r = record { number = opened.number; start = opened.start; sums = sums_with opened.sums (amounts r) }
-
 -- a key's opened window after one more row, which alone would open `next`
 abbrev pub window_with : Option OpenWindow → OpenWindow → Row → OpenWindow
 window_with None next r = next

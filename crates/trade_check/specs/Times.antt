@@ -29,10 +29,11 @@ falls (r ∷ rows) = falls_behind 3 r.time rows
 
 -- ---- midnight
 
--- the seconds of a day, and of half a day
+-- the seconds of a day
 abbrev pub day : ℤ
 day = pos 86400
 
+-- the seconds of half a day
 abbrev pub half_day : ℤ
 half_day = pos 43200
 

@@ -26,10 +26,11 @@ trade time symbol = record { time = pos time; account = pos 7; symbol = pos symb
 abbrev pub plan : ℕ → OpSpec → PlanView
 plan version operator = record { version = version; stages = record { parts = 1; by = column.Account; op = operator } ∷ []; mark = 64; hold = 1024 }
 
--- minutes of an account, and its position
+-- the minutes of an account
 abbrev pub minutes : OpSpec
 minutes = op.Window by.Account (pos 60)
 
+-- the position of an account
 abbrev pub total : OpSpec
 total = op.Total by.Account
 
@@ -75,17 +76,19 @@ pub record SymbolsWorked : Type 0 where
 abbrev pub halves : PlanView
 halves = record { version = 1; stages = record { parts = 2; by = column.Account; op = total } ∷ []; mark = 2; hold = 1024 }
 
--- the late trades, and their inputs
+-- the late trades, alone
 abbrev pub late_trades : TradesView
 late_trades = only_trades late []
 
+-- the inputs of the late trades
 abbrev pub late_inputs : List Input
 late_inputs = inputs_in late_trades
 
--- the replicas of a partition
+-- the first replica of a partition of the first stage
 abbrev pub first_of : ℕ → NodeId
 first_of part = node.Replica 1 part which.A
 
+-- the second replica of a partition of the first stage
 abbrev pub second_of : ℕ → NodeId
 second_of part = node.Replica 1 part which.B
 

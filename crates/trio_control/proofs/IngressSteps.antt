@@ -39,9 +39,13 @@ use Rattle.trio_machine.specs.declared.node.TrioNode.{TrioNode}
 use Rattle.trio_machine.specs.declared.node.TrioNode.TheVariants as node
 use Rattle.trio_control.specs.Contents.{ArePacketsFor, GoOverLinks}
 use Rattle.trio_control.specs.Ingress.{IsMadeIn, IsOfPlan, IsWorked, StandsFor}
-use Rattle.trio_control.specs.IngressView.{HasMadeNext, IngressView, IsAdmitted, IsIngress, IsMade, contents_in, made_next, new_producer, sending, taking, tuples_of, working}
+use Rattle.trio_control.specs.IngressView.{HasMadeNext, IngressView, IsAdmitted, IsIngress, IsMade, contents_in, made_next, sending, taking, tuples_of, working}
 use Rattle.trio_control.specs.Steps.{IsRefused, IsStep, IsTaken}
 use Rattle.tuple_edge.specs.declared.event.Worked.TheVariants as worked
+
+-- the producer before anything was made
+abbrev pub new_producer : ℕ → ProducerView
+new_producer parts = opening 0 0 parts group_size true
 
 module _ (plan : PlanView) (inputs : List Input) where
   targets_are : (first : Stage) → slice_get plan.stages 0 ≡ Some first → first.parts ≡ (trio_flow plan inputs).targets 0

@@ -1,12 +1,12 @@
 -- What contracts see of ingress, and what each event makes of it.
-use Rattle.std.specs.Prelude.{◌≡◌, ◌<◌, ◌≤◌, ◌+◌, ℕ, true, List, [], ◌∷◌, Option, None, Some, length, slice_get}
+use Rattle.std.specs.Prelude.{◌≡◌, ◌<◌, ◌≤◌, ◌+◌, ℕ, List, [], ◌∷◌, Option, None, Some, length, slice_get}
 use Rattle.tuple_edge.specs.Input.{Input}
 use Rattle.tuple_edge.specs.Limits.{number_limit}
 use Rattle.tuple_edge.specs.declared.event.Worked.TheVariants as worked
 use Rattle.tuple_edge.specs.declared.item.Item.{Item}
 use Rattle.ack_buffer.specs.Buffer.{item_at}
 use Rattle.flux_producer.specs.Due.{due_of}
-use Rattle.flux_producer.specs.ProducerView.{ProducerView, acked, buffer_at, contents_of, opening, sent_on}
+use Rattle.flux_producer.specs.ProducerView.{ProducerView, acked, buffer_at, contents_of, sent_on}
 use Rattle.flux_producer.specs.declared.due.Due.{Due}
 use Rattle.plan_reader.specs.declared.stage.Stage.{Stage}
 use Rattle.pair_machine.specs.CountLaws.{made_for}
@@ -35,10 +35,6 @@ pub record IsIngress (first : Stage) (every : ℕ) (producer : ProducerView) : T
   pub targets : length producer.edges ≡ first.parts
   pub copies : producer.copies ≡ group_size
   pub source : (producer.stage ≡ 0) × (producer.from ≡ 0)
-
--- the producer before anything was made
-abbrev pub new_producer : ℕ → ProducerView
-new_producer parts = opening 0 0 parts group_size true
 
 -- ---- packets
 

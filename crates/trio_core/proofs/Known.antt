@@ -15,13 +15,14 @@ use Rattle.trio_core.specs.Acts.{IsRefusedSo, MayBeAsked}
 use Rattle.trio_core.specs.CoreView.{CoreView, StationView, core_of, flow_in, found, inputs_of, place_of}
 use Rattle.trio_core.specs.Refusals.{IsRefusal}
 use Rattle.trio_core.specs.Stands.{AreTimely, IsCore, IsThere, StandsFor, StationStands}
-use Rattle.trio_core.specs.Steps.{ActedAt, GoesOn, HasChanged, IsApplied, IsNamed, IsTaskOf}
+use Rattle.trio_core.specs.Steps.{ActedAt, GoesOn, IsApplied, IsNamed, IsTaskOf}
 use Rattle.trio_core.specs.declared.error.TrioError.{TrioError}
 use Rattle.trio_core.specs.declared.error.TrioError.TheVariants as error
 use Rattle.trio_core.specs.declared.task.Task.{Task}
 use Rattle.trio_core.proofs.Placing.{changed, found_is, inputs_same}
 use Rattle.trio_core.proofs.Stepping.{asked_at, goes_on, named_there}
 use Rattle.trio_machine.proofs.Steps.{at_there}
+use Rattle.trio_core.proofs.Changes.{HasChanged}
 
 -- the state that a core stands for is sound
 pub is_sound : (core : CoreView) (is : IsCore core) → IsSound (flow_in core) is.state

@@ -1,5 +1,6 @@
 pub mod Acting
 pub mod Asking
+pub mod Changes
 pub mod Contents
 pub mod Known
 pub mod Linked

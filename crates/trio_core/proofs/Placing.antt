@@ -9,9 +9,10 @@ use Rattle.trio_machine.specs.declared.node.TrioNode.{TrioNode}
 use Rattle.trio_machine.specs.declared.node.TrioNode.TheVariants as node
 use Rattle.trio_machine.proofs.Names.{is_node-true}
 use Rattle.trio_core.specs.CoreView.{CoreView, StationView, core_of, found, inputs_at, inputs_of, is_at, place_of}
-use Rattle.trio_core.specs.Steps.{ActedAt, HasChanged}
+use Rattle.trio_core.specs.Steps.{ActedAt}
 use Rattle.trio_core.specs.declared.task.Task.{Task}
 use Rattle.trio_core.proofs.Lists.{length_set, same_there, set_other, set_same}
+use Rattle.trio_core.proofs.Changes.{HasChanged}
 
 -- ---- where it stands
 

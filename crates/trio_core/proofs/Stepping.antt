@@ -25,10 +25,11 @@ use Rattle.trio_core.specs.Acts.{IsActOf, IsAsked, IsDone}
 use Rattle.trio_core.specs.CoreView.{CoreView, StationView, flow_in, found, inputs_of, name_of}
 use Rattle.trio_core.specs.Sent.{bodies_to}
 use Rattle.trio_core.specs.Stands.{AreTimely, IsThere, MemberStands, StandsFor, StationStands}
-use Rattle.trio_core.specs.Steps.{GoesOn, HasActed, HasChanged, IsNamed, IsTaskOf}
+use Rattle.trio_core.specs.Steps.{GoesOn, HasActed, IsNamed, IsTaskOf}
 use Rattle.trio_core.specs.declared.task.Task.{Task}
 use Rattle.trio_core.proofs.Placing.{inputs_same}
 use Rattle.trio_core.proofs.Sending.{sent_more}
+use Rattle.trio_core.proofs.Changes.{HasChanged}
 
 -- ---- what is asked
 

@@ -40,16 +40,6 @@ pub record ActedAt (t : Task) (place : ℕ) (olds news : List StationView) : Typ
   pub now : news ≡ slice_set olds place after
   pub acted : HasActed t before after
 
--- the station of a node did a task, and the others stayed as they were
-pub record HasChanged (n : TrioNode) (t : Task) (old new : CoreView) : Type 0 where
-  pub plan : new.plan ≡ old.plan
-  pub before : StationView
-  pub after : StationView
-  pub was : found n old.stations ≡ Some before
-  pub now : found n new.stations ≡ Some after
-  pub acted : HasActed t before after
-  pub others : (m : TrioNode) → m ≢ n → found m new.stations ≡ found m old.stations
-
 -- The core went on as the machine does: from whatever sound state it stood for, the event is a step of the machine, and the core stands for the
 -- state after it.
 abbrev pub GoesOn : CoreView → CoreView → TrioEvent → Type 0

@@ -1,7 +1,8 @@
 use Rattle.std.proofs.Common.{◌≡◌, ◌++◌, ◌∙◌, ◌+◌, arith}
-use Rattle.core_drain.specs.Progress.{before_turn, pulls_of, pulls_up_to}
+use Rattle.core_drain.specs.Progress.{before_turn, pulls_of}
 use Rattle.core_drain.proofs.Along.{keeps_none, keeps_on, on_err}
 use Rattle.core_drain.proofs.Turns.{listed_on, loop_edge, loop_pair, pull_at, pulls_begin, pulls_end, turn_sources, turn_stage}
+use Rattle.core_drain.proofs.Blocks.{pulls_up_to}
 use Rattle.core_drain.proofs.turn.pull_from_each.Goals as goal
 
 pub loop-part-init : goal.loop-part-init

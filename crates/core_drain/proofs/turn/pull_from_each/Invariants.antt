@@ -1,6 +1,7 @@
 use Rattle.std.proofs.Common.{◌++◌}
-use Rattle.core_drain.specs.Progress.{IsAfter, IsTurnOf, Keeps, MayBegin, Start, before_turn, pulls_up_to}
+use Rattle.core_drain.specs.Progress.{IsAfter, IsTurnOf, Keeps, MayBegin, Start, before_turn}
 use Rattle.core_drain.proofs.turn.pull_from_each.Given as goal
+use Rattle.core_drain.proofs.Blocks.{pulls_up_to}
 
 abbrev pub invariant-loop-part : goal.invariant-loop-part
 invariant-loop-part l = record {

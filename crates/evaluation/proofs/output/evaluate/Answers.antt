@@ -19,8 +19,9 @@ use Rattle.pair_machine.proofs.Egress.{output-is, stage_at}
 use Rattle.pair_machine.proofs.Stages.{sent_by-next, stages_have_parts}
 use Rattle.pair_machine.proofs.Times.{IsTimelyInput, merged_timely, sent_timely}
 use Rattle.pair_machine.proofs.Together.{merge_in_order}
-use Rattle.evaluation.specs.StageRows.{ComesTo, HasRows, HasTime, Rises, early_replies, late_replies, tail_of}
+use Rattle.evaluation.specs.StageRows.{HasTime, early_replies, late_replies}
 use Rattle.evaluation.proofs.StageRows.{early_times, ingress_rows, late_times, rows_are, stage_rows}
+use Rattle.evaluation.proofs.ComingRows.{ComesTo, HasRows, Rises, tail_of}
 use Rattle.evaluation.proofs.output.evaluate.Goals as goal
 
 -- the same list and rows

@@ -1,7 +1,7 @@
 use Rattle.std.proofs.Common.{◌∙◌, map, string_bytes, subst}
 use Rattle.pair_machine.specs.Drain.{partition}
-use Rattle.flux_top.specs.Clauses.{Tells}
 use Rattle.flux_top.proofs.Statuses.{complete_done, complete_stopped, stays_done, stays_stopped}
+use Rattle.flux_top.specs.Programs.{Tells}
 use Rattle.flux_top.proofs.command.flux.Goals as goal
 
 pub returns-in-Ok-clause-stays : goal.returns-in-Ok-clause-stays

@@ -10,10 +10,10 @@ use Rattle.evaluation.proofs.Taking.{alike_open}
 use Rattle.row_cause.specs.Causes.{spoken}
 use Rattle.row_origin.specs.Stages.{placed_from, placed_to}
 use Rattle.row_origin.proofs.Placing.{items_placed}
-use Rattle.cause_finder.specs.Found.{answers_of}
 use Rattle.origin_finder.specs.Said.{speakers_of}
 use Rattle.origin_finder.proofs.Passed.{on_ok, then}
 use Rattle.origin_finder.proofs.Saying.{answers_noted}
+use Rattle.cause_finder.proofs.CausesFound.{answers_of}
 use Rattle.origin_finder.proofs.passing.take.Goals as goal
 
 pub returns-clause-answers : goal.returns-clause-answers

@@ -1,6 +1,7 @@
 use Rattle.std.proofs.Common.{◌≡◌, true, ap, sym, ◌∙◌, subst, ◌<◌}
-use Rattle.claim_board.specs.Lists.{is_in, count_before}
+use Rattle.claim_board.specs.Lists.{is_in}
 use Rattle.claim_board.proofs.Turning.{nearer_at}
+use Rattle.claim_board.proofs.Counted.{count_before}
 use Rattle.claim_board.proofs.seat.BoardSeat.turn_to.Goals as goal
 
 pub loop-self-smaller : goal.loop-self-smaller
