@@ -23,7 +23,7 @@ use look_json::write_story_json;
 use run_command::script_at;
 use run_journal::Lined;
 use run_story::write_story;
-use run_watch::{Watched, watch};
+use run_watch::{WatchedRun, watch};
 use std::alloc::Global;
 use tuple_edge::OutOfMemory;
 
@@ -117,7 +117,7 @@ impl<'a> Report for Story<'a> {
 fn written(
     alloc: Global,
     story: &Story,
-    watched: &Watched,
+    watched: &WatchedRun,
     core: &Core,
 ) -> Result<Vec<u8>, OutOfMemory>
     ensures { IfOk result (λ text. (s : State) → StandsFor core.now s → text.items
@@ -133,7 +133,7 @@ fn written(
 fn told(
     alloc: Global,
     story: &Story,
-    watched: &Watched,
+    watched: &WatchedRun,
     core: &Core,
 ) -> Result<Vec<u8>, ReportError>
     ensures text { IfOk result (λ text. (s : State) → StandsFor core.now s → text.items

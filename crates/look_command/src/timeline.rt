@@ -22,7 +22,7 @@ use plan_reader::Plan;
 use run_end::{RunEnd, run_end};
 use run_journal::Lined;
 use run_timeline::chart_of;
-use run_watch::{Watched, watch};
+use run_watch::{WatchedRun, watch};
 use std::alloc::Global;
 use tuple_edge::OutOfMemory;
 
@@ -120,7 +120,7 @@ impl Timeline {
         &self,
         alloc: Global,
         plan: &Plan,
-        watched: &Watched,
+        watched: &WatchedRun,
         end: RunEnd,
     ) -> Result<Vec<u8>, OutOfMemory>
         ensures { IfOk result (λ text. text.items ≡ drawing self.now.how self.now.only plan.now watched.now.frames.items watched.now.told.items end self.now.all) }
@@ -138,7 +138,7 @@ impl Timeline {
         &self,
         alloc: Global,
         plan: &Plan,
-        watched: &Watched,
+        watched: &WatchedRun,
         core: &Core,
     ) -> Result<Vec<u8>, ReportError>
         ensures text { IfOk result (λ text. (s : State) → StandsFor core.now s → text.items

@@ -17,7 +17,7 @@ use flux_core::Core;
 use pair_machine::Order;
 use run_end::{RunEnd, run_end};
 use run_story::{has_fired, is_asked_back, order_word, takeovers};
-use run_watch::{Told, Watched};
+use run_watch::{Told, WatchedRun};
 use serde_json::{Value, json};
 use std::alloc::Global;
 use tuple_edge::{NodeId, OutOfMemory};
@@ -183,7 +183,7 @@ fn push_end(
 pub fn write_story_json(
     alloc: Global,
     orders: &[Order],
-    watched: &Watched,
+    watched: &WatchedRun,
     core: &Core,
     all: u64,
 ) -> Result<Vec<u8>, OutOfMemory>

@@ -11,7 +11,7 @@ use Rattle.command_course.specs.Answers.{AnswerView}
 use Rattle.command_course.specs.declared.answer.Answer.{Answer}
 use Rattle.flux_top.specs.Stops.{IsOwn}
 pub use Rattle.flux_top.proofs.Owning.{own_reads}
-use Rattle.look_top.specs.Asked.{Rehearses, Task, asked, task_of, way_in}
+use Rattle.look_top.specs.Asked.{Rehearses, LookTask, asked, task_of, way_in}
 use Rattle.look_top.specs.Clauses.{StopsShort}
 use Rattle.look_top.specs.Lines.{name, own_line}
 use Rattle.look_top.specs.Stops.{StopsBefore, UnreadBy}
@@ -30,7 +30,7 @@ asked_none words is = ap (option_map task_of) is
 nothing_more : AnswerView → Course
 nothing_more a = Writes []
 
-module _ (old new : FilesTold) (words : List (List ℕ)) (task : Task) (is : asked words ≡ Some task) where
+module _ (old new : FilesTold) (words : List (List ℕ)) (task : LookTask) (is : asked words ≡ Some task) where
   short : ((next : AnswerView → Course) → StoppedShort old new (way_in task next)) → StopsShort old new words
   short stopped = subst (λ t. IfSome t (λ x. (next : AnswerView → Course) → StoppedShort old new (way_in x next))) (sym is) stopped
 
@@ -66,5 +66,5 @@ rehearsal_stops old new course picture (Err why) stops = λ next. stops
 none_not_some : {A : Type 0} {x : A} → None ≡ Some x → ⊥
 none_not_some e = cc
 
-pub asks_something : (words : List (List ℕ)) (task : Task) → asked words ≡ Some task → asked words ≡ None → ⊥
+pub asks_something : (words : List (List ℕ)) (task : LookTask) → asked words ≡ Some task → asked words ≡ None → ⊥
 asks_something words task is none = none_not_some (subst (λ t. None ≡ t) is (sym none))

@@ -13,7 +13,7 @@ use Rattle.flux_top.specs.Ends.{saves_of}
 use Rattle.command_course.specs.Answers.{AnswerView, status_of}
 use Rattle.command_course.specs.declared.answer.Ending.{Ending}
 use Rattle.command_course.specs.declared.answer.Ending.TheVariants.{Done, Lost, Warned}
-use Rattle.look_top.specs.Asked.{Answers, AsksFor, Rehearses, Task, asked, way_in}
+use Rattle.look_top.specs.Asked.{Answers, AsksFor, Rehearses, LookTask, asked, way_in}
 use Rattle.look_top.specs.Clauses.{CameTo, ComesTo, ComesToRefusal, Rejects, RejectsBy, RunsBy, RunsSo, Settles, SettlesBy, WritesWhole, answer_with}
 use Rattle.rehearse_command.specs.Rehearsals.{ending_after, told_of}
 use Rattle.run_command.specs.Endings.{Ending as Written}
@@ -61,7 +61,7 @@ text_no_refusal : (text line : List ℕ) → Writes text ≡ Refuses line → �
 text_no_refusal text line e = cc
 
 -- words ask for one task
-same_task : (words : List (List ℕ)) (task other : Task) → asked words ≡ Some task → asked words ≡ Some other → task ≡ other
+same_task : (words : List (List ℕ)) (task other : LookTask) → asked words ≡ Some task → asked words ≡ Some other → task ≡ other
 same_task words task other is other_is = same_value (sym is ∙ other_is)
 
 -- What is settled is settled of named files, and so is what is rejected.
@@ -90,7 +90,7 @@ module _ (named : Names) (told : Option Names) (told_is : told ≡ Some named) w
 
 module _ (mark : AnswerView → ℕ) (named : Names) (before after : FilesTold) (is : before.contents ≡ Some named) (ending : Ending) (written : Written) (more : List Call) (of : AnswerView) where
   -- what a task settles is the answer that it comes to
-  task_mark : (task : Task) → SettlesBy named of task → CameTo before after ending written more task → mark (answer_with ending written) ≡ mark of
+  task_mark : (task : LookTask) → SettlesBy named of task → CameTo before after ending written more task → mark (answer_with ending written) ≡ mark of
   unfolding shows mark_in
   task_mark (Answers way) settles came =
       let to = came (shows mark) in
@@ -136,7 +136,7 @@ nothing_marked : AnswerView → ℕ
 nothing_marked a = 0
 
 -- what a task settles isn't refused
-task_unrefused : (named : Names) (line : List ℕ) (of : AnswerView) (calls : List Call) (task : Task) → SettlesBy named of task → Leads (Some named) (way_in task (shows nothing_marked)) calls (Refuses line) → ⊥
+task_unrefused : (named : Names) (line : List ℕ) (of : AnswerView) (calls : List Call) (task : LookTask) → SettlesBy named of task → Leads (Some named) (way_in task (shows nothing_marked)) calls (Refuses line) → ⊥
 unfolding shows
 task_unrefused named line of calls (Answers way) settles leads =
     text_no_refusal _ line (one_end named (way (shows nothing_marked)) settles.0 calls (shows nothing_marked of) (Refuses line) tt tt (settles.1 (shows nothing_marked)) leads)
@@ -157,7 +157,7 @@ run_no_refusal run line e = cc
 
 module _ (named : Names) (before after : FilesTold) (is : before.contents ≡ Some named) (ending : Ending) (written : Written) (more : List Call) (line : List ℕ) (calls : List Call) where
   -- a task that is refused comes to no answer
-  task_unanswered : (task : Task) → CameTo before after ending written more task → Leads (Some named) (way_in task (shows nothing_marked)) calls (Refuses line) → ⊥
+  task_unanswered : (task : LookTask) → CameTo before after ending written more task → Leads (Some named) (way_in task (shows nothing_marked)) calls (Refuses line) → ⊥
   unfolding shows
   task_unanswered (Answers way) came leads =
       let to = came (shows nothing_marked) in
@@ -192,7 +192,7 @@ runs_asked kind None words runs none = runs
 runs_asked kind (Some named) words runs none = none_not_some (sym none ∙ runs.is_asked)
 
 -- a task that comes to a run isn't refused
-task_runs : (kind : Run → Type 0) (named : Names) (line : List ℕ) (calls : List Call) (task : Task) → RunsBy named kind task → Leads (Some named) (way_in task (shows nothing_marked)) calls (Refuses line) → ⊥
+task_runs : (kind : Run → Type 0) (named : Names) (line : List ℕ) (calls : List Call) (task : LookTask) → RunsBy named kind task → Leads (Some named) (way_in task (shows nothing_marked)) calls (Refuses line) → ⊥
 task_runs kind named line calls (Answers way) runs leads = absurd runs
 task_runs kind named line calls (Rehearses course picture) runs leads = run_no_refusal runs.1 line (one_end named course runs.0 calls (Runs runs.1) (Refuses line) tt tt runs.3 leads)
 
@@ -221,7 +221,7 @@ ran_so kind run ending events rows false drained.Whole is_kind ends is = Unobeye
 ran_so kind run ending events rows obeyed (drained.Lost stage part) is_kind ends is = LostSome stage part is run is_kind ends.unsafe
 
 module _ (kind : Run → Type 0) (named : Names) (before after : FilesTold) (is : before.contents ≡ Some named) (ending : Ending) (written : Written) (more : List Call) where
-  task_ran : (task : Task) → RunsBy named kind task → CameTo before after ending written more task → RanSo kind ending
+  task_ran : (task : LookTask) → RunsBy named kind task → CameTo before after ending written more task → RanSo kind ending
   task_ran (Answers way) runs came = absurd runs
   task_ran (Rehearses course picture) runs came =
       let same : runs.1 ≡ came.0 = same_run runs.1 came.0 (one_end named course runs.0 came.1.reads (Runs runs.1) (Runs came.0) tt tt runs.3

@@ -12,7 +12,7 @@ use Rattle.flux_top.proofs.LastSteps.{came_then, kept_of, short_then, unwritten_
 use Rattle.command_course.specs.Answers.{AnswerView}
 use Rattle.command_course.specs.declared.answer.Ending.{Ending}
 use Rattle.command_course.specs.declared.answer.Ending.TheVariants.{Done, Faulty, Lost, Warned}
-use Rattle.look_top.specs.Asked.{Answers, Rehearses, Task, way_in}
+use Rattle.look_top.specs.Asked.{Answers, Rehearses, LookTask, way_in}
 use Rattle.look_top.specs.Clauses.{CameTo, ComesTo, ComesToAny, WritesWhole}
 use Rattle.look_top.specs.Lines.{name}
 use Rattle.look_top.specs.Stops.{Gives, KeepsTo, StopsBefore, StopsTo, TaskGives, drained_of, written_of}
@@ -26,11 +26,11 @@ lost_ending (Lost s p) stage part is = cc
 
 module _ (before between after : FilesTold) (of : AnswerView) where
   -- the calls that read, and these after them
-  came_to : (task : Task) → TaskGives before between of task → (more : List Call) → Adds between.calls after.calls more → CameTo before after of.ending (written_of of) more task
+  came_to : (task : LookTask) → TaskGives before between of task → (more : List Call) → Adds between.calls after.calls more → CameTo before after of.ending (written_of of) more task
   came_to (Answers way) gives more added = λ next. came_then before between after (way next) (next of) (gives next) more added
   came_to (Rehearses course picture) gives more added = (gives.run, came_then before between after course (Runs gives.run) gives.came more added, gives.rehearsed)
 
-  stopped_in : (task : Task) → TaskGives before between of task → Adds between.calls after.calls [] → (next : AnswerView → Course) → StoppedShort before after (way_in task next)
+  stopped_in : (task : LookTask) → TaskGives before between of task → Adds between.calls after.calls [] → (next : AnswerView → Course) → StoppedShort before after (way_in task next)
   stopped_in (Answers way) gives none = λ next. short_then before between after (way next) (next of) (gives next) none
   stopped_in (Rehearses course picture) gives none = λ next. short_then before between after course (Runs gives.run) gives.came none
 

@@ -13,12 +13,12 @@ use Rattle.trace_command.specs.Courses.{trace_way}
 use Rattle.why_command.specs.Courses.{why_way}
 
 -- a way by which the bytes of files come to one answer; or a rehearsal: a course to a run, and the file for the run's picture, if one is named
-pub data Task : Type 0 where
-  Answers : (way : Way AnswerView) → Task
-  Rehearses : (course : Course) (picture : Option (List ℕ)) → Task
+pub data LookTask : Type 0 where
+  Answers : (way : Way AnswerView) → LookTask
+  Rehearses : (course : Course) (picture : Option (List ℕ)) → LookTask
 
 -- what the command of a request is to do
-abbrev pub task_of : Request → Task
+abbrev pub task_of : Request → LookTask
 task_of (Check plan trades cash script all json) = Answers (check_way plan trades cash script all json)
 task_of (Story plan trades events cash script json) = Answers (story_way plan trades events cash script json)
 task_of (Timeline plan trades events cash svg json only) = Answers (timeline_way plan trades events cash svg only json)
@@ -29,14 +29,14 @@ task_of (Sift trades rejects) = Answers (sift_way trades rejects)
 task_of (Sql plan) = Answers (sql_way plan)
 
 -- how the files of a task are read, whatever comes behind its answer; behind a rehearsal's course comes its run
-abbrev pub way_in : Task → Way AnswerView
+abbrev pub way_in : LookTask → Way AnswerView
 way_in (Answers way) next = way next
 way_in (Rehearses course picture) next = course
 
 -- the task that words ask for, if they have a form
-unfoldable pub asked : List (List ℕ) → Option Task
+unfoldable pub asked : List (List ℕ) → Option LookTask
 asked words = option_map task_of (form words)
 
 -- words ask for a task, and something holds of it
-abbrev pub AsksFor : List (List ℕ) → (Task → Type 0) → Type 0
+abbrev pub AsksFor : List (List ℕ) → (LookTask → Type 0) → Type 0
 AsksFor words = program.AsksFor (asked words)

@@ -10,7 +10,7 @@ use Rattle.flux_top.specs.Programs as program
 use Rattle.command_course.specs.Answers.{AnswerView, status_of}
 use Rattle.command_course.specs.declared.answer.Ending.{Ending}
 use Rattle.command_course.specs.declared.answer.Ending.TheVariants.{Lost}
-use Rattle.look_top.specs.Asked.{Answers, AsksFor, Rehearses, Task, asked, way_in}
+use Rattle.look_top.specs.Asked.{Answers, AsksFor, Rehearses, LookTask, asked, way_in}
 use Rattle.look_top.specs.Lines.{lines, lost_line, own_line}
 use Rattle.rehearse_command.specs.Rehearsals.{IsRehearsed}
 use Rattle.run_command.specs.Endings.{Ending as Written}
@@ -41,7 +41,7 @@ answer_with ending written = record { text = written.text; ending = ending; save
 
 -- Whatever comes behind a task's answer, the task came to it, by calls that read; these more calls were added after them. It is the answer that ends so. A rehearsal
 -- came to a run, and that is the answer which tells of it.
-abbrev pub CameTo : FilesTold → FilesTold → Ending → Written → List Call → Task → Type 0
+abbrev pub CameTo : FilesTold → FilesTold → Ending → Written → List Call → LookTask → Type 0
 CameTo before after ending written more (Answers way) = (next : AnswerView → Course) → program.CameThen before after more (way next) (next (answer_with ending written))
 CameTo before after ending written more (Rehearses course picture) = (run : Run) × program.CameThen before after more course (Runs run) × IsRehearsed run picture (answer_with ending written)
 
@@ -96,7 +96,7 @@ SaysLost before after words = program.SaysLost (λ pair. ComesTo before after wo
 -- ---- over files that tell what they hold
 
 -- of what these names hold a task comes to this answer
-abbrev pub SettlesBy : Names → AnswerView → Task → Type 0
+abbrev pub SettlesBy : Names → AnswerView → LookTask → Type 0
 SettlesBy named answer (Answers way) = (calls : List Call) × ((next : AnswerView → Course) → Leads (Some named) (way next) calls (next answer))
 SettlesBy named answer (Rehearses course picture) = ⊥
 
@@ -106,7 +106,7 @@ Settles None words answer = ⊥
 Settles (Some named) words answer = AsksFor words (SettlesBy named answer)
 
 -- of what these names hold a rehearsal comes to a run of this kind
-abbrev pub RunsBy : Names → (Run → Type 0) → Task → Type 0
+abbrev pub RunsBy : Names → (Run → Type 0) → LookTask → Type 0
 RunsBy named kind (Answers way) = ⊥
 RunsBy named kind (Rehearses course picture) = (calls : List Call) × (run : Run) × kind run × Leads (Some named) course calls (Runs run)
 

@@ -12,7 +12,7 @@ use Rattle.flux_outside.specs.Told.{FilesTold, SinkTold}
 use Rattle.command_course.specs.Answers.{AnswerView}
 use Rattle.command_course.specs.declared.answer.Ending.{Ending}
 use Rattle.command_course.specs.declared.answer.Ending.TheVariants.{Done, Faulty, Lost, Warned}
-use Rattle.look_top.specs.Asked.{Answers, AsksFor, Rehearses, Task, asked}
+use Rattle.look_top.specs.Asked.{Answers, AsksFor, Rehearses, LookTask, asked}
 use Rattle.look_top.specs.Clauses.{ComesToRead, ComesToRefusal, KeepsFiles, StopsShort, WritesNot, WritesWhole}
 use Rattle.look_top.specs.Lines.{lost_line, own_line}
 use Rattle.rehearse_command.specs.Rehearsals.{CameToRehearsal}
@@ -25,7 +25,7 @@ abbrev pub written_of : AnswerView → Written
 written_of answer = record { text = answer.text; saved = answer.saved }
 
 -- a task's inputs were read by just the calls that were added, and what they say comes to this answer; those of a rehearsal come to a run, of which it tells
-abbrev pub TaskGives : FilesTold → FilesTold → AnswerView → Task → Type 0
+abbrev pub TaskGives : FilesTold → FilesTold → AnswerView → LookTask → Type 0
 TaskGives before after answer (Answers way) = GivesBy before after way answer
 TaskGives before after answer (Rehearses course picture) = CameToRehearsal before after course picture answer
 

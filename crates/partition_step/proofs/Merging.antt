@@ -29,7 +29,7 @@ use Rattle.node_edges.specs.OutEdges.{AreNext, HasMade}
 use Rattle.node_edges.proofs.Consumers as consumers
 use Rattle.node_edges.proofs.Producers as producers
 use Rattle.partition_step.specs.Merging.{IsPartition, Merges, Parts, PartsStand}
-use Rattle.partition_step.specs.declared.task.Task.{Task}
+use Rattle.partition_step.specs.declared.task.PartitionTask.{PartitionTask}
 
 -- no end is among the items before the next one of an edge
 pub none_ended : (last : ℕ) (is : List Item) → IsEdge last is → (n : ℕ) (i : Item) → slice_get is n ≡ Some i → IsOpen (take n is)
@@ -43,7 +43,7 @@ none_ended last (item.End stamp ∷ is) form (suc n) i next =
     let found : slice_get [] n ≡ Some i = subst (λ rest. slice_get rest n ≡ Some i) form.2 next in
     let z : ⊥ = cc found in absurd z
 
-module _ (plan : PlanView) (rows : List Input) (p : Partition) (task : Task) (is_plan : IsPlan plan) (of_plan : IsPartition plan p task) where
+module _ (plan : PlanView) (rows : List Input) (p : Partition) (task : PartitionTask) (is_plan : IsPlan plan) (of_plan : IsPartition plan p task) where
   of_stage : IsOfStage (flow_of plan rows) p
   unfolding flow_of
   of_stage = record { first = of_plan.first; last = of_plan.last; part = subst (λ n. p.part < parts_of plan n) (let z : p.stage ≡ p.stage + 1 - 1 = omega arith in z) of_plan.part }

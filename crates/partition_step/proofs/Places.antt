@@ -15,7 +15,7 @@ use Rattle.pair_machine.proofs.Tests.{both}
 use Rattle.partition_step.specs.Answering.{HasParts, targets_of}
 use Rattle.partition_step.specs.Merging.{IsPartition}
 use Rattle.partition_step.specs.Places.{IsPlace}
-use Rattle.partition_step.specs.declared.task.Task.{Task}
+use Rattle.partition_step.specs.declared.task.PartitionTask.{PartitionTask}
 
 -- ---- what holds of each of a list
 
@@ -53,7 +53,7 @@ next_parts plan is s None e = tt
 next_parts plan is s (Some next) e = (stage_at plan is s next e).some
 
 -- a partition of a plan is within the limits
-pub place_sound : (plan : PlanView) → IsPlan plan → (p : Partition) (task : Task) → IsPartition plan p task → IsPlace p (sources_of plan p.stage) task
+pub place_sound : (plan : PlanView) → IsPlan plan → (p : Partition) (task : PartitionTask) → IsPartition plan p task → IsPlace p (sources_of plan p.stage) task
 place_sound plan is p task here =
     let last = here.last in
     let few = is.few in
@@ -81,7 +81,7 @@ read_is xs n None there at = slice_get_past xs n (ltb-false n (length xs) (sym t
 read_is xs n (Some x) there at = slice_get_read xs (length xs) n x.now refl (ltb-true n (length xs) (sym there)) at
 
 -- what is read of a plan of one of its partitions is what it does
-pub place_read : (plan : PlanView) (stages : List Stage) → stages ≡ plan.stages → (p : Partition) (task : Task) → 1 ≤ p.stage → p.stage ≤ length plan.stages → p.part < parts_of plan p.stage
+pub place_read : (plan : PlanView) (stages : List Stage) → stages ≡ plan.stages → (p : Partition) (task : PartitionTask) → 1 ≤ p.stage → p.stage ≤ length plan.stages → p.part < parts_of plan p.stage
     → (other : Stage) → (slice_index_or stages (p.stage - 1) other).op ≡ task.op → (got : Option (Bor Stage))
     → is_some got ≡ nat_lt p.stage (length stages) → IfSome got (λ x. x.now ≡ slice_index_or stages p.stage x.now) → task.next ≡ option_copied got → IsPartition plan p task
 place_read plan stages same p task first last part other op got there found next =
@@ -106,7 +106,7 @@ targets_by [] (suc s) None last e = absurd (omega arith)
 targets_by (x ∷ stages) zero None last e = let z : ⊥ = cc e in absurd z
 targets_by (x ∷ stages) (suc s) None last e = targets_by stages s None (omega arith) e
 
-pub targets_are : (plan : PlanView) (p : Partition) (task : Task) → IsPartition plan p task → parts_of plan (p.stage + 1) ≡ targets_of task.next
+pub targets_are : (plan : PlanView) (p : Partition) (task : PartitionTask) → IsPartition plan p task → parts_of plan (p.stage + 1) ≡ targets_of task.next
 targets_are plan p task here =
     let later : suc p.stage ≡ p.stage + 1 = omega arith in
     subst (λ n. parts_of plan n ≡ targets_of task.next) later (targets_by plan.stages p.stage task.next here.last here.next)

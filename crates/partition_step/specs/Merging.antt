@@ -18,7 +18,7 @@ use Rattle.pair_machine.specs.Flow.{Flow}
 use Rattle.pair_machine.specs.Numbers.{Consumer, Partition, Producer, out_edge}
 use Rattle.node_edges.specs.InEdges.{ConsumerStands}
 use Rattle.node_edges.specs.OutEdges.{HasMade, ProducerStands}
-use Rattle.partition_step.specs.declared.task.Task.{Task}
+use Rattle.partition_step.specs.declared.task.PartitionTask.{PartitionTask}
 
 -- what a partition that runs has: both sides of its edges, and its operator
 pub record Parts : Type 0 where
@@ -38,7 +38,7 @@ pub record Merges (next : Option Stage) (i : Item) (earlier later : Parts) : Typ
   pub old : later.state.old ≡ earlier.state.old
 
 -- the plan has this partition, and it does this with its items
-pub record IsPartition (plan : PlanView) (p : Partition) (task : Task) : Type 0 where
+pub record IsPartition (plan : PlanView) (p : Partition) (task : PartitionTask) : Type 0 where
   pub first : 1 ≤ p.stage
   pub last : p.stage ≤ length plan.stages
   pub part : p.part < parts_of plan p.stage

@@ -13,4 +13,4 @@ mod task;
 
 pub use answer::make_room;
 pub use merge::merge_next;
-pub use task::{Task, task_in};
+pub use task::{PartitionTask, task_in};

@@ -8,7 +8,7 @@ ghost use Rattle.std.specs.Prelude.{◌≡◌, ◌<◌, ◌+◌, OnErr, OnOk, So
 ghost use Rattle.stream_ops.specs.State.{most_by};
 ghost use Rattle.tuple_edge.specs.Limits.{number_limit};
 
-use crate::Task;
+use crate::PartitionTask;
 use crate::answer::{emit_answer, make_room};
 use flux_consumer::Consumer;
 use flux_producer::Producer;
@@ -35,7 +35,7 @@ pub fn merge_next(
     consumer: &mut Consumer,
     state: &mut OpState,
     producer: &mut Producer,
-    task: &Task,
+    task: &PartitionTask,
     rows: &mut Vec<Row>,
     head: Head,
 ) -> Result<(), OutOfMemory>

@@ -10,7 +10,7 @@ use lane_chart::write_svg;
 use plan_reader::Plan;
 use run_end::RunEnd;
 use run_timeline::chart_of;
-use run_watch::Watched;
+use run_watch::WatchedRun;
 use std::alloc::Global;
 use tuple_edge::OutOfMemory;
 
@@ -26,7 +26,7 @@ fn name_of(alloc: Global, name: &str) -> Result<String, OutOfMemory>
 fn picture_of(
     alloc: Global,
     plan: &Plan,
-    watched: &Watched,
+    watched: &WatchedRun,
     end: RunEnd,
     all: u64,
     name: &str,
@@ -44,7 +44,7 @@ fn picture_of(
 pub(crate) fn picture_if_named(
     alloc: Global,
     plan: &Plan,
-    watched: &Watched,
+    watched: &WatchedRun,
     end: RunEnd,
     all: u64,
     svg: Option<&str>,

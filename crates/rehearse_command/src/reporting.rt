@@ -23,7 +23,7 @@ use flux_core::Core;
 use listed_run::Listed;
 use plan_reader::Plan;
 use run_rehearsal::{are_obeyed, write_rehearsal};
-use run_watch::Watched;
+use run_watch::WatchedRun;
 use std::alloc::Global;
 use tuple_edge::OutOfMemory;
 
@@ -32,7 +32,7 @@ fn text_of(
     alloc: Global,
     script: &Script,
     listed: &Listed,
-    watched: &Watched,
+    watched: &WatchedRun,
     core: &Core,
     all: u64,
 ) -> Result<Vec<u8>, OutOfMemory>
@@ -58,7 +58,7 @@ fn reported(
     plan: &Plan,
     script: &Script,
     listed: &Listed,
-    watched: &Watched,
+    watched: &WatchedRun,
     core: &Core,
     all: u64,
     svg: Option<&str>,

@@ -11,7 +11,7 @@ ghost use Rattle.std.specs.Prelude.{◌≡◌, true, IfOk, OnOk};
 
 use flux_core::{ApplyError, Core};
 use run_journal::Lined;
-use run_watch::{WatchError, Watched, watch};
+use run_watch::{WatchError, WatchedRun, watch};
 use std::alloc::Global;
 use tuple_edge::OutOfMemory;
 
@@ -36,7 +36,7 @@ pub(crate) fn watched(
     alloc: Global,
     core: &mut Core,
     lines: &[Lined],
-) -> Result<Watched, OutOfMemory>
+) -> Result<WatchedRun, OutOfMemory>
     requires named { AreNamed core.old.plan lines.now }
     requires whole { core.old.whole ≡ true }
     requires opens { StandsFor core.old opening }

@@ -13,7 +13,7 @@ use Rattle.pair_machine.specs.Counts.{flow_of}
 use Rattle.pair_machine.specs.Numbers.{RunningNumbers}
 use Rattle.node_edges.proofs.Consumers as consumers
 use Rattle.partition_step.specs.Merging.{IsPartition, Parts}
-use Rattle.partition_step.specs.declared.task.Task.{Task}
+use Rattle.partition_step.specs.declared.task.PartitionTask.{PartitionTask}
 use Rattle.partition_step.proofs.Merging as step
 use Rattle.partition_step.proofs.TimelyNext.{next_holds, next_keeps}
 use Rattle.replica_node.specs.IsReplica.{AllTimely, IsMoving, IsRunning}
@@ -26,7 +26,7 @@ use Rattle.replica_node.proofs.Roles.{merges}
 
 module _ (plan : PlanView) (rows : List Input) (role : Role) (is_plan : IsPlan plan) (of_plan : IsOfPlan plan role) where
   -- what its partition does, as the plan has it
-  abbrev task_of : Task
+  abbrev task_of : PartitionTask
   task_of = record { op = role.op; next = role.next }
 
   here : IsPartition plan (partition_of role) task_of

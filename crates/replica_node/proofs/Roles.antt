@@ -21,7 +21,7 @@ use Rattle.pair_machine.proofs.EdgeLaws.{get_of, parts_at}
 use Rattle.pair_machine.proofs.Tests.{both, nat_not}
 use Rattle.move_list.proofs.Lists.{none_past}
 use Rattle.partition_step.specs.Merging.{IsPartition}
-use Rattle.partition_step.specs.declared.task.Task.{Task}
+use Rattle.partition_step.specs.declared.task.PartitionTask.{PartitionTask}
 pub use Rattle.partition_step.proofs.Places.{each_get, each_of, there_is}
 use Rattle.partition_step.proofs.Places.{place_sound}
 use Rattle.partition_step.proofs.Places as places
@@ -51,7 +51,7 @@ role_sound plan is role here =
     }
 
 -- the role of a partition whose task was read of the plan is the plan's
-pub role_read : (plan : PlanView) (role : Role) (task : Task) → task.op ≡ role.op → task.next ≡ role.next → role.sources ≡ sources_of plan role.stage → IsPartition plan (partition_of role) task → IsOfPlan plan role
+pub role_read : (plan : PlanView) (role : Role) (task : PartitionTask) → task.op ≡ role.op → task.next ≡ role.next → role.sources ≡ sources_of plan role.stage → IsPartition plan (partition_of role) task → IsOfPlan plan role
 role_read plan role task op next sources here = record {
   first = here.first;
   last = here.last;

@@ -3,7 +3,7 @@ ghost use Rattle.pair_machine.specs.Numbers.{control_at};
 ghost use Rattle.replica_node.specs.ReplicaView.{copies_of, node_of, partition_of, partner_of, targets_of};
 ghost use Rattle.std.specs.Prelude.{◌≡◌};
 
-use partition_step::Task;
+use partition_step::PartitionTask;
 use plan_reader::Stage;
 use stream_ops::OpSpec;
 use tuple_edge::{NodeId, Which};
@@ -64,10 +64,10 @@ impl Role {
     }
 
     // What its partition does with its items.
-    pub(crate) fn task(&self) -> Task
+    pub(crate) fn task(&self) -> PartitionTask
         ensures { result ≡ record { op = self.now.op; next = self.now.next } }
     {
-        Task {
+        PartitionTask {
             op: self.op,
             next: self.next,
         }

@@ -14,7 +14,7 @@ use failure_script::Script;
 use flux_core::Core;
 use pair_machine::Order;
 use run_end::{RunEnd, run_end};
-use run_watch::{Told, Watched};
+use run_watch::{Told, WatchedRun};
 use std::alloc::Global;
 use tuple_edge::OutOfMemory;
 
@@ -59,7 +59,7 @@ fn scripted(
 pub fn write_story(
     alloc: Global,
     script: Option<&Script>,
-    watched: &Watched,
+    watched: &WatchedRun,
     core: &Core,
     all: u64,
 ) -> Result<Vec<u8>, OutOfMemory>

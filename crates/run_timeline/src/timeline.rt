@@ -10,7 +10,7 @@ use crate::ticks::ticks_of;
 use lane_chart::Chart;
 use plan_reader::Plan;
 use run_end::{RunEnd, push_run_end};
-use run_watch::{Frame, Watched};
+use run_watch::{Frame, WatchedRun};
 use std::alloc::Global;
 use tuple_edge::OutOfMemory;
 
@@ -59,7 +59,7 @@ fn title_of(alloc: Global, frames: &[Frame], end: RunEnd, all: u64) -> Result<St
 pub fn chart_of(
     alloc: Global,
     plan: &Plan,
-    watched: &Watched,
+    watched: &WatchedRun,
     end: RunEnd,
     all: u64,
     only: bool,

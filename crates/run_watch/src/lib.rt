@@ -26,4 +26,4 @@ pub use law::{last_frames_are_of_the_end, worked_rows};
 pub use mode::Mode;
 #[doc(hidden)]
 pub use trace::{At, Fall, Trace};
-pub use watching::{WatchError, Watched, watch};
+pub use watching::{WatchError, WatchedRun, watch};

@@ -22,7 +22,7 @@ use tuple_edge::OutOfMemory;
 
 /// What a run came to, as it is watched.
 #[derive(Drop)]
-pub struct Watched {
+pub struct WatchedRun {
     /// What happened, in order.
     pub told: Vec<Told>,
     /// What the run is at the end of each column.
@@ -54,7 +54,7 @@ pub fn watch(
     core: &mut Core,
     events: &[Lined],
     columns: u32,
-) -> Result<Watched, WatchError>
+) -> Result<WatchedRun, WatchError>
     requires named { AreNamed core.old.plan events.now }
     requires whole { core.old.whole ≡ true }
     requires some { 1 ≤ columns }
@@ -82,7 +82,7 @@ pub fn watch(
         push_frame(&mut frames, alloc, core, place)?;
         start = end;
     }
-    Ok(Watched {
+    Ok(WatchedRun {
         told: trace.into_told(),
         frames,
     })

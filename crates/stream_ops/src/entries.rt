@@ -19,9 +19,9 @@ pub(crate) fn sums_entry(key: &Key, slot: u32, sums: &Sums, number: &i64) -> Ent
     Entry::Keyed {
         key: *key,
         slot,
-        a: sums.qty,
-        b: sums.value,
-        c: *number,
+        qty: sums.qty,
+        value: sums.value,
+        window: *number,
     }
 }
 

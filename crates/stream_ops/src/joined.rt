@@ -79,9 +79,9 @@ fn entry_of_kept(kept: &Kept) -> Entry
     Entry::Keyed {
         key: key_of(&kept.key),
         slot: kept.slot,
-        a: kept.qty,
-        b: kept.value,
-        c: kept.window,
+        qty: kept.qty,
+        value: kept.value,
+        window: kept.window,
     }
 }
 
@@ -139,9 +139,9 @@ fn side_entry(key: &Key, slot: u32, row: &SideRow) -> Entry
     Entry::Keyed {
         key: *key,
         slot,
-        a: row.qty,
-        b: row.value,
-        c: row.window,
+        qty: row.qty,
+        value: row.value,
+        window: row.window,
     }
 }
 

@@ -309,10 +309,17 @@ impl Operator {
         ensures sound { IsSound self.new }
         ensures err { OnErr result (self.new ≡ self.old) }
     {
-        let Entry::Keyed { key, slot, a, b, c } = entry else {
+        let Entry::Keyed {
+            key,
+            slot,
+            qty,
+            value,
+            window,
+        } = entry
+        else {
             return Ok(());
         };
-        let sums = Sums::told(a, b);
+        let sums = Sums::told(qty, value);
         match *self {
             Operator::Keep { .. } => Ok(()),
             Operator::Total { ref mut totals, .. } => {
@@ -333,7 +340,7 @@ impl Operator {
                 ref mut windows,
                 ..
             } => {
-                let Some(window) = OpenWindow::numbered(c, width, &sums) else {
+                let Some(window) = OpenWindow::numbered(window, width, &sums) else {
                     return Ok(());
                 };
                 windows.insert(*key, window)?;
@@ -344,7 +351,7 @@ impl Operator {
                 Ok(())
             }
             Operator::Join { ref mut join, .. } => {
-                put_joined(join, key, *slot, &sums, c)?;
+                put_joined(join, key, *slot, &sums, window)?;
                 Ok(())
             }
         }

@@ -35,7 +35,7 @@ impl Seen {
 
 // A wire that keeps all, and says once it has taken a row. It may wait at its first put for the workers.
 #[derive(Drop)]
-struct Watched<'a> {
+struct WatchedWire<'a> {
     seen: &'a Seen,
     kept: Vec<u8>,
     waits: bool,
@@ -43,7 +43,7 @@ struct Watched<'a> {
     faults: u64,
 }
 
-impl<'a> Sink for Watched<'a> {
+impl<'a> Sink for WatchedWire<'a> {
     ghost told = { λ s. record { taken = None; offered = None; faults = s.faults } };
 
     fn put(&mut self, bytes: &[u8]) -> Result<usize, Failed> {
@@ -102,7 +102,7 @@ fn writes_all<R: Threads + Wait + Sync>(
         hold,
         turns: waits_for,
     };
-    let mut wire = Watched {
+    let mut wire = WatchedWire {
         seen,
         kept: Vec::new(alloc),
         waits: waits_for > 0,

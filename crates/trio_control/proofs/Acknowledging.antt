@@ -12,7 +12,7 @@ use Rattle.trio_machine.specs.Numbers.{Controller, group_size}
 use Rattle.trio_machine.specs.declared.body.TrioBody.{TrioBody}
 use Rattle.trio_machine.specs.declared.node.TrioNode.{TrioNode}
 use Rattle.trio_control.specs.ControllerPackets.{ack_due, body_of, packets_of}
-use Rattle.trio_control.specs.ControllerView.{ControllerView, WatchedView, least_report, numbers_in, numbers_of, watched_in}
+use Rattle.trio_control.specs.ControllerView.{ControllerView, TrioWatchedView, least_report, numbers_in, numbers_of, watched_in}
 
 -- ---- packets
 
@@ -87,7 +87,7 @@ least_past : (c : ControllerView) (q : ℕ) → ((d : ℕ) → d < group_size �
 least_past c q h =
     let l : least (numbers_of c) q ≤ slice_index c.acked q = least_most (numbers_of c) q (slice_index c.acked q) group_size (λ d there. let z = h d there in omega arith) in omega arith
 
-pub numbers_done : (edges : ℕ) (p : Partition) (c : ControllerView) (watched : List WatchedView) (acked : List ℕ) (term : ℕ) (leader : Option ℕ) → watched ≡ c.watched → term ≡ c.term → leader ≡ c.leader →
+pub numbers_done : (edges : ℕ) (p : Partition) (c : ControllerView) (watched : List TrioWatchedView) (acked : List ℕ) (term : ℕ) (leader : Option ℕ) → watched ≡ c.watched → term ≡ c.term → leader ≡ c.leader →
     ((d : ℕ) → d < group_size → length (watched_in c.watched d).reports ≡ edges) →
     ((q : ℕ) → q < edges → slice_index acked q ≡ max (slice_index c.acked q) (least (numbers_of c) q)) →
     ((q : ℕ) → edges ≤ q → slice_index acked q ≡ slice_index c.acked q) →

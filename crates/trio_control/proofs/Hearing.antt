@@ -18,7 +18,7 @@ use Rattle.trio_machine.specs.declared.body.TrioBody.{TrioBody}
 use Rattle.trio_machine.specs.declared.body.TrioBody.TheVariants as body
 use Rattle.trio_control.specs.Contents.{message_of}
 use Rattle.trio_control.specs.ControllerPackets.{IsDone, IsHeard, packets_of}
-use Rattle.trio_control.specs.ControllerView.{ControllerView, HaveReports, WatchedView, heard, numbers_in, numbers_of, partition_of, unheard, watched_in}
+use Rattle.trio_control.specs.ControllerView.{ControllerView, HaveReports, TrioWatchedView, heard, numbers_in, numbers_of, partition_of, unheard, watched_in}
 use Rattle.trio_control.specs.Outbox.{TrioOutboxView}
 
 -- what stands at a place of a list after another place was set
@@ -54,7 +54,7 @@ opens_reports edges (suc zero) q = zeros edges q
 opens_reports edges (suc (suc zero)) q = zeros edges q
 opens_reports edges (suc (suc (suc d))) q = refl
 
-pub opens : (stage part edges : ℕ) (watched : List WatchedView) (acked : List ℕ) → watched ≡ replicate group_size (unheard edges) → acked ≡ replicate edges 0
+pub opens : (stage part edges : ℕ) (watched : List TrioWatchedView) (acked : List ℕ) → watched ≡ replicate group_size (unheard edges) → acked ≡ replicate edges 0
     → numbers_of (record { stage = stage; part = part; watched = watched; acked = acked; term = 1; leader = Some 0 }) ≡ new_controller
 opens stage part edges watched acked ew ea =
     (λ i. numbers_of (record { stage = stage; part = part; watched = ew i; acked = ea i; term = 1; leader = Some 0 }))
@@ -67,16 +67,16 @@ leads_is (Some d) c = refl
 
 -- ---- one replica changed
 
-abbrev pub changed : ControllerView → ℕ → WatchedView → ControllerView
+abbrev pub changed : ControllerView → ℕ → TrioWatchedView → ControllerView
 changed v c w = record v { watched = slice_set v.watched c w }
 
-push : {Y : Type 0} (g : WatchedView → Y) (b : Bool) (w u : WatchedView) → g (if b then w else u) ≡ (if b then g w else g u)
+push : {Y : Type 0} (g : TrioWatchedView → Y) (b : Bool) (w u : TrioWatchedView) → g (if b then w else u) ≡ (if b then g w else g u)
 push g true w u = refl
 push g false w u = refl
 
 module _ (v : ControllerView) (c : ℕ) (there : c < length v.watched) where
   -- what is the same of the replica as before is so of all
-  stays : {Y : Type 0} (g : WatchedView → Y) (w : WatchedView) → g w ≡ g (watched_in v.watched c) → (d : ℕ) → g (watched_in (slice_set v.watched c w) d) ≡ g (watched_in v.watched d)
+  stays : {Y : Type 0} (g : TrioWatchedView → Y) (w : TrioWatchedView) → g w ≡ g (watched_in v.watched c) → (d : ℕ) → g (watched_in (slice_set v.watched c w) d) ≡ g (watched_in v.watched d)
   stays g w same d =
       ap g (at_set v.watched c w (unheard 0) there d)
       ∙ if_elim (λ u. g u ≡ g (watched_in v.watched d)) (d == c) w (watched_in v.watched d)
@@ -84,9 +84,9 @@ module _ (v : ControllerView) (c : ℕ) (there : c < length v.watched) where
 
   pub downed_is : numbers_of (changed v c (record (watched_in v.watched c) { up = false })) ≡ downed c (numbers_of v)
   downed_is =
-      let w : WatchedView = record (watched_in v.watched c) { up = false } in
+      let w : TrioWatchedView = record (watched_in v.watched c) { up = false } in
       λ i. record {
-        up = λ d. (ap (λ (u : WatchedView). u.up) (at_set v.watched c w (unheard 0) there d) ∙ push (λ u. u.up) (d == c) w (watched_in v.watched d)) i;
+        up = λ d. (ap (λ (u : TrioWatchedView). u.up) (at_set v.watched c w (unheard 0) there d) ∙ push (λ u. u.up) (d == c) w (watched_in v.watched d)) i;
         reports = λ d q. stays (λ u. slice_index u.reports q) w refl d i;
         acked = numbers_in v.acked;
         term = v.term;
@@ -98,9 +98,9 @@ module _ (v : ControllerView) (c : ℕ) (there : c < length v.watched) where
   reported_is q k inside =
       let u = watched_in v.watched c in
       let most = max (slice_index u.reports q) k in
-      let w : WatchedView = record u { reports = slice_set u.reports q most } in
+      let w : TrioWatchedView = record u { reports = slice_set u.reports q most } in
       let at : (d : ℕ) → numbers_in (watched_in (slice_set v.watched c w) d).reports ≡ (if d == c then numbers_in w.reports else numbers_in (watched_in v.watched d).reports) =
-      λ d. ap (λ (z : WatchedView). numbers_in z.reports) (at_set v.watched c w (unheard 0) there d) ∙ push (λ z. numbers_in z.reports) (d == c) w (watched_in v.watched d) in
+      λ d. ap (λ (z : TrioWatchedView). numbers_in z.reports) (at_set v.watched c w (unheard 0) there d) ∙ push (λ z. numbers_in z.reports) (d == c) w (watched_in v.watched d) in
       let own : numbers_in w.reports ≡ with_at (numbers_in u.reports) q most = λ i j. at_set u.reports q most 0 inside j i in
       λ i. record {
         up = λ d. stays (λ z. z.up) w refl d i;

@@ -7,7 +7,7 @@ use Rattle.trio_machine.specs.Numbers.{Controller, control_at, group_size}
 use Rattle.trio_machine.specs.declared.node.TrioNode.{TrioNode}
 
 -- what a controller knows of one replica: whether it is up, and up to which number it reported each in-edge
-pub record WatchedView : Type 0 where
+pub record TrioWatchedView : Type 0 where
   pub up : Bool
   pub reports : List ℕ
 
@@ -16,13 +16,13 @@ pub record WatchedView : Type 0 where
 pub record ControllerView : Type 0 where
   pub stage : ℕ
   pub part : ℕ
-  pub watched : List WatchedView
+  pub watched : List TrioWatchedView
   pub acked : List ℕ
   pub term : ℕ
   pub leader : Option ℕ
 
 -- a replica that is up and of which nothing was heard
-abbrev pub unheard : ℕ → WatchedView
+abbrev pub unheard : ℕ → TrioWatchedView
 unheard edges = record { up = true; reports = replicate edges 0 }
 
 -- a controller with so many in-edges as it opens
@@ -31,24 +31,24 @@ opening stage part edges =
     record { stage = stage; part = part; watched = replicate group_size (unheard edges); acked = replicate edges 0; term = 1; leader = Some 0 }
 
 -- what is known of replica c
-abbrev pub watched_in : List WatchedView → ℕ → WatchedView
+abbrev pub watched_in : List TrioWatchedView → ℕ → TrioWatchedView
 watched_in watched c = slice_index_or watched c (unheard 0)
 
 -- replica c is there, and up
-pub record IsUp (watched : List WatchedView) (c : ℕ) : Type 0 where
+pub record IsUp (watched : List TrioWatchedView) (c : ℕ) : Type 0 where
   pub there : c < length watched
   pub up : IsTrue (watched_in watched c).up
 
 -- who leads is up, and where nobody leads nobody is
-abbrev pub IsLed : Option ℕ → List WatchedView → Type 0
+abbrev pub IsLed : Option ℕ → List TrioWatchedView → Type 0
 IsLed leader watched = MatchOption leader ((c : ℕ) → IsUp watched c → ⊥) (IsUp watched)
 
 -- each replica is known by as many reports as there are in-edges
-abbrev pub HaveReports : ℕ → List WatchedView → Type 0
+abbrev pub HaveReports : ℕ → List TrioWatchedView → Type 0
 HaveReports edges watched = (c : ℕ) → c < length watched → length (watched_in watched c).reports ≡ edges
 
 -- what is true of each controller
-pub record IsControl (at : ℕ) (watched : List WatchedView) (acked : List ℕ) (leader : Option ℕ) : Type 0 where
+pub record IsControl (at : ℕ) (watched : List TrioWatchedView) (acked : List ℕ) (leader : Option ℕ) : Type 0 where
   pub stage : 1 ≤ at
   pub few : length acked ≤ 8
   pub three : length watched ≡ group_size
@@ -82,11 +82,11 @@ numbers_of c = record {
 -- ---- what is heard
 
 -- a replica that is up reports an in-edge up to a number; what was reported never falls
-abbrev pub heard : WatchedView → ℕ → ℕ → WatchedView
+abbrev pub heard : TrioWatchedView → ℕ → ℕ → TrioWatchedView
 heard w q k = if w.up then record w { reports = slice_set w.reports q (max (slice_index w.reports q) k) } else w
 
 -- the least report of in-edge q by those of the first n replicas that are up; none where none is up
-abbrev pub least_report : List WatchedView → (q n : ℕ) → Option ℕ
+abbrev pub least_report : List TrioWatchedView → (q n : ℕ) → Option ℕ
 least_report watched q zero = None
 least_report watched q (suc n) =
     if (watched_in watched n).up then Some (least_with (least_report watched q n) (slice_index (watched_in watched n).reports q)) else least_report watched q n

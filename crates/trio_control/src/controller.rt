@@ -16,7 +16,7 @@ use std::alloc::Global;
 use std::marker::Model;
 use trio_machine::TrioNode;
 use tuple_edge::OutOfMemory;
-use watched::Watched;
+use watched::TrioWatched;
 
 /// The controller of the group of three that runs one partition of one stage. Stages count from 1,
 /// partitions, replicas, and in-edges by the partition that they come from, from 0. Numbers of items
@@ -25,7 +25,7 @@ use watched::Watched;
 pub struct TrioControl {
     stage: u32,
     part: u32,
-    watched: Vec<Watched>,
+    watched: Vec<TrioWatched>,
     acked: Vec<u64>,
     term: u64,
     leader: Option<u32>,
@@ -49,12 +49,12 @@ impl Model for TrioControl {
 }
 
 // What is known of the three replicas as a group with so many in-edges opens.
-fn new_watched(alloc: Global, edges: usize) -> Result<Vec<Watched>, OutOfMemory>
+fn new_watched(alloc: Global, edges: usize) -> Result<Vec<TrioWatched>, OutOfMemory>
     ensures { IfOk result (λ watched. watched.items ≡ replicate group_size (unheard edges)) }
 {
     let mut watched = Vec::with_capacity(alloc, GROUP_SIZE as usize)?;
     for _copy in 0..GROUP_SIZE {
-        watched.push_reserved(Watched::new(alloc, edges)?);
+        watched.push_reserved(TrioWatched::new(alloc, edges)?);
     }
     Ok(watched)
 }

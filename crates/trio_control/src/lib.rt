@@ -23,7 +23,7 @@ pub use controller::TrioControl;
 pub use egress::TrioEgress;
 pub use group::GROUP_SIZE;
 pub use ingress::TrioIngress;
-pub use outbox::TrioOutbox;
+pub use outbox::{MOST_PACKETS, TrioOutbox};
 pub use replica::TrioReplica;
 // Contracts see what a replica is made of.
 #[doc(hidden)]

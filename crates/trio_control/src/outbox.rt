@@ -6,6 +6,9 @@ use std::marker::Model;
 use trio_machine::{TrioBody, TrioNode};
 use tuple_edge::OutOfMemory;
 
+/// No event of a node of a group sends more packets.
+pub const MOST_PACKETS: usize = 25;
+
 /// The packets that a node has to send, in order, each with its receiver.
 #[derive(Drop)]
 pub struct TrioOutbox {

@@ -5,7 +5,7 @@ ghost use Rattle.trio_control.specs.ReplicaView.{copies_of, node_of, partition_o
 ghost use Rattle.trio_machine.specs.Numbers.{control_at};
 
 use crate::GROUP_SIZE;
-use partition_step::Task;
+use partition_step::PartitionTask;
 use trio_machine::TrioNode;
 
 /// Which replica of which partition it is, from how many sources the partition takes, and what it does
@@ -16,7 +16,7 @@ pub struct TrioRole {
     pub part: u32,
     pub copy: u32,
     pub sources: u32,
-    pub task: Task,
+    pub task: PartitionTask,
 }
 
 impl TrioRole {

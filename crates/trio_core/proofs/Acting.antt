@@ -32,8 +32,8 @@ use Rattle.trio_core.specs.Stands.{MemberStands}
 use Rattle.trio_core.specs.Steps.{HasActed}
 use Rattle.trio_core.specs.declared.member.Member.{Member}
 use Rattle.trio_core.specs.declared.member.Member.TheVariants as member
-use Rattle.trio_core.specs.declared.task.Task.{Task}
-use Rattle.trio_core.specs.declared.task.Task.TheVariants as task
+use Rattle.trio_core.specs.declared.task.TrioTask.{TrioTask}
+use Rattle.trio_core.specs.declared.task.TrioTask.TheVariants as task
 use Rattle.trio_core.proofs.Contents.{acts_in, inputs_of_contents, name_in}
 
 -- ---- what was appended
@@ -57,7 +57,7 @@ took old new from b sent h = λ plan inputs x a k.
     record { done = z.0; does = ap (λ o. does f n o x) k.act.1 ∙ z.1; stands = z.2; packets = z.3 }
 
 -- another act was done, and this was sent
-pub did : (t : Task) (act : Act) (old new : Member) (sent : Log) → ((plan : PlanView) (inputs : List Input) (x : Node) (a : Act) → IsActOf plan inputs (name_of old) t x a → a ≡ act)
+pub did : (t : TrioTask) (act : Act) (old new : Member) (sent : Log) → ((plan : PlanView) (inputs : List Input) (x : Node) (a : Act) → IsActOf plan inputs (name_of old) t x a → a ≡ act)
     → ((plan : PlanView) (inputs : List Input) → IsTrioPlan plan → IsStep plan inputs (name_of old) (MemberStands plan inputs old) (MemberStands plan inputs new) act sent)
     → ActsSo t old new sent
 did t act old new sent same h = λ plan inputs x a k.
@@ -68,7 +68,7 @@ did t act old new sent same h = λ plan inputs x a k.
     record { done = z.0; does = ap (λ o. does f n o x) e ∙ z.1; stands = z.2; packets = z.3 }
 
 -- the machine refuses what is asked
-pub refuses : (t : Task) (act : Act) (m : Member) (r : Refusal) → ((plan : PlanView) (inputs : List Input) (x : Node) (a : Act) → IsActOf plan inputs (name_of m) t x a → a ≡ act)
+pub refuses : (t : TrioTask) (act : Act) (m : Member) (r : Refusal) → ((plan : PlanView) (inputs : List Input) (x : Node) (a : Act) → IsActOf plan inputs (name_of m) t x a → a ≡ act)
     → ((plan : PlanView) (inputs : List Input) → IsTrioPlan plan → IsRefused plan inputs (name_of m) (MemberStands plan inputs m) act r)
     → (plan : PlanView) (inputs : List Input) (x : Node) (a : Act) → IsAsked plan inputs t m x a → does (trio_flow plan inputs) (name_of m) a x ≡ Err r
 refuses t act m r same h = λ plan inputs x a k. ap (λ o. does (trio_flow plan inputs) (name_of m) o x) (same plan inputs x a k.act) ∙ h plan inputs k.plan_is x k.stands
@@ -117,7 +117,7 @@ gone_dies v gone plan inputs is x stands = ap as_replica (dies v.running gone (r
 
 -- ---- a station
 
-pub station_acted : (t : Task) (self : StationView) (name : TrioNode) (old new : Member) (before held after : Log) → (record { name = name; member = contents_of old; sent = before }) ≡ self → held ≡ before
+pub station_acted : (t : TrioTask) (self : StationView) (name : TrioNode) (old new : Member) (before held after : Log) → (record { name = name; member = contents_of old; sent = before }) ≡ self → held ≡ before
     → after ≡ held ++ appended held after → inputs_in new ≡ inputs_in old → name_of new ≡ name_of old → ActsSo t old new (appended held after) → HasActed t self (record { name = name; member = contents_of new; sent = after })
 station_acted t self name old new before held after same room more inputs member acts = subst (λ (k : StationView). HasActed t k (record { name = name; member = contents_of new; sent = after })) same (record {
   name = refl;

@@ -44,7 +44,7 @@ use Rattle.trio_core.specs.CoreView.{name_of}
 use Rattle.trio_core.specs.Stands.{AreTimely}
 use Rattle.trio_core.specs.declared.member.Member.{Member}
 use Rattle.trio_core.specs.declared.member.Member.TheVariants as member
-use Rattle.trio_core.specs.declared.task.Task.TheVariants as task
+use Rattle.trio_core.specs.declared.task.TrioTask.TheVariants as task
 
 -- what a node is asked to take stands where it may
 pub carried : (from : TrioNode) (b : TrioBody) (m : Member) (h : MayBeAsked (task.Take from b) m) → IsCarried (trio_flow h.plan h.inputs) from (name_of m) (message_of b)

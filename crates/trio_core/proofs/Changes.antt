@@ -2,11 +2,11 @@
 use Rattle.std.specs.Prelude.{◌≡◌, ◌≢◌, Some}
 use Rattle.trio_machine.specs.declared.node.TrioNode.{TrioNode}
 use Rattle.trio_core.specs.CoreView.{CoreView, StationView, found}
-use Rattle.trio_core.specs.declared.task.Task.{Task}
+use Rattle.trio_core.specs.declared.task.TrioTask.{TrioTask}
 use Rattle.trio_core.specs.Steps.{HasActed}
 
 -- the station of a node did a task, and the others stayed as they were
-pub record HasChanged (n : TrioNode) (t : Task) (old new : CoreView) : Type 0 where
+pub record HasChanged (n : TrioNode) (t : TrioTask) (old new : CoreView) : Type 0 where
   pub plan : new.plan ≡ old.plan
   pub before : StationView
   pub after : StationView

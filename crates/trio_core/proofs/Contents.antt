@@ -27,7 +27,7 @@ use Rattle.trio_core.specs.Stands.{MemberStands}
 use Rattle.trio_core.specs.declared.error.TrioError.{TrioError}
 use Rattle.trio_core.specs.declared.member.Member.{Member}
 use Rattle.trio_core.specs.declared.member.Member.TheVariants as member
-use Rattle.trio_core.specs.declared.task.Task.{Task}
+use Rattle.trio_core.specs.declared.task.TrioTask.{TrioTask}
 
 map_twice : {X : Type 0} (f : X → X) → ((x : X) → f (f x) ≡ f x) → (xs : List X) → map f (map f xs) ≡ map f xs
 map_twice f h [] = refl
@@ -96,7 +96,7 @@ module _ (plan : PlanView) (inputs : List Input) where
   stands_in (member.Control c) x h = h
   stands_in (member.Egress e) x h = h
 
-  asked_out : (t : Task) (m : Member) (x : Node) (a : Act) → IsAsked plan inputs t (contents_of m) x a → IsAsked plan inputs t m x a
+  asked_out : (t : TrioTask) (m : Member) (x : Node) (a : Act) → IsAsked plan inputs t (contents_of m) x a → IsAsked plan inputs t m x a
   asked_out t (member.Ingress i) x a k = record { plan_is = k.plan_is; times = k.times; act = k.act; stands = ingress_from i x k.stands; asks = k.asks }
   asked_out t (member.Replica r) x a k = record { plan_is = k.plan_is; times = k.times; act = k.act; stands = replica_from r x k.stands; asks = k.asks }
   asked_out t (member.Control c) x a k = record { plan_is = k.plan_is; times = k.times; act = k.act; stands = k.stands; asks = k.asks }
@@ -114,14 +114,14 @@ inputs_of_contents (member.Replica r) = refl
 inputs_of_contents (member.Control c) = refl
 inputs_of_contents (member.Egress e) = refl
 
-pub may_be_asked_out : (t : Task) (m : Member) → MayBeAsked t (contents_of m) → MayBeAsked t m
+pub may_be_asked_out : (t : TrioTask) (m : Member) → MayBeAsked t (contents_of m) → MayBeAsked t m
 may_be_asked_out t m h = record { plan = h.plan; inputs = h.inputs; numbers = h.numbers; act = h.act; asked = asked_out h.plan h.inputs t m h.numbers h.act h.asked }
 
 -- what a node did, its room left aside
-pub acts_in : (t : Task) (old new : Member) (sent : Log) → ActsSo t old new sent → ActsSo t (contents_of old) (contents_of new) sent
+pub acts_in : (t : TrioTask) (old new : Member) (sent : Log) → ActsSo t old new sent → ActsSo t (contents_of old) (contents_of new) sent
 acts_in t old new sent h = λ plan inputs x a k.
     let z = h plan inputs x a (asked_out plan inputs t old x a k) in
     record { done = z.done; does = subst (λ n. does (trio_flow plan inputs) n a x ≡ Ok z.done) (sym (name_in old)) z.does; stands = stands_in plan inputs new z.done.0 z.stands; packets = z.packets }
 
-pub refused_in : (t : Task) (m : Member) (e : TrioError) → IsRefusedSo t m e → IsRefusedSo t (contents_of m) e
+pub refused_in : (t : TrioTask) (m : Member) (e : TrioError) → IsRefusedSo t m e → IsRefusedSo t (contents_of m) e
 refused_in t m e h = λ plan inputs x a k. subst (λ n. IsRefusal (does (trio_flow plan inputs) n a x) e) (sym (name_in m)) (h plan inputs x a (asked_out plan inputs t m x a k))

@@ -18,7 +18,7 @@ use Rattle.trio_core.specs.Stands.{AreTimely, IsCore, IsThere, StandsFor, Statio
 use Rattle.trio_core.specs.Steps.{ActedAt, GoesOn, IsApplied, IsNamed, IsTaskOf}
 use Rattle.trio_core.specs.declared.error.TrioError.{TrioError}
 use Rattle.trio_core.specs.declared.error.TrioError.TheVariants as error
-use Rattle.trio_core.specs.declared.task.Task.{Task}
+use Rattle.trio_core.specs.declared.task.TrioTask.{TrioTask}
 use Rattle.trio_core.proofs.Placing.{changed, found_is, inputs_same}
 use Rattle.trio_core.proofs.Stepping.{asked_at, goes_on, named_there}
 use Rattle.trio_machine.proofs.Steps.{at_there}
@@ -43,7 +43,7 @@ core_on old new e is named goes plan_same inputs_is =
       stands = z.2;
     }
 
-pub applied : (old new : CoreView) (t : Task) (e : TrioEvent) → IsCore old → IsNamed (flow_in old) e → IsTaskOf old e t → HasChanged (at_node e) t old new → IsCore new × IsApplied old new e
+pub applied : (old new : CoreView) (t : TrioTask) (e : TrioEvent) → IsCore old → IsNamed (flow_in old) e → IsTaskOf old e t → HasChanged (at_node e) t old new → IsCore new × IsApplied old new e
 applied old new t e is named task h =
     let goes = goes_on old new t e is.plan is.times named h task in
     let inputs = inputs_same (at_node e) t old new h in
@@ -65,7 +65,7 @@ unfolding step
 refused_early core s e x h = refusal_on (acted (flow_in core) (at_node e) s) (λ r. refl) (act_of (flow_in core) s e) x h
 
 -- what the node refuses
-pub refused_there : (core : CoreView) (t : Task) (e : TrioEvent) (at : StationView) (x : TrioError) → IsTrioPlan core.plan → AreTimely (inputs_of core) → IsNamed (flow_in core) e → IsTaskOf core e t → found (at_node e) core.stations ≡ Some at
+pub refused_there : (core : CoreView) (t : TrioTask) (e : TrioEvent) (at : StationView) (x : TrioError) → IsTrioPlan core.plan → AreTimely (inputs_of core) → IsNamed (flow_in core) e → IsTaskOf core e t → found (at_node e) core.stations ≡ Some at
     → IsRefusedSo t at.member x → (s : State) → StandsFor core s → IsSound (flow_in core) s → IsRefusal (step (flow_in core) s e) x
 unfolding step
 refused_there core t e at x is times named task here refused s stands sound =
@@ -89,7 +89,7 @@ is_there core is n has = go (found n core.stations) (is.stands n has)
     go None h = absurd h
     go (Some at) h = refl
 
-module _ (plan : PlanView) (xs : List StationView) (self : CoreView) (e : TrioEvent) (t : Task) (i : ℕ) (same : core_of plan xs ≡ self) (is : IsCore (core_of plan xs)) (named : IsNamed (flow_in self) e) (task : IsTaskOf self e t)
+module _ (plan : PlanView) (xs : List StationView) (self : CoreView) (e : TrioEvent) (t : TrioTask) (i : ℕ) (same : core_of plan xs ≡ self) (is : IsCore (core_of plan xs)) (named : IsNamed (flow_in self) e) (task : IsTaskOf self e t)
     (place : place_of (at_node e) xs ≡ Some i) where
   named_inside : IsNamed (flow_in (core_of plan xs)) e
   named_inside = subst (λ (k : CoreView). IsNamed (flow_in k) e) (sym same) named

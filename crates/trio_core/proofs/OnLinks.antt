@@ -17,8 +17,8 @@ use Rattle.trio_core.specs.Steps.{IsTaskOf}
 use Rattle.trio_core.specs.Taken.{IsMissing, IsPacketOf}
 use Rattle.trio_core.specs.declared.error.TrioError.{TrioError}
 use Rattle.trio_core.specs.declared.error.TrioError.TheVariants as error
-use Rattle.trio_core.specs.declared.task.Task.{Task}
-use Rattle.trio_core.specs.declared.task.Task.TheVariants as task
+use Rattle.trio_core.specs.declared.task.TrioTask.{TrioTask}
+use Rattle.trio_core.specs.declared.task.TrioTask.TheVariants as task
 use Rattle.trio_core.proofs.Lists.{nth_at, nth_none, pairwise_length}
 
 -- ---- the search of a log
@@ -112,7 +112,7 @@ module _ (core : CoreView) (from to : TrioNode) (k : ℕ) (has : HasNode (flow_i
   link_stands : (s : State) → StandsFor core s → StationStands core.plan (inputs_of core) from at s
   link_stands s stands = subst (λ o. IsThere core.plan (inputs_of core) from o s) here (stands from has)
 
-  pub taken_found : (t : Task) → IsPacketOf (bodies_to to at.sent) from k t → IsTaskOf core (event.Take from to k) t
+  pub taken_found : (t : TrioTask) → IsPacketOf (bodies_to to at.sent) from k t → IsTaskOf core (event.Take from to k) t
   taken_found (task.Take sender b) h s stands =
       let bodies = bodies_to to at.sent in
       let m = nth_at (BodyStands core.plan (inputs_of core)) bodies (s.sent from to) k b ((link_stands s stands).sent to) h.1 in (

@@ -10,7 +10,7 @@ use Rattle.trio_machine.specs.declared.node.TrioNode.TheVariants as node
 use Rattle.trio_machine.proofs.Names.{is_node-true}
 use Rattle.trio_core.specs.CoreView.{CoreView, StationView, core_of, found, inputs_at, inputs_of, is_at, place_of}
 use Rattle.trio_core.specs.Steps.{ActedAt}
-use Rattle.trio_core.specs.declared.task.Task.{Task}
+use Rattle.trio_core.specs.declared.task.TrioTask.{TrioTask}
 use Rattle.trio_core.proofs.Lists.{length_set, same_there, set_other, set_same}
 use Rattle.trio_core.proofs.Changes.{HasChanged}
 
@@ -85,7 +85,7 @@ found_other m n xs i x y e at name apart = ap (option_and_then (slice_get (slice
     go None q = refl
     go (Some j) q = set_other xs i j y (elsewhere j q)
 
-pub changed : (plan : PlanView) (n : TrioNode) (t : Task) (xs news : List StationView) (i : ℕ) → place_of n xs ≡ Some i → ActedAt t i xs news → HasChanged n t (core_of plan xs) (core_of plan news)
+pub changed : (plan : PlanView) (n : TrioNode) (t : TrioTask) (xs news : List StationView) (i : ℕ) → place_of n xs ≡ Some i → ActedAt t i xs news → HasChanged n t (core_of plan xs) (core_of plan news)
 changed plan n t xs news i e h = record {
   plan = refl;
   before = h.before;
@@ -97,7 +97,7 @@ changed plan n t xs news i e h = record {
 }
 
 -- the inputs stay
-pub inputs_same : (n : TrioNode) (t : Task) (old new : CoreView) → HasChanged n t old new → inputs_of new ≡ inputs_of old
+pub inputs_same : (n : TrioNode) (t : TrioTask) (old new : CoreView) → HasChanged n t old new → inputs_of new ≡ inputs_of old
 inputs_same n t old new h = go (is_node node.Ingress n) refl
   where
     go : (b : Bool) → is_node node.Ingress n ≡ b → inputs_of new ≡ inputs_of old

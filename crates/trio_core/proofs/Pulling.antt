@@ -42,8 +42,8 @@ use Rattle.trio_core.specs.declared.error.TrioError.{TrioError}
 use Rattle.trio_core.specs.declared.error.TrioError.TheVariants as error
 use Rattle.trio_core.specs.declared.member.Member.{Member}
 use Rattle.trio_core.specs.declared.member.Member.TheVariants as member
-use Rattle.trio_core.specs.declared.task.Task.{Task}
-use Rattle.trio_core.specs.declared.task.Task.TheVariants as task
+use Rattle.trio_core.specs.declared.task.TrioTask.{TrioTask}
+use Rattle.trio_core.specs.declared.task.TrioTask.TheVariants as task
 use Rattle.trio_core.proofs.Contents.{contents_twice, few}
 
 module _ (plan : PlanView) (inputs : List Input) where
@@ -185,7 +185,7 @@ module _ (plan : PlanView) (inputs : List Input) (s : State) (from to : TrioNode
   marked_there : (c : ConsumerView) → consumer_in receiver ≡ Some c → part_of from < length c.merge.marks → machine.mark_of (part_of from) to (s.nodes to) ≡ Some (mark_of c.merge (part_of from))
   marked_there c e l = subst (λ n. machine.mark_of (part_of from) n (s.nodes to) ≡ Some (mark_of c.merge (part_of from))) receiver_is (marked plan inputs receiver (s.nodes to) c (part_of from) there_to e l)
 
-  pub pull_asked : (op : Option ProducerView) (oc : Option ConsumerView) → option_map contents_of op ≡ producer_in sender → oc ≡ consumer_in receiver → (t : Task) → IsPullOf op (part_of to) oc (part_of from) t
+  pub pull_asked : (op : Option ProducerView) (oc : Option ConsumerView) → option_map contents_of op ≡ producer_in sender → oc ≡ consumer_in receiver → (t : TrioTask) → IsPullOf op (part_of to) oc (part_of from) t
       → (a : Act) × (act_of (trio_flow plan inputs) s (event.Pull from to) ≡ Ok a) × IsActOf plan inputs to t (s.nodes to) a
   pull_asked (Some p) (Some c) ep ec (task.Pull k i) h =
       let q = part_of from in
@@ -205,11 +205,11 @@ module _ (plan : PlanView) (inputs : List Input) (s : State) (from to : TrioNode
   pull_asked (Some p) (Some c) ep ec task.Kill h = absurd h
   pull_asked None oc ep ec t h = absurd (no_producer oc t h)
     where
-      no_producer : (oc : Option ConsumerView) (t : Task) → IsPullOf None (part_of to) oc (part_of from) t → ⊥
+      no_producer : (oc : Option ConsumerView) (t : TrioTask) → IsPullOf None (part_of to) oc (part_of from) t → ⊥
       no_producer oc t h = h
   pull_asked (Some p) None ep ec t h = absurd (no_consumer t h)
     where
-      no_consumer : (t : Task) → IsPullOf (Some p) (part_of to) None (part_of from) t → ⊥
+      no_consumer : (t : TrioTask) → IsPullOf (Some p) (part_of to) None (part_of from) t → ⊥
       no_consumer t h = h
 
   pub pull_refused : (op : Option ProducerView) (oc : Option ConsumerView) → option_map contents_of op ≡ producer_in sender → oc ≡ consumer_in receiver → (x : TrioError) → IsNoPull op (part_of to) oc (part_of from) x
@@ -250,7 +250,7 @@ module _ (core : CoreView) (from to : TrioNode) (named : IsNamed (flow_in core) 
   receiver_stands : (s : State) → StandsFor core s → StationStands core.plan (inputs_of core) to receiver s
   receiver_stands s stands = subst (λ o. IsThere core.plan (inputs_of core) to o s) there_to (stands to named.1)
 
-  pub pull_found : (op : Option ProducerView) (oc : Option ConsumerView) → option_map contents_of op ≡ producer_in sender.member → oc ≡ consumer_in receiver.member → (t : Task) → IsPullOf op (part_of to) oc (part_of from) t
+  pub pull_found : (op : Option ProducerView) (oc : Option ConsumerView) → option_map contents_of op ≡ producer_in sender.member → oc ≡ consumer_in receiver.member → (t : TrioTask) → IsPullOf op (part_of to) oc (part_of from) t
       → IsTaskOf core (event.Pull from to) t
   pull_found op oc ep ec t h s stands =
       let a = sender_stands s stands in
@@ -266,12 +266,12 @@ module _ (core : CoreView) (from to : TrioNode) (named : IsNamed (flow_in core) 
 
   -- the same of what was found, under other names for the edge's ends
   pub pull_asked_so : (op : Option ProducerView) (oc : Option ConsumerView) → option_map contents_of op ≡ producer_in sender.member → oc ≡ consumer_in receiver.member → (t q : ℕ) → t ≡ part_of to → q ≡ part_of from
-      → (r : Result Task TrioError) → IfOk r (IsPullOf op t oc q) → IfOk r (IsTaskOf core (event.Pull from to))
+      → (r : Result TrioTask TrioError) → IfOk r (IsPullOf op t oc q) → IfOk r (IsTaskOf core (event.Pull from to))
   pull_asked_so op oc ep ec t q et eq (Ok k) h = pull_found op oc ep ec k (subst (λ n. IsPullOf op n oc (part_of from) k) et (subst (λ n. IsPullOf op t oc n k) eq h))
   pull_asked_so op oc ep ec t q et eq (Err x) h = h
 
   pub pull_refused_so : (op : Option ProducerView) (oc : Option ConsumerView) → option_map contents_of op ≡ producer_in sender.member → oc ≡ consumer_in receiver.member → (t q : ℕ) → t ≡ part_of to → q ≡ part_of from
-      → (r : Result Task TrioError) → IfErr r (IsNoPull op t oc q) → IfErr r (λ x. (s : State) → StandsFor core s → IsRefusal (act_of (flow_in core) s (event.Pull from to)) x)
+      → (r : Result TrioTask TrioError) → IfErr r (IsNoPull op t oc q) → IfErr r (λ x. (s : State) → StandsFor core s → IsRefusal (act_of (flow_in core) s (event.Pull from to)) x)
   pull_refused_so op oc ep ec t q et eq (Ok k) h = h
   pull_refused_so op oc ep ec t q et eq (Err x) h = pull_missing op oc ep ec x (subst (λ n. IsNoPull op n oc (part_of from) x) et (subst (λ n. IsNoPull op t oc n x) eq h))
 

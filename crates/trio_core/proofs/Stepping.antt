@@ -26,7 +26,7 @@ use Rattle.trio_core.specs.CoreView.{CoreView, StationView, flow_in, found, inpu
 use Rattle.trio_core.specs.Sent.{bodies_to}
 use Rattle.trio_core.specs.Stands.{AreTimely, IsThere, MemberStands, StandsFor, StationStands}
 use Rattle.trio_core.specs.Steps.{GoesOn, HasActed, IsNamed, IsTaskOf}
-use Rattle.trio_core.specs.declared.task.Task.{Task}
+use Rattle.trio_core.specs.declared.task.TrioTask.{TrioTask}
 use Rattle.trio_core.proofs.Placing.{inputs_same}
 use Rattle.trio_core.proofs.Sending.{sent_more}
 use Rattle.trio_core.proofs.Changes.{HasChanged}
@@ -57,7 +57,7 @@ there_at plan inputs n None s h = absurd h
 there_at plan inputs n (Some at) s h = (at, refl, h)
 
 -- the station of an event's node may be asked what the event asks
-pub asked_at : (core : CoreView) (e : TrioEvent) (t : Task) (at : StationView) → IsTrioPlan core.plan → AreTimely (inputs_of core) → IsNamed (flow_in core) e → found (at_node e) core.stations ≡ Some at
+pub asked_at : (core : CoreView) (e : TrioEvent) (t : TrioTask) (at : StationView) → IsTrioPlan core.plan → AreTimely (inputs_of core) → IsNamed (flow_in core) e → found (at_node e) core.stations ≡ Some at
     → (s : State) → StandsFor core s → IsSound (flow_in core) s → (a : Act) → act_of (flow_in core) s e ≡ Ok a → IsActOf core.plan (inputs_of core) (at_node e) t (s.nodes (at_node e)) a
     → IsAsked core.plan (inputs_of core) t at.member (s.nodes (at_node e)) a
 asked_at core e t at is times named here s stands sound a done act =
@@ -76,7 +76,7 @@ asked_at core e t at is times named here s stands sound a done act =
 -- ---- the next state
 
 -- the node itself stands for its numbers and messages after the act
-here_after : (plan : PlanView) (inputs : List Input) (n : TrioNode) (s : State) (x : Node) (out : List Envelope) (t : Task) (old new : StationView) (h : HasActed t old new) → StationStands plan inputs n old s
+here_after : (plan : PlanView) (inputs : List Input) (n : TrioNode) (s : State) (x : Node) (out : List Envelope) (t : TrioTask) (old new : StationView) (h : HasActed t old new) → StationStands plan inputs n old s
     → MemberStands plan inputs new.member x → ArePacketsFor plan inputs h.sent out → StationStands plan inputs n new (put n s x out)
 here_after plan inputs n s x out t old new h stood member packets = record {
   name = h.member ∙ stood.name;
@@ -96,7 +96,7 @@ elsewhere_after plan inputs m n s x out (Some at) apart h = record {
 }
 
 -- the core goes on as the machine does
-pub goes_on : (old new : CoreView) (t : Task) (e : TrioEvent) → IsTrioPlan old.plan → AreTimely (inputs_of old) → IsNamed (flow_in old) e → HasChanged (at_node e) t old new → IsTaskOf old e t → GoesOn old new e
+pub goes_on : (old new : CoreView) (t : TrioTask) (e : TrioEvent) → IsTrioPlan old.plan → AreTimely (inputs_of old) → IsNamed (flow_in old) e → HasChanged (at_node e) t old new → IsTaskOf old e t → GoesOn old new e
 unfolding step
 goes_on old new t e is times named h task s stands sound =
     let n = at_node e in

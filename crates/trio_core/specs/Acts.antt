@@ -23,8 +23,8 @@ use Rattle.trio_core.specs.Refusals.{IsRefusal}
 use Rattle.trio_core.specs.Stands.{AreTimely, MemberStands}
 use Rattle.trio_core.specs.declared.error.TrioError.{TrioError}
 use Rattle.trio_core.specs.declared.member.Member.{Member}
-use Rattle.trio_core.specs.declared.task.Task.{Task}
-use Rattle.trio_core.specs.declared.task.Task.TheVariants as task
+use Rattle.trio_core.specs.declared.task.TrioTask.{TrioTask}
+use Rattle.trio_core.specs.declared.task.TrioTask.TheVariants as task
 
 -- the partition of a node that merges
 abbrev pub merges_at : PlanView → List Input → TrioNode → Partition
@@ -39,7 +39,7 @@ IsNextAt plan inputs n q i None = ⊥
 IsNextAt plan inputs n q i (Some mark) = item_at (items_on plan inputs (in_edge (merges_at plan inputs n) q)) (mark + 1) ≡ Some i
 
 -- the machine's act that a task stands for, at a node of these numbers
-abbrev pub IsActOf : PlanView → List Input → TrioNode → Task → Node → Act → Type 0
+abbrev pub IsActOf : PlanView → List Input → TrioNode → TrioTask → Node → Act → Type 0
 IsActOf plan inputs n (task.Take from b) x a = (m : Message) × (a ≡ Takes from m) × BodyStands plan inputs b m
 IsActOf plan inputs n task.Work x a = a ≡ Works
 IsActOf plan inputs n task.Make x a = a ≡ Makes
@@ -47,7 +47,7 @@ IsActOf plan inputs n task.Kill x a = a ≡ Dies
 IsActOf plan inputs n (task.Pull q i) x a = (a ≡ Pulls q) × IsNextAt plan inputs n q i (mark_of q n x)
 
 -- A node stands for numbers at which the act that a task stands for may be asked of it.
-pub record IsAsked (plan : PlanView) (inputs : List Input) (t : Task) (m : Member) (x : Node) (a : Act) : Type 0 where
+pub record IsAsked (plan : PlanView) (inputs : List Input) (t : TrioTask) (m : Member) (x : Node) (a : Act) : Type 0 where
   pub plan_is : IsTrioPlan plan
   pub times : AreTimely inputs
   pub act : IsActOf plan inputs (name_of m) t x a
@@ -55,7 +55,7 @@ pub record IsAsked (plan : PlanView) (inputs : List Input) (t : Task) (m : Membe
   pub asks : Asks (trio_flow plan inputs) (name_of m) x a
 
 -- so it does in some plan, for some inputs and numbers
-pub record MayBeAsked (t : Task) (m : Member) : Type 0 where
+pub record MayBeAsked (t : TrioTask) (m : Member) : Type 0 where
   pub plan : PlanView
   pub inputs : List Input
   pub numbers : Node
@@ -70,11 +70,11 @@ pub record IsDone (plan : PlanView) (inputs : List Input) (m : Member) (sent : L
   pub packets : ArePacketsFor plan inputs sent done.1
 
 -- The node did its part of the machine's step: whatever numbers it stood for, in whatever plan.
-abbrev pub ActsSo : Task → Member → Member → Log → Type 0
+abbrev pub ActsSo : TrioTask → Member → Member → Log → Type 0
 ActsSo t old new sent = (plan : PlanView) (inputs : List Input) (x : Node) (a : Act) → IsAsked plan inputs t old x a → IsDone plan inputs new sent x a (name_of old)
 
 -- the machine refuses the act, for this reason
-abbrev pub IsRefusedSo : Task → Member → TrioError → Type 0
+abbrev pub IsRefusedSo : TrioTask → Member → TrioError → Type 0
 IsRefusedSo t m e = (plan : PlanView) (inputs : List Input) (x : Node) (a : Act) → IsAsked plan inputs t m x a → IsRefusal (does (trio_flow plan inputs) (name_of m) a x) e
 
 -- the number of an acknowledgement is within its limit

@@ -7,8 +7,8 @@ use Rattle.flux_producer.specs.ProducerView.{ProducerView, buffer_at}
 use Rattle.merge_order.specs.MergeView.{mark_of}
 use Rattle.trio_core.specs.declared.error.TrioError.{TrioError}
 use Rattle.trio_core.specs.declared.error.TrioError.TheVariants as error
-use Rattle.trio_core.specs.declared.task.Task.{Task}
-use Rattle.trio_core.specs.declared.task.Task.TheVariants as task
+use Rattle.trio_core.specs.declared.task.TrioTask.{TrioTask}
+use Rattle.trio_core.specs.declared.task.TrioTask.TheVariants as task
 
 -- the item after the consumer's mark of in-edge q is kept on the producer's out-edge t
 pub record IsKept (p : ProducerView) (t : ℕ) (c : ConsumerView) (q : ℕ) (i : Item) : Type 0 where
@@ -17,7 +17,7 @@ pub record IsKept (p : ProducerView) (t : ℕ) (c : ConsumerView) (q : ℕ) (i :
   pub item : item_at (buffer_at p t) (mark_of c.merge q + 1) ≡ Some i
 
 -- the task is to pull that item
-abbrev pub IsPullOf : Option ProducerView → ℕ → Option ConsumerView → ℕ → Task → Type 0
+abbrev pub IsPullOf : Option ProducerView → ℕ → Option ConsumerView → ℕ → TrioTask → Type 0
 IsPullOf (Some p) t (Some c) q (task.Pull edge i) = (edge ≡ q) × (t < length p.edges) × (q < length c.merge.marks) × IsKept p t c q i
 IsPullOf p t c q other = ⊥
 

@@ -12,7 +12,7 @@ use Rattle.trio_machine.specs.declared.node.TrioNode.{TrioNode}
 use Rattle.trio_core.specs.Acts.{ActsSo, IsActOf}
 use Rattle.trio_core.specs.CoreView.{CoreView, Log, StationView, flow_in, found, inputs_in, inputs_of, name_of}
 use Rattle.trio_core.specs.Stands.{StandsFor}
-use Rattle.trio_core.specs.declared.task.Task.{Task}
+use Rattle.trio_core.specs.declared.task.TrioTask.{TrioTask}
 
 -- an event is one of the plan, and so is the sender of a packet
 abbrev pub IsNamed : Flow → TrioEvent → Type 0
@@ -20,11 +20,11 @@ IsNamed f (event.Take from to k) = HasNode f from × HasNode f to
 IsNamed f e = links.IsThere f e
 
 -- the task is what the event asks of its node: of whatever state the core stands for
-abbrev pub IsTaskOf : CoreView → TrioEvent → Task → Type 0
+abbrev pub IsTaskOf : CoreView → TrioEvent → TrioTask → Type 0
 IsTaskOf core e t = (s : State) → StandsFor core s → (a : Act) × (act_of (flow_in core) s e ≡ Ok a) × IsActOf core.plan (inputs_of core) (at_node e) t (s.nodes (at_node e)) a
 
 -- a station did a task, and noted what it sent
-pub record HasActed (t : Task) (old new : StationView) : Type 0 where
+pub record HasActed (t : TrioTask) (old new : StationView) : Type 0 where
   pub name : new.name ≡ old.name
   pub member : name_of new.member ≡ name_of old.member
   pub inputs : inputs_in new.member ≡ inputs_in old.member
@@ -33,7 +33,7 @@ pub record HasActed (t : Task) (old new : StationView) : Type 0 where
   pub acts : ActsSo t old.member new.member sent
 
 -- the station at a place did a task
-pub record ActedAt (t : Task) (place : ℕ) (olds news : List StationView) : Type 0 where
+pub record ActedAt (t : TrioTask) (place : ℕ) (olds news : List StationView) : Type 0 where
   pub before : StationView
   pub after : StationView
   pub was : slice_get olds place ≡ Some before

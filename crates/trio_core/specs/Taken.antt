@@ -5,11 +5,11 @@ use Rattle.trio_machine.specs.declared.body.TrioBody.{TrioBody}
 use Rattle.trio_machine.specs.declared.node.TrioNode.{TrioNode}
 use Rattle.trio_core.specs.declared.error.TrioError.{TrioError}
 use Rattle.trio_core.specs.declared.error.TrioError.TheVariants as error
-use Rattle.trio_core.specs.declared.task.Task.{Task}
-use Rattle.trio_core.specs.declared.task.Task.TheVariants as task
+use Rattle.trio_core.specs.declared.task.TrioTask.{TrioTask}
+use Rattle.trio_core.specs.declared.task.TrioTask.TheVariants as task
 
 -- the task is to take the packet that stands at this place among those of the link
-abbrev pub IsPacketOf : List TrioBody → TrioNode → ℕ → Task → Type 0
+abbrev pub IsPacketOf : List TrioBody → TrioNode → ℕ → TrioTask → Type 0
 IsPacketOf bodies from index (task.Take sender b) = (sender ≡ from) × (nth_from_one bodies index ≡ Some b)
 IsPacketOf bodies from index t = ⊥
 

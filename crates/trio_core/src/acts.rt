@@ -3,15 +3,16 @@ ghost use Rattle.std.specs.Prelude.{◌≡◌, ◌≤◌, ◌++◌, ◌↔◌, [
 ghost use Rattle.trio_control.specs.Contents.{appended};
 ghost use Rattle.trio_control.specs.ControllerView.{node_of};
 ghost use Rattle.trio_control.specs.IngressView.{contents_in};
+ghost use Rattle.trio_control.specs.Outbox.{most_packets};
 ghost use Rattle.trio_core.specs.Acts.{ActsSo, Fits, IsRefusedSo, MayBeAsked};
 ghost use Rattle.trio_core.specs.CoreView.{contents_of, contents_of_replica, inputs_in, name_of};
 ghost use Rattle.trio_core.specs.declared.error.TrioError.TheVariants as error;
 ghost use Rattle.trio_core.specs.declared.member.Member.TheVariants as member;
-ghost use Rattle.trio_core.specs.declared.task.Task.TheVariants as task;
+ghost use Rattle.trio_core.specs.declared.task.TrioTask.TheVariants as task;
 
 use crate::error::TrioError;
 use crate::member::Member;
-use crate::task::Task;
+use crate::task::TrioTask;
 use trio_control::{
     TrioBody, TrioControl, TrioEgress, TrioIngress, TrioNode, TrioOutbox, TrioReplica,
 };
@@ -20,11 +21,11 @@ use tuple_edge::{Item, NUMBER_LIMIT, Worked};
 // A node does what an event asks of it, whichever kind it is.
 pub(crate) fn member_acts(
     member: &mut Member,
-    task: &Task,
+    task: &TrioTask,
     out: &mut TrioOutbox,
 ) -> Result<(), TrioError>
     requires asked { MayBeAsked task.now member.old }
-    requires room { 25 ≤ out.old.spare }
+    requires room { most_packets ≤ out.old.spare }
     ensures acts { OnOk result (ActsSo task.now member.old member.new (appended out.old.packets out.new.packets)) }
     ensures packets { out.new.packets ≡ out.old.packets ++ appended out.old.packets out.new.packets }
     ensures refused { IfErr result (IsRefusedSo task.now member.old) }
@@ -51,7 +52,11 @@ fn fits(body: &TrioBody) -> bool
 }
 
 // Ingress takes a packet, works or makes.
-fn ingress_acts(node: &mut TrioIngress, task: &Task, out: &mut TrioOutbox) -> Result<(), TrioError>
+fn ingress_acts(
+    node: &mut TrioIngress,
+    task: &TrioTask,
+    out: &mut TrioOutbox,
+) -> Result<(), TrioError>
     requires asked { MayBeAsked task.now (member.Ingress node.old) }
     ensures acts { OnOk result (ActsSo task.now (member.Ingress node.old) (member.Ingress node.new) (appended out.old.packets out.new.packets)) }
     ensures packets { out.new.packets ≡ out.old.packets ++ appended out.old.packets out.new.packets }
@@ -60,10 +65,10 @@ fn ingress_acts(node: &mut TrioIngress, task: &Task, out: &mut TrioOutbox) -> Re
     ensures inputs { node.new.inputs ≡ node.old.inputs }
 {
     match *task {
-        Task::Take { from, body } => ingress_takes(node, from, &body),
-        Task::Work => ingress_works(node, out),
-        Task::Make => ingress_makes(node),
-        Task::Kill | Task::Pull { .. } => Err(TrioError::NotRunning),
+        TrioTask::Take { from, body } => ingress_takes(node, from, &body),
+        TrioTask::Work => ingress_works(node, out),
+        TrioTask::Make => ingress_makes(node),
+        TrioTask::Kill | TrioTask::Pull { .. } => Err(TrioError::NotRunning),
     }
 }
 
@@ -110,9 +115,13 @@ fn ingress_makes(node: &mut TrioIngress) -> Result<(), TrioError>
 }
 
 // A replica takes a packet, works, fails or pulls.
-fn replica_acts(node: &mut TrioReplica, task: &Task, out: &mut TrioOutbox) -> Result<(), TrioError>
+fn replica_acts(
+    node: &mut TrioReplica,
+    task: &TrioTask,
+    out: &mut TrioOutbox,
+) -> Result<(), TrioError>
     requires asked { MayBeAsked task.now (member.Replica node.old) }
-    requires room { 25 ≤ out.old.spare }
+    requires room { most_packets ≤ out.old.spare }
     ensures acts { OnOk result (ActsSo task.now (member.Replica node.old) (member.Replica node.new) (appended out.old.packets out.new.packets)) }
     ensures packets { out.new.packets ≡ out.old.packets ++ appended out.old.packets out.new.packets }
     ensures refused { IfErr result (IsRefusedSo task.now (member.Replica node.old)) }
@@ -120,11 +129,11 @@ fn replica_acts(node: &mut TrioReplica, task: &Task, out: &mut TrioOutbox) -> Re
     ensures role { node.new.role ≡ node.old.role }
 {
     match *task {
-        Task::Take { from, body } => replica_takes(node, from, &body),
-        Task::Work => replica_works(node, out),
-        Task::Make => Err(TrioError::NothingDue),
-        Task::Kill => replica_dies(node, out),
-        Task::Pull { edge, item } => replica_pulls(node, edge, item),
+        TrioTask::Take { from, body } => replica_takes(node, from, &body),
+        TrioTask::Work => replica_works(node, out),
+        TrioTask::Make => Err(TrioError::NothingDue),
+        TrioTask::Kill => replica_dies(node, out),
+        TrioTask::Pull { edge, item } => replica_pulls(node, edge, item),
     }
 }
 
@@ -192,9 +201,13 @@ fn replica_pulls(node: &mut TrioReplica, edge: u32, item: Item) -> Result<(), Tr
 }
 
 // A controller takes a packet; it has no work.
-fn control_acts(node: &mut TrioControl, task: &Task, out: &mut TrioOutbox) -> Result<(), TrioError>
+fn control_acts(
+    node: &mut TrioControl,
+    task: &TrioTask,
+    out: &mut TrioOutbox,
+) -> Result<(), TrioError>
     requires asked { MayBeAsked task.now (member.Control node.old) }
-    requires room { 25 ≤ out.old.spare }
+    requires room { most_packets ≤ out.old.spare }
     ensures acts { OnOk result (ActsSo task.now (member.Control node.old) (member.Control node.new) (appended out.old.packets out.new.packets)) }
     ensures packets { out.new.packets ≡ out.old.packets ++ appended out.old.packets out.new.packets }
     ensures refused { IfErr result (IsRefusedSo task.now (member.Control node.old)) }
@@ -202,9 +215,9 @@ fn control_acts(node: &mut TrioControl, task: &Task, out: &mut TrioOutbox) -> Re
     ensures id { node_of node.new ≡ node_of node.old }
 {
     match *task {
-        Task::Take { from, body } => control_takes(node, from, &body, out),
-        Task::Work | Task::Make => Err(TrioError::NothingDue),
-        Task::Kill | Task::Pull { .. } => Err(TrioError::NotRunning),
+        TrioTask::Take { from, body } => control_takes(node, from, &body, out),
+        TrioTask::Work | TrioTask::Make => Err(TrioError::NothingDue),
+        TrioTask::Kill | TrioTask::Pull { .. } => Err(TrioError::NotRunning),
     }
 }
 
@@ -216,7 +229,7 @@ fn control_takes(
     out: &mut TrioOutbox,
 ) -> Result<(), TrioError>
     requires asked { MayBeAsked (task.Take from body.now) (member.Control node.old) }
-    requires room { 25 ≤ out.old.spare }
+    requires room { most_packets ≤ out.old.spare }
     ensures acts { OnOk result (ActsSo (task.Take from body.now) (member.Control node.old) (member.Control node.new)
         (appended out.old.packets out.new.packets)) }
     ensures packets { out.new.packets ≡ out.old.packets ++ appended out.old.packets out.new.packets }
@@ -232,7 +245,11 @@ fn control_takes(
 }
 
 // Egress takes a packet, works or pulls.
-fn egress_acts(node: &mut TrioEgress, task: &Task, out: &mut TrioOutbox) -> Result<(), TrioError>
+fn egress_acts(
+    node: &mut TrioEgress,
+    task: &TrioTask,
+    out: &mut TrioOutbox,
+) -> Result<(), TrioError>
     requires asked { MayBeAsked task.now (member.Egress node.old) }
     ensures acts { OnOk result (ActsSo task.now (member.Egress node.old) (member.Egress node.new) (appended out.old.packets out.new.packets)) }
     ensures packets { out.new.packets ≡ out.old.packets ++ appended out.old.packets out.new.packets }
@@ -240,11 +257,11 @@ fn egress_acts(node: &mut TrioEgress, task: &Task, out: &mut TrioOutbox) -> Resu
     ensures unchanged { OnErr result ((node.new ≡ node.old) × (out.new.packets ≡ out.old.packets)) }
 {
     match *task {
-        Task::Take { from, body } => egress_takes(node, from, &body),
-        Task::Work => egress_works(node, out),
-        Task::Make => Err(TrioError::NothingDue),
-        Task::Kill => Err(TrioError::NotRunning),
-        Task::Pull { edge, item } => egress_pulls(node, edge, item),
+        TrioTask::Take { from, body } => egress_takes(node, from, &body),
+        TrioTask::Work => egress_works(node, out),
+        TrioTask::Make => Err(TrioError::NothingDue),
+        TrioTask::Kill => Err(TrioError::NotRunning),
+        TrioTask::Pull { edge, item } => egress_pulls(node, edge, item),
     }
 }
 

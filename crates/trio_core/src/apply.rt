@@ -14,7 +14,7 @@ use crate::error::TrioError;
 use crate::nodes::TrioCore;
 use crate::pulls::{part_of, pull_between};
 use crate::station::{acts_at, place_of};
-use crate::task::Task;
+use crate::task::TrioTask;
 use trio_control::TrioNode;
 use trio_machine::TrioEvent;
 
@@ -31,7 +31,7 @@ fn node_of(event: &TrioEvent) -> TrioNode
 
 impl TrioCore {
     // The packet at a place among those that a node of the plan sent to another.
-    fn packet_of(&self, from: TrioNode, to: TrioNode, index: u64) -> Result<Task, TrioError>
+    fn packet_of(&self, from: TrioNode, to: TrioNode, index: u64) -> Result<TrioTask, TrioError>
         requires sender { HasNode (flow_in self.now) from }
         ensures asked { IfOk result (IsTaskOf self.now (event.Take from to index)) }
         ensures refused { IfErr result (λ e. (s : State) → StandsFor self.now s → IsRefusal (act_of (flow_in self.now) s (event.Take from to index)) e) }
@@ -41,7 +41,7 @@ impl TrioCore {
     }
 
     // The pull of the next item of the edge between two nodes.
-    fn pull_of(&self, from: TrioNode, to: TrioNode) -> Result<Task, TrioError>
+    fn pull_of(&self, from: TrioNode, to: TrioNode) -> Result<TrioTask, TrioError>
         requires named { IsNamed (flow_in self.now) (event.Pull from to) }
         ensures asked { IfOk result (IsTaskOf self.now (event.Pull from to)) }
         ensures refused { IfErr result (λ e. (s : State) → StandsFor self.now s → IsRefusal (act_of (flow_in self.now) s (event.Pull from to)) e) }
@@ -52,16 +52,16 @@ impl TrioCore {
     }
 
     // What an event asks of its node.
-    fn task_of(&self, event: &TrioEvent) -> Result<Task, TrioError>
+    fn task_of(&self, event: &TrioEvent) -> Result<TrioTask, TrioError>
         requires named { IsNamed (flow_in self.now) event.now }
         ensures asked { IfOk result (IsTaskOf self.now event.now) }
         ensures refused { IfErr result (λ e. (s : State) → StandsFor self.now s → IsRefusal (act_of (flow_in self.now) s event.now) e) }
     {
         match *event {
             TrioEvent::Take { from, to, index } => self.packet_of(from, to, index),
-            TrioEvent::Work { .. } => Ok(Task::Work),
-            TrioEvent::Make => Ok(Task::Make),
-            TrioEvent::Kill { .. } => Ok(Task::Kill),
+            TrioEvent::Work { .. } => Ok(TrioTask::Work),
+            TrioEvent::Make => Ok(TrioTask::Make),
+            TrioEvent::Kill { .. } => Ok(TrioTask::Kill),
             TrioEvent::Pull { from, to } => self.pull_of(from, to),
         }
     }
@@ -84,7 +84,7 @@ impl TrioCore {
     }
 
     // The node of an event does what it asks.
-    fn act(&mut self, event: &TrioEvent, task: &Task) -> Result<(), TrioError>
+    fn act(&mut self, event: &TrioEvent, task: &TrioTask) -> Result<(), TrioError>
         requires named { IsNamed (flow_in self.old) event.now }
         requires asked { IsTaskOf self.old event.now task.now }
         ensures applied { OnOk result (IsApplied self.old self.new event.now) }

@@ -26,4 +26,4 @@ pub use sent::{Link, Sent};
 #[doc(hidden)]
 pub use station::Station;
 #[doc(hidden)]
-pub use task::Task;
+pub use task::TrioTask;

@@ -5,7 +5,7 @@ ghost use Rattle.trio_core.specs.Pulls.{IsNoPull, IsPullOf};
 ghost use Rattle.trio_machine.specs.Numbers.{part_of};
 
 use crate::error::TrioError;
-use crate::task::Task;
+use crate::task::TrioTask;
 use flux_consumer::Consumer;
 use flux_producer::Producer;
 use trio_control::TrioNode;
@@ -26,7 +26,7 @@ pub(crate) fn pull_between(
     target: u32,
     consumer: Option<&Consumer>,
     source: u32,
-) -> Result<Task, TrioError>
+) -> Result<TrioTask, TrioError>
     ensures found { IfOk result (IsPullOf (option_map (λ p. p.now) producer.entry) target (option_map (λ c. c.now) consumer.entry) source) }
     ensures refused { IfErr result (IsNoPull (option_map (λ p. p.now) producer.entry) target (option_map (λ c. c.now) consumer.entry) source) }
 {
@@ -42,7 +42,7 @@ fn pull_along(
     target: u32,
     consumer: &Consumer,
     source: u32,
-) -> Result<Task, TrioError>
+) -> Result<TrioTask, TrioError>
     ensures found { IfOk result (IsPullOf (Some producer.now) target (Some consumer.now) source) }
     ensures refused { IfErr result (IsNoPull (Some producer.now) target (Some consumer.now) source) }
 {
@@ -62,5 +62,5 @@ fn pull_along(
     let Some(item) = buffer.get(mark + 1) else {
         unreachable!()
     };
-    Ok(Task::Pull { edge: source, item })
+    Ok(TrioTask::Pull { edge: source, item })
 }

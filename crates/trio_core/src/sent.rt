@@ -12,14 +12,11 @@ use crate::acts::member_acts;
 use crate::error::TrioError;
 use crate::member::Member;
 use crate::taking::{body_at, taken_from};
-use crate::task::Task;
+use crate::task::TrioTask;
 use std::alloc::Global;
 use std::marker::Model;
-use trio_control::{TrioNode, TrioOutbox};
+use trio_control::{MOST_PACKETS, TrioNode, TrioOutbox};
 use tuple_edge::OutOfMemory;
-
-// How many packets an event may make a node send; the most are a controller's 25.
-const MOST_PACKETS: usize = 25;
 
 /// The places of the packets to one receiver, among all that a node sent.
 #[derive(Drop)]
@@ -99,7 +96,7 @@ impl Sent {
     }
 
     // A node does what an event asks of it, and what it sends is noted.
-    pub(crate) fn note(&mut self, member: &mut Member, task: &Task) -> Result<(), TrioError>
+    pub(crate) fn note(&mut self, member: &mut Member, task: &TrioTask) -> Result<(), TrioError>
         requires asked { MayBeAsked task.now member.old }
         ensures acts { OnOk result (ActsSo task.now member.old member.new (appended self.old self.new)) }
         ensures packets { self.new ≡ self.old ++ appended self.old self.new }
@@ -115,7 +112,12 @@ impl Sent {
     }
 
     // The packet at a place among those to a node, from 1, as the task of its receiver.
-    pub(crate) fn taken(&self, from: TrioNode, to: TrioNode, index: u64) -> Result<Task, TrioError>
+    pub(crate) fn taken(
+        &self,
+        from: TrioNode,
+        to: TrioNode,
+        index: u64,
+    ) -> Result<TrioTask, TrioError>
         ensures found { IfOk result (IsPacketOf (bodies_to to self.now) from index) }
         ensures refused { IfErr result (IsMissing (bodies_to to self.now) index) }
     {
@@ -126,7 +128,7 @@ impl Sent {
         }
         let place = places[index as usize - 1];
         match body_at(&self.log, place, to) {
-            Some(body) => Ok(Task::Take { from, body }),
+            Some(body) => Ok(TrioTask::Take { from, body }),
             None => unreachable!(),
         }
     }

@@ -11,7 +11,7 @@ ghost use Rattle.trio_core.specs.Steps.{ActedAt, HasActed};
 use crate::error::TrioError;
 use crate::member::Member;
 use crate::sent::Sent;
-use crate::task::Task;
+use crate::task::TrioTask;
 use flux_consumer::Consumer;
 use flux_producer::Producer;
 use std::marker::Model;
@@ -105,7 +105,7 @@ impl Station {
     }
 
     // The node does what an event asks of it, and what it sends is noted.
-    pub(crate) fn act(&mut self, task: &Task) -> Result<(), TrioError>
+    pub(crate) fn act(&mut self, task: &TrioTask) -> Result<(), TrioError>
         requires asked { MayBeAsked task.now self.old.member }
         ensures acted { OnOk result (HasActed task.now self.old self.new) }
         ensures refused { IfErr result (IsRefusedSo task.now self.old.member) }
@@ -132,7 +132,7 @@ pub(crate) fn place_of(stations: &[Station], name: TrioNode) -> usize
 pub(crate) fn acts_at(
     stations: &mut Vec<Station>,
     place: usize,
-    task: &Task,
+    task: &TrioTask,
 ) -> Result<(), TrioError>
     requires there { place < length stations.old.items }
     requires asked { (at : StationView) → slice_get stations.old.items place ≡ Some at → MayBeAsked task.now at.member }

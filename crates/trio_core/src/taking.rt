@@ -4,7 +4,7 @@ ghost use Rattle.trio_core.specs.Sent.{Counted, bodies_to, body_at};
 ghost use Rattle.trio_core.specs.Taken.{IsMissing, IsPacketOf};
 
 use crate::error::TrioError;
-use crate::task::Task;
+use crate::task::TrioTask;
 use trio_control::{TrioBody, TrioNode, TrioOutbox};
 
 // The body of the packet at a place among all that a node sent, where it went to this receiver.
@@ -26,7 +26,7 @@ pub(crate) fn taken_from(
     from: TrioNode,
     to: TrioNode,
     index: u64,
-) -> Result<Task, TrioError>
+) -> Result<TrioTask, TrioError>
     requires counted { Counted to log.now.packets start before }
     requires within { start ≤ length log.now.packets }
     requires later { 1 ≤ index → before < index }
@@ -36,7 +36,7 @@ pub(crate) fn taken_from(
     let mut sent = before;
     for nth in start..log.len() {
         match body_at(log, nth, to) {
-            Some(body) if sent + 1 == index => return Ok(Task::Take { from, body }),
+            Some(body) if sent + 1 == index => return Ok(TrioTask::Take { from, body }),
             Some(_body) => sent += 1,
             None => {}
         }

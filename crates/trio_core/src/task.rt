@@ -4,7 +4,7 @@ use tuple_edge::Item;
 
 /// What an event asks of its node.
 #[derive(Clone, Copy, Debug, PartialEq, Eq)]
-pub enum Task {
+pub enum TrioTask {
     /// To take a packet from a node.
     Take { from: TrioNode, body: TrioBody },
     /// To do the first piece of work that is due.

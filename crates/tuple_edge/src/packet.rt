@@ -32,14 +32,14 @@ pub enum Entry {
         number: u64,
         item: Item,
     },
-    /// What the operator keeps of a key, at a slot of it: `a` and `b` are a quantity and a value, of one row or summed,
-    /// and `c` is the number of a window, or 0.
+    /// What the operator keeps of a key, at a slot of it: a quantity and a value, of one row or summed, and the number of
+    /// a window, or 0 where the operator has none.
     Keyed {
         key: Key,
         slot: u32,
-        a: i64,
-        b: i64,
-        c: i64,
+        qty: i64,
+        value: i64,
+        window: i64,
     },
 }
 

@@ -118,9 +118,9 @@ const ENTRIES: &[Entry] = &[
             symbol: 0,
         },
         slot: 0,
-        a: 1,
-        b: 0,
-        c: 0,
+        qty: 1,
+        value: 0,
+        window: 0,
     },
     Entry::Keyed {
         key: Key {
@@ -128,9 +128,9 @@ const ENTRIES: &[Entry] = &[
             symbol: 0,
         },
         slot: 0,
-        a: 2,
-        b: 0,
-        c: 0,
+        qty: 2,
+        value: 0,
+        window: 0,
     },
 ];
 

@@ -9,7 +9,7 @@ ghost use Rattle.trio_machine.specs.Controllers.{least_with};
 ghost use Rattle.trio_machine.specs.Messages.{Ack};
 ghost use Rattle.trio_machine.specs.Replicas.{to_producers};
 
-use super::watched::Watched;
+use super::watched::TrioWatched;
 use crate::TrioOutbox;
 use crate::group::send_to_group;
 use trio_machine::{TrioBody, TrioNode};
@@ -26,7 +26,7 @@ fn least_of(known: Option<u64>, report: u64) -> u64
 }
 
 // The least report of an in-edge by the replicas that are up. None where none is.
-pub(crate) fn least_report(watched: &[Watched], edge: usize) -> Option<u64>
+pub(crate) fn least_report(watched: &[TrioWatched], edge: usize) -> Option<u64>
     requires edge { (c : ℕ) → c < length watched.now → edge < length (watched_in watched.now c).reports }
     ensures { result ≡ least_report watched.now edge (length watched.now) }
 {

@@ -7,13 +7,13 @@ ghost use Rattle.trio_control.specs.ControllerView.{IsLed, numbers_of, partition
 ghost use Rattle.trio_machine.specs.Controllers.{controller_hears, goes_down, named};
 ghost use Rattle.trio_machine.specs.Numbers.{group_size};
 
-use super::watched::Watched;
+use super::watched::TrioWatched;
 use crate::group::replica;
 use crate::{TrioControl, TrioOutbox};
 use trio_machine::TrioBody;
 
 // The lowest replica that is up. None where none is.
-fn lowest_up(watched: &[Watched]) -> Option<u32>
+fn lowest_up(watched: &[TrioWatched]) -> Option<u32>
     requires { length watched.now ≡ group_size }
     ensures value { result ≡ first_below (λ c. (watched_in watched.now c).up) group_size }
     ensures led { IsLed result watched.now }

@@ -4,6 +4,7 @@ ghost use Rattle.plan_reader.specs.PlanView.{PlanView};
 ghost use Rattle.trio_control.specs.Contents.{GoOverLinks, appended};
 ghost use Rattle.trio_control.specs.ControllerPackets.{IsAcknowledged, IsAdmitted, IsDone, IsFromReplica, IsOfPlan, SendsAtMost, StandsFor, packets_of, taking};
 ghost use Rattle.trio_control.specs.ControllerView.{node_of, numbers_of, partition_of};
+ghost use Rattle.trio_control.specs.Outbox.{most_acks, most_packets};
 ghost use Rattle.trio_control.specs.Steps.{IsTaken};
 ghost use Rattle.trio_machine.specs.Controllers.{acks};
 ghost use Rattle.trio_machine.specs.Flow.{IsTrioPlan, trio_flow};
@@ -15,15 +16,15 @@ use crate::{TrioControl, TrioOutbox};
 use trio_machine::{TrioBody, TrioNode};
 
 impl TrioControl {
-    /// Takes a packet from one of the three replicas, and sends what follows from it: at most 25 packets,
-    /// to the new leader and to the producers of the in-edges. It takes no memory.
+    /// Takes a packet from one of the three replicas, and sends what follows from it: at most
+    /// [`MOST_PACKETS`](crate::MOST_PACKETS) packets, to the new leader and to the producers of the in-edges. It takes no memory.
     pub fn on(&mut self, from: TrioNode, body: &TrioBody, out: &mut TrioOutbox)
         requires admitted { IsAdmitted self.old from body.now }
-        requires room { 25 ≤ out.old.spare }
+        requires room { most_packets ≤ out.old.spare }
         // The machine's own step, and exactly its packets in order.
         ensures numbers { numbers_of self.new ≡ (taking self.old from body.now).0 }
         ensures packets { out.new.packets ≡ out.old.packets ++ packets_of (taking self.old from body.now).1 }
-        ensures few { SendsAtMost 25 out.old out.new }
+        ensures few { SendsAtMost most_packets out.old out.new }
         ensures linked { (plan : PlanView) → IsTrioPlan plan → IsOfPlan plan self.old
             → GoOverLinks plan (node_of self.old) (appended out.old.packets out.new.packets) }
         // Of each in-edge only what all replicas that are up have reported is acknowledged, and that never falls.
@@ -56,12 +57,12 @@ impl TrioControl {
 
     // Acknowledges of each in-edge what every replica that is up has reported.
     fn acknowledge(&mut self, out: &mut TrioOutbox)
-        requires room { 24 ≤ out.old.spare }
+        requires room { most_acks ≤ out.old.spare }
         ensures does { IsDone self.old self.new out.old out.new
             (acks (length self.old.acked) (partition_of self.old) (numbers_of self.old)) }
         ensures watched { self.new.watched ≡ self.old.watched }
         ensures three { length self.new.watched ≡ group_size }
-        ensures sends { SendsAtMost 24 out.old out.new }
+        ensures sends { SendsAtMost most_acks out.old out.new }
     {
         for edge in 0..self.acked.len() {
             let known = self.acked[edge];

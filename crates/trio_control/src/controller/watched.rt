@@ -8,26 +8,26 @@ use tuple_edge::OutOfMemory;
 
 // What is known of a replica.
 #[derive(Drop)]
-pub(crate) struct Watched {
+pub(crate) struct TrioWatched {
     pub(crate) up: bool,
     // For each in-edge the greatest number that was reported of it.
     pub(crate) reports: Vec<u64>,
 }
 
-impl Model for Watched {
-    ghost use Rattle.trio_control.specs.ControllerView.{WatchedView};
+impl Model for TrioWatched {
+    ghost use Rattle.trio_control.specs.ControllerView.{TrioWatchedView};
 
-    ghost Value = { WatchedView };
+    ghost Value = { TrioWatchedView };
 
     ghost view = { λ w. record { up = w.up; reports = w.reports.items } };
 }
 
-impl Watched {
+impl TrioWatched {
     // A replica as it opens, with so many in-edges: up, with nothing reported.
-    pub(crate) fn new(alloc: Global, edges: usize) -> Result<Watched, OutOfMemory>
+    pub(crate) fn new(alloc: Global, edges: usize) -> Result<TrioWatched, OutOfMemory>
         ensures { IfOk result (λ w. w ≡ unheard edges) }
     {
-        Ok(Watched {
+        Ok(TrioWatched {
             up: true,
             reports: vec![in alloc; 0u64; edges]?,
         })

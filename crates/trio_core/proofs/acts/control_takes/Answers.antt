@@ -3,7 +3,7 @@ use Rattle.tuple_edge.specs.Limits.{number_limit}
 use Rattle.trio_control.specs.ControllerPackets.{packets_of, taking}
 use Rattle.trio_core.specs.Acts.{ActsSo}
 use Rattle.trio_core.specs.declared.member.Member.TheVariants as member
-use Rattle.trio_core.specs.declared.task.Task.TheVariants as task
+use Rattle.trio_core.specs.declared.task.TrioTask.TheVariants as task
 use Rattle.trio_core.proofs.Acting.{appended_is, took}
 use Rattle.trio_core.proofs.Asking as asking
 use Rattle.trio_core.proofs.acts.control_takes.Goals as goal

@@ -3,7 +3,7 @@ use Rattle.trio_machine.specs.Messages.{NothingDue, Works}
 use Rattle.trio_control.specs.Egress.{IsWorked, working}
 use Rattle.trio_core.specs.Acts.{ActsSo}
 use Rattle.trio_core.specs.declared.member.Member.TheVariants as member
-use Rattle.trio_core.specs.declared.task.Task.TheVariants as task
+use Rattle.trio_core.specs.declared.task.TrioTask.TheVariants as task
 use Rattle.trio_core.proofs.Acting.{appended_is, did, refuses}
 use Rattle.trio_core.proofs.acts.egress_works.Goals as goal
 

@@ -4,7 +4,7 @@ use Rattle.trio_control.specs.Ingress.{IsWorked}
 use Rattle.trio_control.specs.IngressView.{working}
 use Rattle.trio_core.specs.Acts.{ActsSo}
 use Rattle.trio_core.specs.declared.member.Member.TheVariants as member
-use Rattle.trio_core.specs.declared.task.Task.TheVariants as task
+use Rattle.trio_core.specs.declared.task.TrioTask.TheVariants as task
 use Rattle.trio_core.proofs.Acting.{appended_is, did, refuses}
 use Rattle.trio_core.proofs.acts.ingress_works.Goals as goal
 

@@ -3,7 +3,7 @@ use Rattle.trio_machine.specs.Messages.{Dies}
 use Rattle.trio_control.specs.ReplicaView.{down_sent}
 use Rattle.trio_core.specs.Acts.{ActsSo}
 use Rattle.trio_core.specs.declared.member.Member.TheVariants as member
-use Rattle.trio_core.specs.declared.task.Task.TheVariants as task
+use Rattle.trio_core.specs.declared.task.TrioTask.TheVariants as task
 use Rattle.trio_core.proofs.Acting.{appended_is, did}
 use Rattle.trio_core.proofs.acts.replica_dies.Goals as goal
 

@@ -3,7 +3,7 @@ use Rattle.trio_machine.specs.Messages.{NothingDue, Works}
 use Rattle.trio_control.specs.Contents.{appended}
 use Rattle.trio_control.specs.Replica.{IsWorked}
 use Rattle.trio_core.specs.declared.member.Member.TheVariants as member
-use Rattle.trio_core.specs.declared.task.Task.TheVariants as task
+use Rattle.trio_core.specs.declared.task.TrioTask.TheVariants as task
 use Rattle.trio_core.proofs.Acting.{did, refuses}
 use Rattle.trio_core.proofs.acts.replica_works.Goals as goal
 
