@@ -1,8 +1,8 @@
 -- What each operator answers, and keeps, after items that have the same entries.
 use Rattle.std.proofs.Common.{ℕ, ◌≡◌, ℤ, pos, List, [], ◌∷◌, ◌++◌, refl, sym, ap, ◌∙◌, Option, fold, map, unwrap_or, Bool}
 use Rattle.circular_buffer.specs.Buffer.{keep_last}
-use Rattle.join_stage.specs.Join.{AreSides, other_side, pairs_with, sides_with}
-use Rattle.join_stage.proofs.JoinAfter.{sides_right}
+use Rattle.keyed_store.specs.Join.{AreSides, other_side, pairs_with, sides_with}
+use Rattle.keyed_store.proofs.JoinAfter.{sides_right}
 use Rattle.tuple_edge.specs.declared.item.Item.{Item}
 use Rattle.tuple_edge.specs.declared.item.Item.TheVariants as item
 use Rattle.tuple_edge.specs.declared.packet.Entry.{Entry}

@@ -13,9 +13,9 @@ use Rattle.std.specs.declared.cmp.Ordering.{Ordering}
 use Rattle.std.specs.declared.cmp.Ordering.TheVariants.{Less, Equal, Greater}
 use Rattle.std.specs.declared.ops.Bound.TheVariants.{Excluded, Unbounded}
 use Rattle.circular_buffer.specs.Buffer.{Buffer}
-use Rattle.join_stage.specs.Join.{or_else}
-use Rattle.join_stage.specs.Store.{first_from, first_where, old_first, old_value}
-use Rattle.join_stage.proofs.JoinAfter.{first_append, slot_above, slot_within}
+use Rattle.keyed_store.specs.Join.{or_else}
+use Rattle.keyed_store.specs.Store.{first_from, first_where, old_first, old_value}
+use Rattle.keyed_store.proofs.JoinAfter.{first_append, slot_above, slot_within}
 use Rattle.tuple_edge.specs.declared.packet.Entry.{Entry}
 use Rattle.tuple_edge.specs.declared.row.Key.{Key}
 use Rattle.op_spec.specs.Keys.{is_key, key_cmp}

@@ -8,7 +8,7 @@ use Rattle.std.proofs.lemmas.List.{append-nil, length-map}
 use Rattle.std.proofs.lemmas.List.Elements.{All-cons, All-filter, All-head, All-map, All-nil, All-tail}
 use Rattle.std.proofs.lemmas.Nat.{div-add-mod'}
 use Rattle.circular_buffer.specs.Buffer.{keep_last}
-use Rattle.join_stage.proofs.LastSides.{length-filter}
+use Rattle.keyed_store.proofs.LastSides.{length-filter}
 use Rattle.tuple_edge.specs.Row.{column_of}
 use Rattle.tuple_edge.specs.declared.item.Item.{Item}
 use Rattle.tuple_edge.specs.declared.item.Item.TheVariants as item

@@ -4,7 +4,7 @@ use Rattle.std.specs.BTreeMap.{insert_entry}
 use Rattle.std.specs.Map.{lookup}
 use Rattle.std.specs.Option.{IfSome}
 use Rattle.circular_buffer.specs.Buffer.{Buffer, keep_last}
-use Rattle.join_stage.proofs.Counting.{insert_length, length-kept, size_at}
+use Rattle.keyed_store.proofs.Counting.{insert_length, length-kept, size_at}
 use Rattle.tuple_edge.specs.declared.row.Key.{Key}
 use Rattle.op_spec.specs.Keys.{is_key, key_cmp}
 use Rattle.stream_ops.specs.Entries.{all_told, slots, told_last, told_total, told_window}

@@ -12,7 +12,7 @@ use Rattle.std.proofs.lemmas.Cmp.{int_cmp_total, on_total, then_total}
 use Rattle.std.proofs.lemmas.Map.Entries.{none_below_head}
 use Rattle.std.proofs.lemmas.Map.Keys.{sorted_tail}
 use Rattle.std.proofs.lemmas.Map.Lookups.{exact_signed, exact_pairs}
-use Rattle.join_stage.proofs.Images.{none_there}
+use Rattle.keyed_store.proofs.Images.{none_there}
 use Rattle.tuple_edge.specs.declared.row.Key.{Key}
 use Rattle.op_spec.specs.Keys.{is_key, key_cmp}
 use Rattle.stream_ops.specs.Rows.{with_key}

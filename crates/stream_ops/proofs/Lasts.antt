@@ -3,7 +3,7 @@ use Rattle.std.proofs.Common.{ℕ, ◌≡◌, ◌-◌, ℤ, pos, List, [], ◌�
 use Rattle.std.proofs.lemmas.List.{map-append, drop-map, length-map}
 use Rattle.std.proofs.lemmas.List.Sums.{fold-append}
 use Rattle.circular_buffer.specs.Buffer.{Buffer, buffer, keep_last}
-use Rattle.join_stage.proofs.LastSides.{keep_last-push}
+use Rattle.keyed_store.proofs.LastSides.{keep_last-push}
 use Rattle.tuple_edge.specs.Sum.{saturating_sum, total_of}
 use Rattle.tuple_edge.specs.declared.row.Row.{Row}
 use Rattle.stream_ops.specs.Kept.{last_of_rows, total_of_rows}

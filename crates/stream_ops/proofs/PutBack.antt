@@ -8,13 +8,13 @@ use Rattle.std.specs.List.{All, filter, flat_map}
 use Rattle.std.specs.Map.{lookup}
 use Rattle.std.specs.Option.{IfSome}
 use Rattle.circular_buffer.specs.Buffer.{Buffer, keep_last}
-use Rattle.join_stage.specs.Join.{AreSides, JoinView, joined, sides_with}
-use Rattle.join_stage.specs.Store.{StoreView}
-use Rattle.join_stage.specs.declared.rows.SideRow.{SideRow}
-use Rattle.join_stage.specs.declared.rows.SidedRow.{SidedRow}
-use Rattle.join_stage.specs.declared.rows.Sides.{Sides}
-use Rattle.join_stage.proofs.Copied.{keep_last-fits}
-use Rattle.join_stage.proofs.JoinAfter.{sides_right}
+use Rattle.keyed_store.specs.Join.{AreSides, JoinView, joined, sides_with}
+use Rattle.keyed_store.specs.Store.{StoreView}
+use Rattle.keyed_store.specs.declared.rows.SideRow.{SideRow}
+use Rattle.keyed_store.specs.declared.rows.SidedRow.{SidedRow}
+use Rattle.keyed_store.specs.declared.rows.Sides.{Sides}
+use Rattle.keyed_store.proofs.Copied.{keep_last-fits}
+use Rattle.keyed_store.proofs.JoinAfter.{sides_right}
 use Rattle.tuple_edge.specs.declared.item.Item.{Item}
 use Rattle.tuple_edge.specs.declared.packet.Entry.{Entry}
 use Rattle.tuple_edge.specs.declared.packet.Entry.TheVariants as entry

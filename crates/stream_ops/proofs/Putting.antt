@@ -8,7 +8,7 @@ use Rattle.std.specs.List.{All, AllByRecursion, filter}
 use Rattle.std.specs.Map.{keys_of, lookup, values_of}
 use Rattle.std.specs.declared.cmp.Ordering.{Ordering}
 use Rattle.std.specs.declared.cmp.Ordering.TheVariants.{Less, Equal, Greater}
-use Rattle.join_stage.specs.Store.{IsSorted}
+use Rattle.keyed_store.specs.Store.{IsSorted}
 use Rattle.tuple_edge.specs.declared.packet.Entry.{Entry}
 use Rattle.tuple_edge.specs.declared.packet.Entry.TheVariants as entry
 use Rattle.tuple_edge.specs.declared.row.Key.{Key}

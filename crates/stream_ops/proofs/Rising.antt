@@ -10,10 +10,10 @@ use Rattle.std.specs.Option.{IfSome, option_and_then, option_map}
 use Rattle.std.specs.Ordering.{is_gt, nat_cmp, ordering_reverse, ordering_then}
 use Rattle.std.specs.declared.cmp.Ordering.{Ordering}
 use Rattle.std.specs.declared.cmp.Ordering.TheVariants.{Less, Equal, Greater}
-use Rattle.join_stage.specs.Join.{AreSides}
-use Rattle.join_stage.specs.Store.{first_where}
-use Rattle.join_stage.specs.declared.rows.SideRow.{SideRow}
-use Rattle.join_stage.proofs.JoinAfter.{slot_above}
+use Rattle.keyed_store.specs.Join.{AreSides}
+use Rattle.keyed_store.specs.Store.{first_where}
+use Rattle.keyed_store.specs.declared.rows.SideRow.{SideRow}
+use Rattle.keyed_store.proofs.JoinAfter.{slot_above}
 use Rattle.tuple_edge.specs.declared.packet.Entry.{Entry}
 use Rattle.tuple_edge.specs.declared.packet.Entry.TheVariants as entry
 use Rattle.tuple_edge.specs.declared.row.Key.{Key}

@@ -9,13 +9,13 @@ use Rattle.std.specs.Ordering.{int_eq}
 use Rattle.std.specs.declared.cmp.Ordering.{Ordering}
 use Rattle.std.specs.declared.cmp.Ordering.TheVariants.{Less, Equal, Greater}
 use Rattle.circular_buffer.specs.Buffer.{buffer, keep_last}
-use Rattle.join_stage.specs.Join.{AreSides, last_sides, other_side, pair_of, pairs_with, rows_of_side, run, sides_of, sides_with}
-use Rattle.join_stage.specs.Join as join
-use Rattle.join_stage.specs.Store.{first_where}
-use Rattle.join_stage.specs.declared.rows.JoinKey.{JoinKey}
-use Rattle.join_stage.specs.declared.rows.Kept.{Kept}
-use Rattle.join_stage.specs.declared.rows.SideRow.{SideRow}
-use Rattle.join_stage.specs.declared.rows.Sides.{Sides}
+use Rattle.keyed_store.specs.Join.{AreSides, last_sides, other_side, pair_of, pairs_with, rows_of_side, run, sides_of, sides_with}
+use Rattle.keyed_store.specs.Join as join
+use Rattle.keyed_store.specs.Store.{first_where}
+use Rattle.keyed_store.specs.declared.rows.JoinKey.{JoinKey}
+use Rattle.keyed_store.specs.declared.rows.Kept.{Kept}
+use Rattle.keyed_store.specs.declared.rows.SideRow.{SideRow}
+use Rattle.keyed_store.specs.declared.rows.Sides.{Sides}
 use Rattle.tuple_edge.specs.declared.packet.Entry.{Entry}
 use Rattle.tuple_edge.specs.declared.packet.Entry.TheVariants as entry
 use Rattle.tuple_edge.specs.declared.row.Key.{Key}
@@ -24,7 +24,7 @@ use Rattle.op_spec.specs.Keys.{is_key, key_cmp}
 use Rattle.stream_ops.specs.Entries.{all_told, is_after, side_slots}
 use Rattle.stream_ops.specs.Joins.{by_key, entry_of_kept, join_answer, join_key, key_of_join, left_rows, pair_row, right_rows, row_of_pair, rows_across, side_row, sided_row, sides_of_rows, told_side, told_sides}
 use Rattle.stream_ops.specs.Windows.{window_of}
-use Rattle.join_stage.proofs.LastSides.{other_last, sides_of-push}
+use Rattle.keyed_store.proofs.LastSides.{other_last, sides_of-push}
 use Rattle.stream_ops.proofs.Keyed.{self_key}
 use Rattle.stream_ops.proofs.Told.{AllOf, Tells}
 

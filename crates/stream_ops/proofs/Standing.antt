@@ -12,13 +12,13 @@ use Rattle.std.specs.Option.{IfSome}
 use Rattle.std.specs.declared.cmp.Ordering.{Ordering}
 use Rattle.std.specs.declared.cmp.Ordering.TheVariants.{Less, Equal, Greater}
 use Rattle.circular_buffer.specs.Buffer.{Buffer, buffer, keep_last}
-use Rattle.join_stage.specs.Join as join
-use Rattle.join_stage.specs.Join.{AreSides, JoinView, joined, sides_with}
-use Rattle.join_stage.specs.Store.{IsSorted, StoreView, changed}
-use Rattle.join_stage.specs.declared.rows.SideRow.{SideRow}
-use Rattle.join_stage.specs.declared.rows.SidedRow.{SidedRow}
-use Rattle.join_stage.specs.declared.rows.Sides.{Sides}
-use Rattle.join_stage.proofs.JoinAfter.{sides_right}
+use Rattle.keyed_store.specs.Join as join
+use Rattle.keyed_store.specs.Join.{AreSides, JoinView, joined, sides_with}
+use Rattle.keyed_store.specs.Store.{IsSorted, StoreView, changed}
+use Rattle.keyed_store.specs.declared.rows.SideRow.{SideRow}
+use Rattle.keyed_store.specs.declared.rows.SidedRow.{SidedRow}
+use Rattle.keyed_store.specs.declared.rows.Sides.{Sides}
+use Rattle.keyed_store.proofs.JoinAfter.{sides_right}
 use Rattle.tuple_edge.specs.declared.item.Item.{Item}
 use Rattle.tuple_edge.specs.declared.item.Item.TheVariants as item
 use Rattle.tuple_edge.specs.declared.packet.Entry.{Entry}

@@ -8,10 +8,10 @@ use Rattle.tuple_edge.specs.declared.item.Item.{Item}
 use Rattle.tuple_edge.specs.declared.row.Key.{Key}
 use Rattle.tuple_edge.specs.declared.row.Row.{Row}
 use Rattle.std.specs.Prelude.{Bool}
-use Rattle.join_stage.specs.Join as join
-use Rattle.join_stage.specs.Join.{other_side, pairs_with}
-use Rattle.join_stage.specs.declared.rows.JoinKey.{JoinKey}
-use Rattle.join_stage.specs.declared.rows.Sides.{Sides}
+use Rattle.keyed_store.specs.Join as join
+use Rattle.keyed_store.specs.Join.{other_side, pairs_with}
+use Rattle.keyed_store.specs.declared.rows.JoinKey.{JoinKey}
+use Rattle.keyed_store.specs.declared.rows.Sides.{Sides}
 use Rattle.tuple_edge.specs.declared.row.Column.{Column}
 use Rattle.op_spec.specs.declared.spec.Compare.{Compare}
 use Rattle.op_spec.specs.Keys.{is_key, key_cmp, key_of}

@@ -1,8 +1,8 @@
 -- The entries by which an operator's state goes to another replica: what it keeps of each key, as numbers.
 use Rattle.std.specs.Prelude.{ℕ, ℤ, pos, zero, suc, ◌+◌, Bool, true, false, List, [], ◌∷◌, ◌++◌, Option, Some, None, flat_map, map, slice_get}
 use Rattle.std.specs.Option.{IsSome, option_and_then, option_map}
-use Rattle.join_stage.specs.Join.{or_else}
-use Rattle.join_stage.specs.Store.{old_first, old_value}
+use Rattle.keyed_store.specs.Join.{or_else}
+use Rattle.keyed_store.specs.Store.{old_first, old_value}
 use Rattle.std.specs.Ordering.{is_gt, nat_cmp, ordering_then}
 use Rattle.std.specs.declared.ops.Bound.{Bound}
 use Rattle.std.specs.declared.ops.Bound.TheVariants.{Excluded, Unbounded}

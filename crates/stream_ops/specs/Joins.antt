@@ -3,14 +3,14 @@ use Rattle.std.specs.Prelude.{ℕ, ℤ, Bool, not, List, [], ◌∷◌, ◌++◌
 use Rattle.std.specs.List.{filter}
 use Rattle.std.specs.Ordering.{int_eq}
 use Rattle.circular_buffer.specs.Buffer.{keep_last}
-use Rattle.join_stage.specs.Join.{sides_of}
-use Rattle.join_stage.specs.Store.{StoreView}
-use Rattle.join_stage.specs.declared.rows.JoinKey.{JoinKey}
-use Rattle.join_stage.specs.declared.rows.Kept.{Kept}
-use Rattle.join_stage.specs.declared.rows.Pair.{Pair}
-use Rattle.join_stage.specs.declared.rows.SideRow.{SideRow}
-use Rattle.join_stage.specs.declared.rows.SidedRow.{SidedRow}
-use Rattle.join_stage.specs.declared.rows.Sides.{Sides}
+use Rattle.keyed_store.specs.Join.{sides_of}
+use Rattle.keyed_store.specs.Store.{StoreView}
+use Rattle.keyed_store.specs.declared.rows.JoinKey.{JoinKey}
+use Rattle.keyed_store.specs.declared.rows.Kept.{Kept}
+use Rattle.keyed_store.specs.declared.rows.Pair.{Pair}
+use Rattle.keyed_store.specs.declared.rows.SideRow.{SideRow}
+use Rattle.keyed_store.specs.declared.rows.SidedRow.{SidedRow}
+use Rattle.keyed_store.specs.declared.rows.Sides.{Sides}
 use Rattle.tuple_edge.specs.Row.{column_of}
 use Rattle.tuple_edge.specs.declared.packet.Entry.{Entry}
 use Rattle.tuple_edge.specs.declared.packet.Entry.TheVariants as entry

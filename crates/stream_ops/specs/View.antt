@@ -4,8 +4,8 @@ use Rattle.std.specs.List.{All}
 use Rattle.std.specs.Map.{values_of}
 use Rattle.std.specs.Option.{IfSome, option_map}
 use Rattle.circular_buffer.specs.Buffer.{Buffer}
-use Rattle.join_stage.specs.Join.{AreSides}
-use Rattle.join_stage.specs.Store.{IsSorted, StoreView}
+use Rattle.keyed_store.specs.Join.{AreSides}
+use Rattle.keyed_store.specs.Store.{IsSorted, StoreView}
 use Rattle.tuple_edge.specs.declared.item.Item.{Item}
 use Rattle.tuple_edge.specs.declared.packet.Entry.{Entry}
 use Rattle.tuple_edge.specs.declared.row.Key.{Key}

@@ -2,13 +2,13 @@
 // after another.
 ghost use Rattle.std.specs.Option.{option_and_then, option_map};
 ghost use Rattle.std.specs.Prelude.{◌≡◌, ◌+◌, ◌++◌, ◌<◌, ◌^◌, pos, IfSome, OnOk, length};
-ghost use Rattle.join_stage.specs.Store.{old_first, old_value};
+ghost use Rattle.keyed_store.specs.Store.{old_first, old_value};
 ghost use Rattle.op_spec.specs.Keys.{key_cmp};
 ghost use Rattle.stream_ops.specs.Entries.{all_told, bound_after, first_slot, last_after, next_slot, same_key_after, slots, sums_entry, told_last, told_total, told_window};
 
 use crate::{OpenWindow, Sums};
 use circular_buffer::HeapCircularBuffer;
-use join_stage::KeyedStore;
+use keyed_store::KeyedStore;
 use std::ops::Bound;
 use tuple_edge::{Entry, Key, OutOfMemory};
 

@@ -1,6 +1,6 @@
 // A join over the rows of this dataflow: keys, sides and windows in the words of the crate below.
-ghost use Rattle.join_stage.specs.Join.{joined, key_cmp, other_side, pairs_with, row_of_kept};
-ghost use Rattle.join_stage.specs.Store.{first_where};
+ghost use Rattle.keyed_store.specs.Join.{joined, key_cmp, other_side, pairs_with, row_of_kept};
+ghost use Rattle.keyed_store.specs.Store.{first_where};
 ghost use Rattle.std.specs.BTreeMap.{is_at};
 ghost use Rattle.std.specs.Map.{lookup};
 ghost use Rattle.std.specs.Option.{option_and_then};
@@ -11,7 +11,7 @@ ghost use Rattle.stream_ops.specs.Joins.{entry_of_kept, join_key, kept_row, key_
 use crate::Sums;
 use crate::window::window_at;
 use circular_buffer::HeapCircularBuffer;
-use join_stage::{FIRST_RIGHT_SLOT, JoinKey, JoinState, Kept, Pair, SideRow, Sides};
+use keyed_store::{FIRST_RIGHT_SLOT, JoinKey, JoinState, Kept, Pair, SideRow, Sides};
 use std::alloc::Global;
 use tuple_edge::{Entry, Key, OutOfMemory, Row};
 

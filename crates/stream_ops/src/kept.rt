@@ -1,6 +1,6 @@
 // What is kept for the keys, and how one more row changes it. Each call looks its key up in an
 // ordered map, and takes memory for a new key, and for a key that changes first under a watch.
-ghost use Rattle.join_stage.specs.Store.{changed};
+ghost use Rattle.keyed_store.specs.Store.{changed};
 ghost use Rattle.std.specs.BTreeMap.{insert_entry};
 ghost use Rattle.std.specs.List.{All};
 ghost use Rattle.std.specs.Map.{lookup};
@@ -15,7 +15,7 @@ ghost use Rattle.op_spec.specs.Limits.{max_window_seconds};
 
 use crate::{OpenWindow, Sums};
 use circular_buffer::HeapCircularBuffer;
-use join_stage::{Image, KeyedStore, Takes};
+use keyed_store::{Image, KeyedStore, Takes};
 use std::alloc::{AllocError, Global};
 use tuple_edge::{Key, OutOfMemory, Row};
 

@@ -3,7 +3,7 @@
 //! An operator is told what to do by an [`OpSpec`], and an [`OpState`] keeps what its answers need.
 //! What it answers is defined on the list of the items before, never on that state: each step
 //! appends exactly the answer, in the order of the items. It stands on tuple_edge, on op_spec for
-//! what an operator is told, on circular_buffer for the last rows of a key, and on join_stage for
+//! what an operator is told, on circular_buffer for the last rows of a key, and on keyed_store for
 //! what is kept by key.
 //!
 //! An operator is added in these places. Its settings: [`OpSpec`], and their limits in specs/Spec,

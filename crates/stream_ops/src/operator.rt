@@ -3,7 +3,7 @@ ghost use Rattle.std.specs.Prelude.{ℕ, ◌≡◌, ◌≤◌, ◌+◌, ◌∷�
 ghost use Rattle.op_spec.specs.Spec.{IsSpec, most_rows};
 ghost use Rattle.op_spec.specs.Times.{IsTime};
 ghost use Rattle.stream_ops.specs.Answers.{end_answer, row_answer};
-ghost use Rattle.join_stage.specs.Store.{first_where};
+ghost use Rattle.keyed_store.specs.Store.{first_where};
 ghost use Rattle.std.specs.Option.{option_and_then};
 ghost use Rattle.stream_ops.specs.Entries.{is_after};
 ghost use Rattle.stream_ops.specs.Kept.{keys_after};
@@ -20,7 +20,7 @@ use crate::kept::{add_last_row, write_windows};
 use crate::taking::{take_crossing, take_last, take_passing, take_total, take_window};
 use crate::{By, Compare, OpSpec, OpenWindow, Sums};
 use circular_buffer::HeapCircularBuffer;
-use join_stage::{JoinState, KeyedStore};
+use keyed_store::{JoinState, KeyedStore};
 use std::alloc::Global;
 use tuple_edge::{Column, Entry, Key, OutOfMemory, Row};
 

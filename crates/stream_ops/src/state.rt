@@ -3,7 +3,7 @@ ghost use Rattle.std.specs.Prelude.{ℕ, IfSome, slice_get, ◌≡◌, ◌≤◌
 ghost use Rattle.op_spec.specs.Spec.{IsSpec};
 ghost use Rattle.op_spec.specs.Times.{IsTimely};
 ghost use Rattle.stream_ops.specs.Answers.{IsOpen, answer};
-ghost use Rattle.join_stage.specs.Store.{first_where};
+ghost use Rattle.keyed_store.specs.Store.{first_where};
 ghost use Rattle.std.specs.Option.{option_and_then};
 ghost use Rattle.stream_ops.specs.Entries.{IsKeyed, entries, is_after, last_place};
 ghost use Rattle.tuple_edge.specs.declared.packet.Entry.{Entry};

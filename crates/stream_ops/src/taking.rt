@@ -1,6 +1,6 @@
 // How each operator takes a row of a key: what it answers, and what it keeps then. Of a row that is
 // refused nothing is kept, and nothing is answered.
-ghost use Rattle.join_stage.specs.Store.{changed};
+ghost use Rattle.keyed_store.specs.Store.{changed};
 ghost use Rattle.std.specs.BTreeMap.{insert_entry};
 ghost use Rattle.std.specs.Map.{lookup};
 ghost use Rattle.std.specs.Prelude.{◌≡◌, ◌≤◌, ◌≤ℤ◌, ◌+◌, ◌++◌, ◌∷◌, [], pos, if◌then◌else◌, OnErr, OnOk, length, unwrap_or};
@@ -19,7 +19,7 @@ use crate::kept::{
 };
 use crate::{Compare, OpenWindow, Sums};
 use circular_buffer::HeapCircularBuffer;
-use join_stage::KeyedStore;
+use keyed_store::KeyedStore;
 use std::alloc::Global;
 use tuple_edge::{Column, Key, OutOfMemory, Row};
 

@@ -1,5 +1,5 @@
 // The join by itself: pairs worked out by hand, and the rows that it keeps, also under a watch.
-use join_stage::{JoinKey, JoinState, Kept, MAX_JOIN_ROWS, Pair};
+use keyed_store::{JoinKey, JoinState, Kept, MAX_JOIN_ROWS, Pair};
 use std::alloc::Global;
 use std::test::Fail;
 

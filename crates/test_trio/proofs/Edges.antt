@@ -3,8 +3,8 @@ use Rattle.std.proofs.Common.{◌≡◌, ◌≤◌, ℕ, length, ap, sym, subst,
 use Rattle.trio_machine.specs.Machine.{State}
 use Rattle.trio_machine.specs.declared.node.TrioNode.{TrioNode}
 use Rattle.trio_machine.specs.declared.node.TrioNode.TheVariants as node
-use Rattle.trio_control.specs.ControllerPackets as of_control
-use Rattle.trio_control.specs.ControllerView.{ControllerView, node_of}
+use Rattle.trio_nodes.specs.ControllerPackets as of_control
+use Rattle.trio_nodes.specs.ControllerView.{ControllerView, node_of}
 use Rattle.trio_core.specs.CoreView.{CoreView, flow_in}
 use Rattle.trio_core.specs.Stands.{IsCore, StandsFor}
 use Rattle.pair_machine.specs.Counts.{flow_of}

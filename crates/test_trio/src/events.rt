@@ -5,9 +5,9 @@ ghost use Rattle.trio_core.specs.Steps.{IsNamed};
 
 use crate::nodes::has;
 use std::alloc::Global;
-use trio_control::TrioNode;
 use trio_core::TrioCore;
 use trio_machine::TrioEvent;
+use trio_nodes::TrioNode;
 use trio_text::push_trio_node;
 use tuple_edge::OutOfMemory;
 

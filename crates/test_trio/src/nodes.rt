@@ -3,8 +3,8 @@ ghost use Rattle.std.specs.Prelude.{◌≤◌, IfSome, IsTrue, length};
 ghost use Rattle.trio_core.specs.CoreView.{flow_in};
 ghost use Rattle.trio_machine.specs.Links.{HasNode};
 
-use trio_control::{GROUP_SIZE, TrioControl, TrioNode, TrioReplica};
 use trio_core::TrioCore;
+use trio_nodes::{GROUP_SIZE, TrioControl, TrioNode, TrioReplica};
 use trio_text::nodes_are_the_plans;
 use tuple_edge::{NodeId, Which};
 

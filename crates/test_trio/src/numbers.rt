@@ -4,8 +4,8 @@ ghost use Rattle.std.specs.Prelude.{◌≤◌, length};
 use crate::nodes::{control_of, replica_of};
 use flux_consumer::Consumer;
 use flux_producer::Producer;
-use trio_control::TrioControl;
 use trio_core::TrioCore;
+use trio_nodes::TrioControl;
 
 /// What a node has merged, taken and told of.
 #[derive(Clone, Copy, Debug)]

@@ -5,8 +5,8 @@ use crate::nodes::NODES;
 use crate::story::Story;
 use std::alloc::Global;
 use test_kit::{Orders, SmallRun, Verdict};
-use trio_control::{GROUP_SIZE, TrioNode};
 use trio_machine::TrioEvent;
+use trio_nodes::{GROUP_SIZE, TrioNode};
 use tuple_edge::OutOfMemory;
 
 /// The orders of events of the small run with a group of three.

@@ -4,9 +4,9 @@ use crate::nodes::NODES;
 use crate::numbers::Numbers;
 use std::alloc::Global;
 use test_kit::SmallRun;
-use trio_control::TrioNode;
 use trio_core::{TrioCore, TrioError};
 use trio_machine::TrioEvent;
+use trio_nodes::TrioNode;
 use tuple_edge::OutOfMemory;
 
 // A packet that was sent, and the number that it says.

@@ -19,13 +19,13 @@ use Rattle.trio_machine.specs.Replicas.{replica_dies, replica_pulls}
 use Rattle.trio_machine.specs.declared.body.TrioBody.{TrioBody}
 use Rattle.trio_machine.specs.declared.node.TrioNode.{TrioNode}
 use Rattle.trio_machine.specs.declared.node.TrioNode.TheVariants as node
-use Rattle.trio_control.specs.Contents.{appended}
-use Rattle.trio_control.specs.Egress as egress
-use Rattle.trio_control.specs.Replica as replica
-use Rattle.trio_control.specs.Replica.{RunningStands}
-use Rattle.trio_control.specs.ReplicaView.{ReplicaView, node_of, partition_of}
-use Rattle.trio_control.specs.Steps.{IsRefused, IsStep, IsTaken}
-use Rattle.trio_control.specs.declared.running.TrioRunning.{TrioRunning}
+use Rattle.trio_nodes.specs.Contents.{appended}
+use Rattle.trio_nodes.specs.Egress as egress
+use Rattle.trio_nodes.specs.Replica as replica
+use Rattle.trio_nodes.specs.Replica.{RunningStands}
+use Rattle.trio_nodes.specs.ReplicaView.{ReplicaView, node_of, partition_of}
+use Rattle.trio_nodes.specs.Steps.{IsRefused, IsStep, IsTaken}
+use Rattle.trio_nodes.specs.declared.running.TrioRunning.{TrioRunning}
 use Rattle.trio_core.specs.Acts.{ActsSo, IsActOf, IsAsked, IsDone, IsNextAt}
 use Rattle.trio_core.specs.CoreView.{Log, StationView, contents_of, inputs_in, name_of}
 use Rattle.trio_core.specs.Stands.{MemberStands}

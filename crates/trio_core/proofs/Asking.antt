@@ -28,17 +28,17 @@ use Rattle.trio_machine.specs.declared.body.TrioBody.TheVariants as body
 use Rattle.trio_machine.specs.declared.node.TrioNode.{TrioNode}
 use Rattle.trio_machine.specs.declared.node.TrioNode.TheVariants as node
 use Rattle.trio_machine.proofs.Laws.{trio_is_flow}
-use Rattle.trio_control.specs.Contents.{HasItem, message_of}
-use Rattle.trio_control.specs.ControllerPackets as control
-use Rattle.trio_control.specs.ControllerView.{ControllerView, node_of}
-use Rattle.trio_control.specs.Egress as egress
-use Rattle.trio_control.specs.Ingress as ingress
-use Rattle.trio_control.specs.IngressView.{IngressView}
-use Rattle.trio_control.specs.IngressView as ingress_view
-use Rattle.trio_control.specs.Replica.{IsOfPlan}
-use Rattle.trio_control.specs.ReplicaView as view
-use Rattle.trio_control.specs.ReplicaView.{IsAdmitted, ReplicaView, partition_of}
-use Rattle.trio_control.specs.declared.role.TrioRole.{TrioRole}
+use Rattle.trio_nodes.specs.Contents.{HasItem, message_of}
+use Rattle.trio_nodes.specs.ControllerPackets as control
+use Rattle.trio_nodes.specs.ControllerView.{ControllerView, node_of}
+use Rattle.trio_nodes.specs.Egress as egress
+use Rattle.trio_nodes.specs.Ingress as ingress
+use Rattle.trio_nodes.specs.IngressView.{IngressView}
+use Rattle.trio_nodes.specs.IngressView as ingress_view
+use Rattle.trio_nodes.specs.Replica.{IsOfPlan}
+use Rattle.trio_nodes.specs.ReplicaView as view
+use Rattle.trio_nodes.specs.ReplicaView.{IsAdmitted, ReplicaView, partition_of}
+use Rattle.trio_nodes.specs.declared.role.TrioRole.{TrioRole}
 use Rattle.trio_core.specs.Acts.{Fits, IsNextAt, MayBeAsked, merges_at}
 use Rattle.trio_core.specs.CoreView.{name_of}
 use Rattle.trio_core.specs.Stands.{AreTimely}

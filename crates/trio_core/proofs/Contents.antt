@@ -14,12 +14,12 @@ use Rattle.trio_machine.specs.Flow.{trio_flow}
 use Rattle.trio_machine.specs.Machine.{does, ingress_in, replica_in}
 use Rattle.trio_machine.specs.Messages.{Act}
 use Rattle.trio_machine.specs.Numbers.{Gone, Node, Replica, Running}
-use Rattle.trio_control.specs.Ingress as ingress
-use Rattle.trio_control.specs.IngressView.{IngressView, contents_in}
-use Rattle.trio_control.specs.Replica as replica
-use Rattle.trio_control.specs.Replica.{RunningStands}
-use Rattle.trio_control.specs.ReplicaView.{ReplicaView, contents_if, partition_of}
-use Rattle.trio_control.specs.declared.running.TrioRunning.{TrioRunning}
+use Rattle.trio_nodes.specs.Ingress as ingress
+use Rattle.trio_nodes.specs.IngressView.{IngressView, contents_in}
+use Rattle.trio_nodes.specs.Replica as replica
+use Rattle.trio_nodes.specs.Replica.{RunningStands}
+use Rattle.trio_nodes.specs.ReplicaView.{ReplicaView, contents_if, partition_of}
+use Rattle.trio_nodes.specs.declared.running.TrioRunning.{TrioRunning}
 use Rattle.trio_core.specs.Acts.{ActsSo, IsAsked, IsRefusedSo, MayBeAsked}
 use Rattle.trio_core.specs.CoreView.{Log, contents_of, contents_of_replica, inputs_in, name_of}
 use Rattle.trio_core.specs.Refusals.{IsRefusal}

@@ -14,14 +14,14 @@ use Rattle.trio_machine.specs.Machine.{State}
 use Rattle.trio_machine.specs.Numbers.{group_size}
 use Rattle.trio_machine.specs.declared.node.TrioNode.{TrioNode}
 use Rattle.trio_machine.specs.declared.node.TrioNode.TheVariants as node
-use Rattle.trio_control.specs.ControllerPackets as of_control
-use Rattle.trio_control.specs.ControllerView.{ControllerView, node_of}
-use Rattle.trio_control.specs.Egress as of_egress
-use Rattle.trio_control.specs.Ingress as of_ingress
-use Rattle.trio_control.specs.IngressView.{IngressView, contents_in}
-use Rattle.trio_control.specs.Replica as of_replica
-use Rattle.trio_control.specs.ReplicaView as replica_view
-use Rattle.trio_control.specs.ReplicaView.{ReplicaView}
+use Rattle.trio_nodes.specs.ControllerPackets as of_control
+use Rattle.trio_nodes.specs.ControllerView.{ControllerView, node_of}
+use Rattle.trio_nodes.specs.Egress as of_egress
+use Rattle.trio_nodes.specs.Ingress as of_ingress
+use Rattle.trio_nodes.specs.IngressView.{IngressView, contents_in}
+use Rattle.trio_nodes.specs.Replica as of_replica
+use Rattle.trio_nodes.specs.ReplicaView as replica_view
+use Rattle.trio_nodes.specs.ReplicaView.{ReplicaView}
 use Rattle.trio_core.specs.CoreView.{CoreView, StationView, contents_of_replica, core_of, flow_in, found, inputs_of, name_of, place_of}
 use Rattle.trio_core.specs.Ends.{control_in, egress_in, ingress_in, replica_in}
 use Rattle.trio_core.specs.Stands.{IsCore, IsThere, MemberStands, StandsFor, StationStands}

@@ -8,7 +8,7 @@ use Rattle.trio_machine.specs.Numbers.{is_node}
 use Rattle.trio_machine.specs.declared.body.TrioBody.{TrioBody}
 use Rattle.trio_machine.specs.declared.event.TrioEvent.TheVariants as event
 use Rattle.trio_machine.specs.declared.node.TrioNode.{TrioNode}
-use Rattle.trio_control.specs.Contents.{BodyStands}
+use Rattle.trio_nodes.specs.Contents.{BodyStands}
 use Rattle.trio_core.specs.CoreView.{CoreView, Log, StationView, flow_in, found, inputs_of}
 use Rattle.trio_core.specs.Refusals.{IsRefusal}
 use Rattle.trio_core.specs.Sent.{Counted, bodies_to, body_at}

@@ -23,10 +23,10 @@ use Rattle.trio_machine.specs.declared.node.TrioNode.{TrioNode}
 use Rattle.trio_machine.specs.declared.node.TrioNode.TheVariants as node
 use Rattle.trio_machine.proofs.Names.{node_self}
 use Rattle.pair_machine.specs.Flow.{Flow}
-use Rattle.trio_control.specs.Contents.{BodyStands}
-use Rattle.trio_control.specs.ControllerPackets as control
-use Rattle.trio_control.specs.ControllerView as control_view
-use Rattle.trio_control.specs.ControllerView.{ControllerView}
+use Rattle.trio_nodes.specs.Contents.{BodyStands}
+use Rattle.trio_nodes.specs.ControllerPackets as control
+use Rattle.trio_nodes.specs.ControllerView as control_view
+use Rattle.trio_nodes.specs.ControllerView.{ControllerView}
 use Rattle.trio_core.specs.CoreView.{CoreView, StationView, core_of, found, inputs_at, inputs_in as inputs_of_node, inputs_of, is_at, name_of, place_of}
 use Rattle.trio_core.specs.Ends.{egress_in}
 use Rattle.trio_core.specs.Opening.{AreOpen, HasAll, HasGroup, HasStation, HaveMore, IsOpen, new_station}

@@ -28,9 +28,9 @@ use Rattle.trio_machine.specs.Numbers.{Gone, Node, Replica, Running, part_of}
 use Rattle.trio_machine.specs.declared.event.TrioEvent.TheVariants as event
 use Rattle.trio_machine.specs.declared.node.TrioNode.{TrioNode}
 use Rattle.trio_machine.specs.declared.node.TrioNode.TheVariants as node
-use Rattle.trio_control.specs.Replica.{RunningStands}
-use Rattle.trio_control.specs.ReplicaView as role
-use Rattle.trio_control.specs.declared.running.TrioRunning.{TrioRunning}
+use Rattle.trio_nodes.specs.Replica.{RunningStands}
+use Rattle.trio_nodes.specs.ReplicaView as role
+use Rattle.trio_nodes.specs.declared.running.TrioRunning.{TrioRunning}
 use Rattle.trio_core.specs.Acts.{IsActOf, IsNextAt, merges_at}
 use Rattle.trio_core.specs.CoreView.{CoreView, StationView, flow_in, found, inputs_of, name_of}
 use Rattle.trio_core.specs.Ends.{consumer_in, producer_in}

@@ -9,7 +9,7 @@ use Rattle.trio_machine.specs.Messages.{Envelope, Message}
 use Rattle.trio_machine.specs.Numbers.{is_node}
 use Rattle.trio_machine.specs.declared.body.TrioBody.{TrioBody}
 use Rattle.trio_machine.specs.declared.node.TrioNode.{TrioNode}
-use Rattle.trio_control.specs.Contents.{ArePacketsFor, BodyStands, HasItem, envelopes_of, message_of}
+use Rattle.trio_nodes.specs.Contents.{ArePacketsFor, BodyStands, HasItem, envelopes_of, message_of}
 use Rattle.trio_core.specs.CoreView.{Log}
 use Rattle.trio_core.specs.Sent.{bodies_to}
 use Rattle.trio_core.specs.Stands.{PacketsStand}

@@ -20,7 +20,7 @@ use Rattle.trio_machine.specs.declared.event.TrioEvent.TheVariants as event
 use Rattle.trio_machine.specs.declared.node.TrioNode.{TrioNode}
 use Rattle.trio_machine.proofs.Names.{is_node-true, node_self}
 use Rattle.trio_machine.proofs.Steps.{ActSent, WasSent, act_sent, at_there}
-use Rattle.trio_control.specs.Contents.{ArePacketsFor, BodyStands}
+use Rattle.trio_nodes.specs.Contents.{ArePacketsFor, BodyStands}
 use Rattle.trio_core.specs.Acts.{IsActOf, IsAsked, IsDone}
 use Rattle.trio_core.specs.CoreView.{CoreView, StationView, flow_in, found, inputs_of, name_of}
 use Rattle.trio_core.specs.Sent.{bodies_to}

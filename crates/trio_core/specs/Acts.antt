@@ -17,7 +17,7 @@ use Rattle.trio_machine.specs.declared.body.TrioBody.{TrioBody}
 use Rattle.trio_machine.specs.declared.body.TrioBody.TheVariants as body
 use Rattle.trio_machine.specs.declared.node.TrioNode.{TrioNode}
 use Rattle.trio_machine.specs.declared.node.TrioNode.TheVariants as node
-use Rattle.trio_control.specs.Contents.{ArePacketsFor, BodyStands}
+use Rattle.trio_nodes.specs.Contents.{ArePacketsFor, BodyStands}
 use Rattle.trio_core.specs.CoreView.{Log, name_of}
 use Rattle.trio_core.specs.Refusals.{IsRefusal}
 use Rattle.trio_core.specs.Stands.{AreTimely, MemberStands}

@@ -10,10 +10,10 @@ use Rattle.trio_machine.specs.Numbers.{is_node}
 use Rattle.trio_machine.specs.declared.body.TrioBody.{TrioBody}
 use Rattle.trio_machine.specs.declared.node.TrioNode.{TrioNode}
 use Rattle.trio_machine.specs.declared.node.TrioNode.TheVariants as node
-use Rattle.trio_control.specs.ControllerView as control
-use Rattle.trio_control.specs.IngressView as ingress
-use Rattle.trio_control.specs.ReplicaView as replica
-use Rattle.trio_control.specs.ReplicaView.{ReplicaView}
+use Rattle.trio_nodes.specs.ControllerView as control
+use Rattle.trio_nodes.specs.IngressView as ingress
+use Rattle.trio_nodes.specs.ReplicaView as replica
+use Rattle.trio_nodes.specs.ReplicaView.{ReplicaView}
 use Rattle.trio_core.specs.declared.member.Member.{Member}
 use Rattle.trio_core.specs.declared.member.Member.TheVariants as member
 

@@ -4,9 +4,9 @@ use Rattle.std.specs.Option.{option_map}
 use Rattle.flux_consumer.specs.ConsumerView.{ConsumerView}
 use Rattle.flux_producer.specs.ProducerView.{ProducerView}
 use Rattle.ingress_egress.specs.EgressView.{EgressView}
-use Rattle.trio_control.specs.ControllerView.{ControllerView}
-use Rattle.trio_control.specs.IngressView.{IngressView}
-use Rattle.trio_control.specs.ReplicaView.{ReplicaView}
+use Rattle.trio_nodes.specs.ControllerView.{ControllerView}
+use Rattle.trio_nodes.specs.IngressView.{IngressView}
+use Rattle.trio_nodes.specs.ReplicaView.{ReplicaView}
 use Rattle.trio_core.specs.declared.member.Member.{Member}
 use Rattle.trio_core.specs.declared.member.Member.TheVariants as member
 

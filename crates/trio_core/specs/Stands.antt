@@ -13,11 +13,11 @@ use Rattle.trio_machine.specs.Messages.{Message}
 use Rattle.trio_machine.specs.Numbers.{Node}
 use Rattle.trio_machine.specs.declared.event.TrioEvent.{TrioEvent}
 use Rattle.trio_machine.specs.declared.node.TrioNode.{TrioNode}
-use Rattle.trio_control.specs.Contents.{BodyStands}
-use Rattle.trio_control.specs.ControllerPackets as control
-use Rattle.trio_control.specs.Egress as egress
-use Rattle.trio_control.specs.Ingress as ingress
-use Rattle.trio_control.specs.Replica as replica
+use Rattle.trio_nodes.specs.Contents.{BodyStands}
+use Rattle.trio_nodes.specs.ControllerPackets as control
+use Rattle.trio_nodes.specs.Egress as egress
+use Rattle.trio_nodes.specs.Ingress as ingress
+use Rattle.trio_nodes.specs.Replica as replica
 use Rattle.trio_core.specs.CoreView.{CoreView, Log, StationView, flow_in, found, inputs_of, name_of}
 use Rattle.trio_core.specs.Sent.{bodies_to}
 use Rattle.trio_core.specs.declared.member.Member.{Member}

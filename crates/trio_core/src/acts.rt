@@ -1,9 +1,9 @@
 // What an event asks of its node, done by each kind of node.
 ghost use Rattle.std.specs.Prelude.{◌≡◌, ◌≤◌, ◌++◌, ◌↔◌, [], IfErr, IsTrue, OnErr, OnOk};
-ghost use Rattle.trio_control.specs.Contents.{appended};
-ghost use Rattle.trio_control.specs.ControllerView.{node_of};
-ghost use Rattle.trio_control.specs.IngressView.{contents_in};
-ghost use Rattle.trio_control.specs.Outbox.{most_packets};
+ghost use Rattle.trio_nodes.specs.Contents.{appended};
+ghost use Rattle.trio_nodes.specs.ControllerView.{node_of};
+ghost use Rattle.trio_nodes.specs.IngressView.{contents_in};
+ghost use Rattle.trio_nodes.specs.Outbox.{most_packets};
 ghost use Rattle.trio_core.specs.Acts.{ActsSo, Fits, IsRefusedSo, MayBeAsked};
 ghost use Rattle.trio_core.specs.CoreView.{contents_of, contents_of_replica, inputs_in, name_of};
 ghost use Rattle.trio_core.specs.declared.error.TrioError.TheVariants as error;
@@ -13,7 +13,7 @@ ghost use Rattle.trio_core.specs.declared.task.TrioTask.TheVariants as task;
 use crate::error::TrioError;
 use crate::member::Member;
 use crate::task::TrioTask;
-use trio_control::{
+use trio_nodes::{
     TrioBody, TrioControl, TrioEgress, TrioIngress, TrioNode, TrioOutbox, TrioReplica,
 };
 use tuple_edge::{Item, NUMBER_LIMIT, Worked};

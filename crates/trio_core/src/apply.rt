@@ -15,8 +15,8 @@ use crate::nodes::TrioCore;
 use crate::pulls::{part_of, pull_between};
 use crate::station::{acts_at, place_of};
 use crate::task::TrioTask;
-use trio_control::TrioNode;
 use trio_machine::TrioEvent;
+use trio_nodes::TrioNode;
 
 // The one node that an event changes.
 fn node_of(event: &TrioEvent) -> TrioNode

@@ -2,7 +2,7 @@
 //! list of events.
 //!
 //! A core stands for a state of the machine of groups that a legal list of events reaches, and an event that it
-//! applies is the machine's step. It stands on the nodes of `trio_control`.
+//! applies is the machine's step. It stands on the nodes of `trio_nodes`.
 #![tactic(auto)]
 
 mod acts;

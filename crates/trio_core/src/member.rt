@@ -1,5 +1,5 @@
 // A node, whichever kind it is.
-use trio_control::{TrioControl, TrioEgress, TrioIngress, TrioReplica};
+use trio_nodes::{TrioControl, TrioEgress, TrioIngress, TrioReplica};
 
 /// A node of a plan, whichever kind it is.
 #[derive(Drop)]

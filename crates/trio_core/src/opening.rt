@@ -20,7 +20,7 @@ use crate::station::Station;
 use plan_reader::Plan;
 use std::alloc::Global;
 use trade_text::Trades;
-use trio_control::{GROUP_SIZE, TrioControl, TrioEgress, TrioIngress, TrioNode, TrioReplica};
+use trio_nodes::{GROUP_SIZE, TrioControl, TrioEgress, TrioIngress, TrioNode, TrioReplica};
 use tuple_edge::{OutOfMemory, Row};
 
 // A station joins the others: a node under its name, which has sent nothing.

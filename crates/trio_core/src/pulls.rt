@@ -8,7 +8,7 @@ use crate::error::TrioError;
 use crate::task::TrioTask;
 use flux_consumer::Consumer;
 use flux_producer::Producer;
-use trio_control::TrioNode;
+use trio_nodes::TrioNode;
 
 // The partition of a node.
 pub(crate) fn part_of(node: TrioNode) -> u32

@@ -1,6 +1,6 @@
 // All that a node ever sent.
 ghost use Rattle.std.specs.Prelude.{◌≡◌, ◌<◌, ◌+◌, ◌++◌, ◌∷◌, [], if◌then◌else◌, IfErr, IfOk, IfSome, OnErr, OnOk, Some, length, slice_get, slice_set};
-ghost use Rattle.trio_control.specs.Contents.{appended};
+ghost use Rattle.trio_nodes.specs.Contents.{appended};
 ghost use Rattle.trio_core.specs.Acts.{ActsSo, IsRefusedSo, MayBeAsked};
 ghost use Rattle.trio_core.specs.CoreView.{contents_of, inputs_in, name_of};
 ghost use Rattle.trio_core.specs.Sent.{AreListed, LinkView, bodies_to, is_link, link_of, listed_for, longer};
@@ -15,7 +15,7 @@ use crate::taking::{body_at, taken_from};
 use crate::task::TrioTask;
 use std::alloc::Global;
 use std::marker::Model;
-use trio_control::{MOST_PACKETS, TrioNode, TrioOutbox};
+use trio_nodes::{MOST_PACKETS, TrioNode, TrioOutbox};
 use tuple_edge::OutOfMemory;
 
 /// The places of the packets to one receiver, among all that a node sent.

@@ -2,7 +2,7 @@
 ghost use Rattle.flux_producer.specs.ProducerView.{contents_of};
 ghost use Rattle.std.specs.Option.{option_map};
 ghost use Rattle.std.specs.Prelude.{◌≡◌, ◌<◌, IfErr, IsSome, OnErr, OnOk, Some, length, slice_get};
-ghost use Rattle.trio_control.specs.IngressView.{contents_in};
+ghost use Rattle.trio_nodes.specs.IngressView.{contents_in};
 ghost use Rattle.trio_core.specs.Acts.{IsRefusedSo, MayBeAsked};
 ghost use Rattle.trio_core.specs.CoreView.{StationView, contents_of_replica, found, is_at, place_of};
 ghost use Rattle.trio_core.specs.Ends.{consumer_in, control_in, egress_in, ingress_in, producer_in, replica_in};
@@ -15,7 +15,7 @@ use crate::task::TrioTask;
 use flux_consumer::Consumer;
 use flux_producer::Producer;
 use std::marker::Model;
-use trio_control::{TrioControl, TrioEgress, TrioIngress, TrioNode, TrioReplica};
+use trio_nodes::{TrioControl, TrioEgress, TrioIngress, TrioNode, TrioReplica};
 
 /// A node under its name, and every packet that it ever sent, each with its receiver, in order. Contracts leave
 /// the room of edges aside.

@@ -5,7 +5,7 @@ ghost use Rattle.trio_core.specs.Taken.{IsMissing, IsPacketOf};
 
 use crate::error::TrioError;
 use crate::task::TrioTask;
-use trio_control::{TrioBody, TrioNode, TrioOutbox};
+use trio_nodes::{TrioBody, TrioNode, TrioOutbox};
 
 // The body of the packet at a place among all that a node sent, where it went to this receiver.
 pub(crate) fn body_at(log: &TrioOutbox, nth: usize, to: TrioNode) -> Option<TrioBody>

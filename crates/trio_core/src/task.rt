@@ -1,5 +1,5 @@
 // What an event asks of its node.
-use trio_control::{TrioBody, TrioNode};
+use trio_nodes::{TrioBody, TrioNode};
 use tuple_edge::Item;
 
 /// What an event asks of its node.

@@ -19,11 +19,11 @@ use Rattle.trio_machine.specs.Machine.{State, egress_in, replica_in}
 use Rattle.trio_machine.specs.Numbers.{Gone, Replica, Running}
 use Rattle.trio_machine.specs.declared.node.TrioNode.{TrioNode}
 use Rattle.trio_machine.specs.declared.node.TrioNode.TheVariants as node
-use Rattle.trio_control.specs.Egress as egress
-use Rattle.trio_control.specs.Replica as replica
-use Rattle.trio_control.specs.Replica.{RunningStands}
-use Rattle.trio_control.specs.ReplicaView.{ReplicaView, node_of, partition_of}
-use Rattle.trio_control.specs.declared.running.TrioRunning.{TrioRunning}
+use Rattle.trio_nodes.specs.Egress as egress
+use Rattle.trio_nodes.specs.Replica as replica
+use Rattle.trio_nodes.specs.Replica.{RunningStands}
+use Rattle.trio_nodes.specs.ReplicaView.{ReplicaView, node_of, partition_of}
+use Rattle.trio_nodes.specs.declared.running.TrioRunning.{TrioRunning}
 use Rattle.trio_drain.specs.Order.{partition_in}
 
 -- ---- the first number below a bound that passes a test

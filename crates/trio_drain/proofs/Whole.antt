@@ -22,7 +22,7 @@ use Rattle.trio_machine.specs.declared.node.TrioNode.TheVariants as node
 use Rattle.trio_machine.proofs.DrainWhole.{drain_whole, finds_lost}
 use Rattle.trio_machine.proofs.Laws.{output_is_a_front, reached_is_sound}
 use Rattle.trio_machine.proofs.Legal.{one_end}
-use Rattle.trio_control.specs.Egress as egress
+use Rattle.trio_nodes.specs.Egress as egress
 use Rattle.trio_core.specs.CoreView.{CoreView, StationView, flow_in, found, inputs_of, name_of}
 use Rattle.trio_core.specs.Ends as ends
 use Rattle.trio_core.specs.Promises.{EmitsAFront, HoldsWhatIsOwed, egress_of, emitted_by, rows_of}

@@ -15,9 +15,9 @@ ghost use Rattle.trio_machine.specs.Numbers.{group_size};
 ghost use Rattle.trio_machine.specs.declared.event.TrioEvent.TheVariants as event;
 ghost use Rattle.trio_machine.specs.declared.node.TrioNode.{TrioNode};
 
-use trio_control::GROUP_SIZE;
 use trio_core::TrioCore;
 use trio_machine::TrioNode;
+use trio_nodes::GROUP_SIZE;
 
 // The number of partitions of a stage: they are the sources of the next one, or of egress.
 pub(crate) fn parts(core: &TrioCore, stage: u32) -> u32

@@ -12,13 +12,13 @@ use Rattle.pair_machine.specs.Numbers.{Partition}
 use Rattle.trio_machine.specs.Machine.{State, controller_in, replica_in}
 use Rattle.trio_machine.specs.Numbers.{Gone, Replica, Running}
 use Rattle.trio_machine.specs.declared.node.TrioNode.{TrioNode}
-use Rattle.trio_control.specs.ControllerPackets as control
-use Rattle.trio_control.specs.ControllerView.{ControllerView, node_of, numbers_of}
-use Rattle.trio_control.specs.Replica as replica
-use Rattle.trio_control.specs.Replica.{RunningStands}
-use Rattle.trio_control.specs.ReplicaView.{ReplicaView, partition_of}
-use Rattle.trio_control.specs.ReplicaView as replica_view
-use Rattle.trio_control.specs.declared.running.TrioRunning.{TrioRunning}
+use Rattle.trio_nodes.specs.ControllerPackets as control
+use Rattle.trio_nodes.specs.ControllerView.{ControllerView, node_of, numbers_of}
+use Rattle.trio_nodes.specs.Replica as replica
+use Rattle.trio_nodes.specs.Replica.{RunningStands}
+use Rattle.trio_nodes.specs.ReplicaView.{ReplicaView, partition_of}
+use Rattle.trio_nodes.specs.ReplicaView as replica_view
+use Rattle.trio_nodes.specs.declared.running.TrioRunning.{TrioRunning}
 use Rattle.trio_core.specs.CoreView.{CoreView, flow_in}
 use Rattle.trio_core.proofs.OpenPlan as plans
 use Rattle.trio_text.specs.Text.{trio_node_name}

@@ -1,7 +1,7 @@
 -- The line of a replica, as its node has it.
 use Rattle.std.specs.Prelude.{List, ℕ, Option, None, Some}
 use Rattle.text_words.specs.Lines.{Word}
-use Rattle.trio_control.specs.declared.running.TrioRunning.{TrioRunning}
+use Rattle.trio_nodes.specs.declared.running.TrioRunning.{TrioRunning}
 use Rattle.trio_state.specs.GroupsText.{gone_line, running_line}
 
 -- a replica in code: how many items it has merged, or that it is gone

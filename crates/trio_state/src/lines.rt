@@ -1,12 +1,12 @@
 // The line of one node of a group.
 ghost use Rattle.std.specs.Prelude.{◌≡◌, ◌++◌, OnOk, string_bytes};
-ghost use Rattle.trio_control.specs.ReplicaView.{node_of as replica_of};
-ghost use Rattle.trio_control.specs.ControllerView.{node_of, numbers_of};
+ghost use Rattle.trio_nodes.specs.ReplicaView.{node_of as replica_of};
+ghost use Rattle.trio_nodes.specs.ControllerView.{node_of, numbers_of};
 ghost use Rattle.trio_state.specs.GroupsText.{control_line, leader_word};
 ghost use Rattle.trio_state.specs.Shown.{replica_shown};
 ghost use Rattle.trio_text.specs.Text.{trio_node_name};
 
-use trio_control::{TrioControl, TrioReplica};
+use trio_nodes::{TrioControl, TrioReplica};
 use trio_text::push_trio_node;
 use tuple_edge::OutOfMemory;
 

@@ -1,9 +1,9 @@
 use Rattle.std.proofs.Common.{ℕ, ◌∙◌, Option, ap, option_map}
 use Rattle.std.specs.Option.{option_and_then}
-use Rattle.join_stage.specs.Join as join
-use Rattle.join_stage.specs.Store.{first_where}
-use Rattle.join_stage.specs.declared.rows.JoinKey.{JoinKey}
-use Rattle.join_stage.specs.declared.rows.Kept.{Kept}
+use Rattle.keyed_store.specs.Join as join
+use Rattle.keyed_store.specs.Store.{first_where}
+use Rattle.keyed_store.specs.declared.rows.JoinKey.{JoinKey}
+use Rattle.keyed_store.specs.declared.rows.Kept.{Kept}
 use Rattle.stream_ops.specs.Joins.{entry_of_kept}
 use Rattle.stream_ops.proofs.Sided.{old_told}
 use Rattle.stream_ops.proofs.joined.joined_after.Goals as goal

@@ -1,5 +1,5 @@
 use Rattle.std.proofs.Common.{◌∙◌, ◌+◌, ℕ, Bool, cond, length, ap, sym}
-use Rattle.join_stage.specs.Store.{StoreView}
+use Rattle.keyed_store.specs.Store.{StoreView}
 use Rattle.circular_buffer.specs.Buffer.{Buffer}
 use Rattle.tuple_edge.specs.declared.row.Key.{Key}
 use Rattle.stream_ops.specs.Entries.{all_told, told_last}

@@ -2,7 +2,7 @@ use Rattle.std.proofs.Common.{arith, ◌≡◌, ◌∙◌, Option, to_z, of_z, w
 use Rattle.std.proofs.lemmas.Int.{ints}
 use Rattle.std.specs.BTreeMap.{insert_entry}
 use Rattle.std.specs.Map.{lookup}
-use Rattle.join_stage.specs.Store.{changed}
+use Rattle.keyed_store.specs.Store.{changed}
 use Rattle.op_spec.specs.Keys.{is_key, key_cmp}
 use Rattle.stream_ops.specs.Steps.{window_with}
 use Rattle.stream_ops.specs.declared.window.OpenWindow.{OpenWindow}

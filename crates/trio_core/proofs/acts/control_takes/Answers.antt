@@ -1,6 +1,6 @@
 use Rattle.std.proofs.Common.{◌<◌, ◌+◌, arith, subst, sym}
 use Rattle.tuple_edge.specs.Limits.{number_limit}
-use Rattle.trio_control.specs.ControllerPackets.{packets_of, taking}
+use Rattle.trio_nodes.specs.ControllerPackets.{packets_of, taking}
 use Rattle.trio_core.specs.Acts.{ActsSo}
 use Rattle.trio_core.specs.declared.member.Member.TheVariants as member
 use Rattle.trio_core.specs.declared.task.TrioTask.TheVariants as task

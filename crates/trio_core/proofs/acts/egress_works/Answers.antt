@@ -1,6 +1,6 @@
 use Rattle.std.proofs.Common.{subst, sym}
 use Rattle.trio_machine.specs.Messages.{NothingDue, Works}
-use Rattle.trio_control.specs.Egress.{IsWorked, working}
+use Rattle.trio_nodes.specs.Egress.{IsWorked, working}
 use Rattle.trio_core.specs.Acts.{ActsSo}
 use Rattle.trio_core.specs.declared.member.Member.TheVariants as member
 use Rattle.trio_core.specs.declared.task.TrioTask.TheVariants as task

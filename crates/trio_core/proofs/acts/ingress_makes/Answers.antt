@@ -1,6 +1,6 @@
 use Rattle.std.proofs.Common.{[], subst}
 use Rattle.trio_machine.specs.Messages.{Makes, NoMoreRows}
-use Rattle.trio_control.specs.Ingress.{IsMadeIn}
+use Rattle.trio_nodes.specs.Ingress.{IsMadeIn}
 use Rattle.trio_core.specs.declared.member.Member.TheVariants as member
 use Rattle.trio_core.specs.declared.task.TrioTask.TheVariants as task
 use Rattle.trio_core.proofs.Acting.{did, refuses}

@@ -1,7 +1,7 @@
 use Rattle.std.proofs.Common.{subst, sym}
 use Rattle.trio_machine.specs.Messages.{NothingDue, Works}
-use Rattle.trio_control.specs.Ingress.{IsWorked}
-use Rattle.trio_control.specs.IngressView.{working}
+use Rattle.trio_nodes.specs.Ingress.{IsWorked}
+use Rattle.trio_nodes.specs.IngressView.{working}
 use Rattle.trio_core.specs.Acts.{ActsSo}
 use Rattle.trio_core.specs.declared.member.Member.TheVariants as member
 use Rattle.trio_core.specs.declared.task.TrioTask.TheVariants as task

@@ -1,6 +1,6 @@
 use Rattle.std.proofs.Common.{subst, sym}
 use Rattle.trio_machine.specs.Messages.{Dies}
-use Rattle.trio_control.specs.ReplicaView.{down_sent}
+use Rattle.trio_nodes.specs.ReplicaView.{down_sent}
 use Rattle.trio_core.specs.Acts.{ActsSo}
 use Rattle.trio_core.specs.declared.member.Member.TheVariants as member
 use Rattle.trio_core.specs.declared.task.TrioTask.TheVariants as task

@@ -1,7 +1,7 @@
 use Rattle.std.proofs.Common.{subst}
 use Rattle.trio_machine.specs.Messages.{NothingDue, Works}
-use Rattle.trio_control.specs.Contents.{appended}
-use Rattle.trio_control.specs.Replica.{IsWorked}
+use Rattle.trio_nodes.specs.Contents.{appended}
+use Rattle.trio_nodes.specs.Replica.{IsWorked}
 use Rattle.trio_core.specs.declared.member.Member.TheVariants as member
 use Rattle.trio_core.specs.declared.task.TrioTask.TheVariants as task
 use Rattle.trio_core.proofs.Acting.{did, refuses}

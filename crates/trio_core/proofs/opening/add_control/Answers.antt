@@ -1,6 +1,6 @@
 use Rattle.std.proofs.Common.{◌≤◌, sym, subst, ap}
 use Rattle.trio_machine.specs.declared.node.TrioNode.TheVariants as node
-use Rattle.trio_control.specs.ControllerView.{node_of}
+use Rattle.trio_nodes.specs.ControllerView.{node_of}
 use Rattle.trio_core.specs.declared.member.Member.TheVariants as member
 use Rattle.trio_core.proofs.Acting.{on_ok-map}
 use Rattle.trio_core.proofs.OpenPlan.{sources_within}

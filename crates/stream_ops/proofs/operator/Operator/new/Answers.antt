@@ -1,6 +1,6 @@
 use Rattle.std.proofs.Common.{◌≡◌, ℤ, to_z, of_z, w64, sym, subst, arith}
 use Rattle.std.proofs.lemmas.Int.{ints}
-use Rattle.join_stage.specs.Join.{JoinView}
+use Rattle.keyed_store.specs.Join.{JoinView}
 use Rattle.op_spec.specs.Spec.{IsSpec}
 use Rattle.op_spec.specs.declared.spec.OpSpec.{OpSpec}
 use Rattle.op_spec.specs.declared.spec.OpSpec.TheVariants as op

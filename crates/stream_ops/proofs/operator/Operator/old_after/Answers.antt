@@ -1,6 +1,6 @@
 use Rattle.std.proofs.Common.{◌∙◌, ap, sym, subst}
 use Rattle.std.specs.Option.{option_and_then}
-use Rattle.join_stage.specs.Store.{first_where}
+use Rattle.keyed_store.specs.Store.{first_where}
 use Rattle.stream_ops.specs.Entries.{is_after}
 use Rattle.stream_ops.specs.View.{IsSound, old_of}
 use Rattle.stream_ops.specs.declared.operator.Operator.{Operator}

@@ -3,8 +3,8 @@ use Rattle.std.proofs.lemmas.Int.{ints}
 use Rattle.std.specs.BTreeMap.{insert_entry}
 use Rattle.std.specs.Map.{lookup}
 use Rattle.circular_buffer.specs.Buffer.{Buffer}
-use Rattle.join_stage.specs.Join.{joined}
-use Rattle.join_stage.specs.Store.{StoreView}
+use Rattle.keyed_store.specs.Join.{joined}
+use Rattle.keyed_store.specs.Store.{StoreView}
 use Rattle.tuple_edge.specs.declared.packet.Entry.{Entry}
 use Rattle.tuple_edge.specs.declared.packet.Entry.TheVariants as entry
 use Rattle.tuple_edge.specs.declared.row.Key.{Key}

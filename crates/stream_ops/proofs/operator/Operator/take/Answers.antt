@@ -4,8 +4,8 @@ use Rattle.std.proofs.lemmas.Int.{ints}
 use Rattle.std.proofs.lemmas.Result.{on_ok_weaker}
 use Rattle.std.specs.Map.{lookup}
 use Rattle.circular_buffer.specs.Buffer.{Buffer}
-use Rattle.join_stage.specs.Join.{JoinView}
-use Rattle.join_stage.specs.Store.{StoreView}
+use Rattle.keyed_store.specs.Join.{JoinView}
+use Rattle.keyed_store.specs.Store.{StoreView}
 use Rattle.tuple_edge.specs.declared.row.Key.{Key}
 use Rattle.tuple_edge.specs.declared.row.Row.{Row}
 use Rattle.op_spec.specs.Keys.{is_key}

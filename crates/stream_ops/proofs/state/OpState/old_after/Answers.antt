@@ -1,6 +1,6 @@
 use Rattle.std.proofs.Common.{◌∙◌, Option, ap, sym, subst, ℕ}
 use Rattle.std.specs.Option.{IfSome, option_and_then}
-use Rattle.join_stage.specs.Store.{first_where}
+use Rattle.keyed_store.specs.Store.{first_where}
 use Rattle.tuple_edge.specs.declared.packet.Entry.{Entry}
 use Rattle.tuple_edge.specs.declared.row.Key.{Key}
 use Rattle.stream_ops.specs.Entries.{IsKeyed, is_after}

@@ -1,5 +1,5 @@
 use Rattle.std.proofs.Common.{◌∙◌, ◌++◌, ap, subst, sym}
-use Rattle.trio_control.specs.Contents.{appended}
+use Rattle.trio_nodes.specs.Contents.{appended}
 use Rattle.trio_core.specs.Sent.{AreListed, listed_for}
 use Rattle.trio_core.proofs.Listed.{listed_more}
 use Rattle.trio_core.proofs.sent.Sent.note.Goals as goal

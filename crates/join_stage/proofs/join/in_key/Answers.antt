@@ -1,8 +1,0 @@
-use Rattle.std.proofs.Common.{Option, sym, subst}
-use Rattle.std.specs.Option.{IfSome}
-use Rattle.join_stage.specs.Join.{IsShort}
-use Rattle.join_stage.specs.declared.rows.Sides.{Sides}
-use Rattle.join_stage.proofs.join.in_key.Goals as goal
-
-pub next_in-requires : goal.next_in-requires
-next_in-requires c = subst (λ (o : Option Sides). IfSome o IsShort) (sym c.in-Some.ensures) (c.requires c.args.key.now)

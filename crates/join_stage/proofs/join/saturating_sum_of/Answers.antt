@@ -1,6 +1,0 @@
-use Rattle.std.proofs.Common.{arith}
-use Rattle.std.proofs.lemmas.Int.{ints, clamps}
-use Rattle.join_stage.proofs.join.saturating_sum_of.Goals as goal
-
-pub returns : goal.returns
-returns c = omega (arith, ints, clamps, c.clamp.ensures.value)
