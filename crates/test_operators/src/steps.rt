@@ -108,9 +108,15 @@ fn key(account: i64) -> Key {
     Key { account, symbol: 0 }
 }
 
-fn entry((account, slot, a, b, c): Kept) -> Entry {
+fn entry((account, slot, qty, value, window): Kept) -> Entry {
     let key = key(account);
-    Entry::Keyed { key, slot, a, b, c }
+    Entry::Keyed {
+        key,
+        slot,
+        qty,
+        value,
+        window,
+    }
 }
 
 fn place(entry: &Entry) -> Option<(Key, u32)> {

@@ -145,9 +145,9 @@ const SUM_OF_FOUR: Entry = Entry::Keyed {
         symbol: 0,
     },
     slot: 0,
-    a: 4,
-    b: 400,
-    c: 0,
+    qty: 4,
+    value: 400,
+    window: 0,
 };
 
 // What is done with the newcomer before the whole move, and what comes of it then.

@@ -46,9 +46,9 @@ const SUM: Entry = Entry::Keyed {
         symbol: 0,
     },
     slot: 0,
-    a: 3,
-    b: 300,
-    c: 0,
+    qty: 3,
+    value: 300,
+    window: 0,
 };
 
 // The move to the second incarnation ends where the third one is to be served, and that one's begins with its first part. Orders
