@@ -2,7 +2,8 @@
 //!
 //! `input_at` reads a file of any kind (`Input`), and `feed_at` what all commands over a plan begin with: plan, trades
 //! and cash movements. Their clauses say of any course how far it came, by which calls of the files, and why it
-//! stopped. An `Answer` is what a command of `flux_look` comes to: a text, a status, and maybe a file that is saved before. It stands on flux_outside for files, and on plan_reader and trade_text for the texts.
+//! stopped. An `Answer` is what a command of `flux_look` comes to: a text, a status, and maybe a file that is saved
+//! before. It stands on flux_outside for files, and on plan_reader and trade_text for the texts.
 #![tactic(auto)]
 
 mod answer;
