@@ -16,7 +16,8 @@ use Rattle.pair_machine.specs.Ingress.{last_stamp, sent_together}
 use Rattle.pair_machine.proofs.Egress.{stage_at}
 use Rattle.pair_machine.proofs.Stages.{sent_by-next, stages_have_parts}
 use Rattle.pair_machine.proofs.Together.{merge_in_order}
-use Rattle.evaluation.specs.StageRows.{ComesTo, HasRows, Rises, early_replies, late_replies, tail_of}
+use Rattle.evaluation.specs.StageRows.{early_replies, late_replies}
+use Rattle.evaluation.proofs.ComingRows.{ComesTo, HasRows, Rises, tail_of}
 use Rattle.evaluation.proofs.StageRows.{ingress_rows, stage_rows}
 
 -- the same list and rows

@@ -201,7 +201,7 @@ stop_comes plan inputs role from inc (Stop i) p x st stands =
     same : inc_in p ≡ inc_of x
     same = incs_agree plan inputs (partition_of role) p x stands
 
-    by_test : (t : Bool) → ComesTo plan rows role (if t then phase.Gone (inc_in p) else p) [] (if t then numbers.Gone (inc_of x) else x, [])
+    by_test : (t : Bool) → ComesTo plan inputs role (if t then phase.Gone (inc_in p) else p) [] (if t then numbers.Gone (inc_of x) else x, [])
     by_test true = record { stands = same; packets = tt }
     by_test false = record { stands = stands; packets = tt }
 stop_comes plan rows role from inc m p x st stands = absurd st

@@ -234,14 +234,14 @@ whole_move plan inputs role m is timely of_plan bound = (
     merging : IsMerging (flow_of plan inputs) (partition_of role)
     merging = merges plan inputs role of_plan
 
-    told : entries role.op (merged_first plan rows (partition_of role) m.count) ≡ entries_after plan rows (partition_of role) m.count
-    told = entries_are (slice_get plan.stages (role.stage - 1)) of_plan.own role.op (merged_first plan rows (partition_of role) m.count) of_plan.own_is of_plan.op
+    told : entries role.op (merged_first plan inputs (partition_of role) m.count) ≡ entries_after plan inputs (partition_of role) m.count
+    told = entries_are (slice_get plan.stages (role.stage - 1)) of_plan.own role.op (merged_first plan inputs (partition_of role) m.count) of_plan.own_is of_plan.op
 
-    pieces : ArePieces plan rows (partition_of role) m role.op (merge_of plan rows (partition_of role) m) (producer_of plan rows (partition_of role) m) (merged_first plan rows (partition_of role) m.count)
+    pieces : ArePieces plan inputs (partition_of role) m role.op (merge_of plan inputs (partition_of role) m) (producer_of plan inputs (partition_of role) m) (merged_first plan inputs (partition_of role) m.count)
     pieces = record {
-      consumer = consumer_stands plan rows (partition_of role) m is merging bound;
-      sender = sender_of plan rows (partition_of role) m;
-      sends = producer_stands plan rows (partition_of role) m is merging bound;
+      consumer = consumer_stands plan inputs (partition_of role) m is merging bound;
+      sender = sender_of plan inputs (partition_of role) m;
+      sends = producer_stands plan inputs (partition_of role) m is merging bound;
       lows = λ t. refl;
       entries = told;
     }
