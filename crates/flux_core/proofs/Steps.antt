@@ -99,13 +99,13 @@ unfolding step
 stepped old new t e p timely has h s stands a act is asks =
     let n = at_node e in
     let plan = old.plan in
-    let rows = inputs_of old in
+    let inputs = inputs_of old in
     let sent = h.acted.sent in
-    let stood : ContentStands plan rows n (Some h.before.node) (s.nodes n) = subst (λ (at : Standing). ContentStands plan rows n at.content (s.nodes n)) h.was (stands n has).content in
-    let d = acts_here plan rows n t h.before.node h.after.node sent h.id h.acted.id (h.acted.acts plan) p timely (s.nodes n) a is stood asks in
+    let stood : ContentStands plan inputs n (Some h.before.node) (s.nodes n) = subst (λ (at : Standing). ContentStands plan inputs n at.content (s.nodes n)) h.was (stands n has).content in
+    let d = acts_here plan inputs n t h.before.node h.after.node sent h.id h.acted.id (h.acted.acts plan) p timely (s.nodes n) a is stood asks in
     let u : State = record { nodes = changed n d.0.0 s.nodes; sent = posted n d.0.1 s.sent } in
-    let done : step (flow_of plan rows) s e ≡ Ok u = ap (acted (flow_of plan rows) n s) act ∙ ap (after n s) d.1 in
-    let stands_now : ContentStands plan rows n (station new n).content d.0.0 = subst (λ (at : Standing). ContentStands plan rows n at.content d.0.0) (sym h.now) d.2 in
+    let done : step (flow_of plan inputs) s e ≡ Ok u = ap (acted (flow_of plan inputs) n s) act ∙ ap (after n s) d.1 in
+    let stands_now : ContentStands plan inputs n (station new n).content d.0.0 = subst (λ (at : Standing). ContentStands plan inputs n at.content d.0.0) (sym h.now) d.2 in
     let log : (station new n).sent ≡ (station old n).sent ++ sent = ap (λ (at : Standing). at.sent) h.now ∙ h.acted.noted ∙ ap (λ (at : Standing). at.sent ++ sent) (sym h.was) in
     let Good : PlanView → List Input → Type 0 = λ P I. (m : NodeId) → HasNode (flow_of P I) m → StationStands P I m (station new m) u in
     let good : Good plan inputs = λ m has_m.
