@@ -9,8 +9,8 @@ returns-clause-text c = then c.push_line.result (λ e.
     let start = c.args.text.now.items in
     let F = files_in c.args.files.now in
     let k = c.args.place in
-    let x : Input = c.input.result in
+    let x : Input = c.input-source.result in
     e
     ∙ (ap (λ (file : FileView). start ++ line_in file c.came_before-before.result x.row.time) c.file_of-file.ensures
     ∙ (ap (λ (n : ℕ). start ++ line_in (file_of F x.source) n x.row.time) c.came_before-before.ensures
-    ∙ ap (λ (o : Option Input). start ++ input_text F k o) (sym c.input.ensures)))) c.push_line.ensures.text
+    ∙ ap (λ (o : Option Input). start ++ input_text F k o) (sym c.input-source.ensures)))) c.push_line.ensures.text
