@@ -4,5 +4,5 @@ pub mod Judged
 pub mod Told
 pub mod Tries
 pub mod Wants
-pub mod WatchedRun
+pub mod Watched
 pub mod Ways

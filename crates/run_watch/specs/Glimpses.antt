@@ -5,7 +5,7 @@ use Rattle.tuple_edge.specs.declared.node.NodeId.TheVariants as node
 use Rattle.tuple_edge.specs.declared.node.Which.TheVariants.{A, B}
 use Rattle.pair_machine.specs.Flow.{Flow}
 use Rattle.pair_machine.specs.Machine.{State, controller_in, replica_in}
-use Rattle.pair_machine.specs.Numbers.{Controller, Gathering, Gone, Move, Replica, Running, WatchedRun}
+use Rattle.pair_machine.specs.Numbers.{Controller, Gathering, Gone, Move, Replica, Running, Watched}
 use Rattle.pair_machine.specs.Replicas.{sum_below}
 use Rattle.run_watch.specs.declared.glimpse.Glimpse.{Glimpse}
 use Rattle.run_watch.specs.declared.glimpse.Glimpse.TheVariants as glimpse
@@ -26,7 +26,7 @@ replica_seen sources (Gathering g) = glimpse.Gathering g.inc g.taken (sum_below 
 replica_seen sources (Gone i) = glimpse.Gone i
 
 -- what a controller knows of a replica, as it is seen
-abbrev pub known_of : WatchedRun → Known
+abbrev pub known_of : Watched → Known
 known_of h = record { status = h.status; inc = h.inc }
 
 -- what is seen of a controller
