@@ -160,7 +160,10 @@ fn explained<'a>(
         all: wanted.all,
         check: wanted.check,
     };
-    answered(alloc, plan, &question, wanted.number)
+    match answered(alloc, plan, &question, wanted.number) {
+        Ok(answer) => Ok(answer),
+        Err(stop) => Err(stop),
+    }
 }
 
 // The answer without movements.
