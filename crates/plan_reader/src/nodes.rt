@@ -35,8 +35,7 @@ impl Plan {
     pub fn parts(&self, stage: u32) -> u32
         requires low { 1 ≤ stage }
         requires high { stage ≤ length self.now.stages }
-        ensures value { result ≡ parts_of self.now stage }
-        ensures sources { result ≡ sources_of self.now (stage + 1) }
+        ensures { result ≡ parts_of self.now stage }
     {
         self.stages()[stage as usize - 1].parts
     }

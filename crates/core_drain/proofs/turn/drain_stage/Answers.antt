@@ -12,7 +12,7 @@ loop-part-init c = record { keeps = keeps_none c.args.core.now c.known.ensures; 
 pub drain_pair-requires : goal.drain_pair-requires
 drain_pair-requires c = record {
   there = subst (λ p. has_pair p c.args.stage c.loop-part.part ≡ true) (sym c.loop-part.invariant.keeps.plan)
-      (pair_of c.args.core.now.plan c.args.stage c.loop-part.part c.requires.first c.requires.last (let few = c.loop-part-test.true in let all = c.parts-parts.ensures.value ∙ ap (λ (p : PlanView). parts_of p c.args.stage) c.plan.ensures in omega arith));
+      (pair_of c.args.core.now.plan c.args.stage c.loop-part.part c.requires.first c.requires.last (let few = c.loop-part-test.true in let all = c.parts-parts.ensures ∙ ap (λ (p : PlanView). parts_of p c.args.stage) c.plan.ensures in omega arith));
 }
 
 pub returns-in_err-drain_pair-clause-within : goal.returns-in_err-drain_pair-clause-within
@@ -31,7 +31,7 @@ pub returns-clause-done : goal.returns-clause-done
 returns-clause-done c = λ b m a.
     (let x = c.loop-part.invariant.after b m a in
     let all : c.loop-part.part ≡ c.parts-parts.result = omega (arith, c.loop-part-test.false, c.loop-part.auto.part-end) in
-    let count = all ∙ (c.parts-parts.ensures.value ∙ ap (λ (p : PlanView). parts_of p c.args.stage) c.plan.ensures ∙ parts_at b c.args.core.now.plan a.plan c.args.stage) in
+    let count = all ∙ (c.parts-parts.ensures ∙ ap (λ (p : PlanView). parts_of p c.args.stage) c.plan.ensures ∙ parts_at b c.args.core.now.plan a.plan c.args.stage) in
     listed_on b c.loop-part.core c.loop-part.events.events (done_before b c.args.stage c.loop-part.part) (done_before b (c.args.stage + 1) 0) (stage_listed b c.args.stage c.loop-part.part c.requires.first count) x)
 
 pub returns-clause-keeps : goal.returns-clause-keeps

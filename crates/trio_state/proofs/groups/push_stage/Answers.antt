@@ -1,7 +1,8 @@
 use Rattle.std.proofs.Common.{◌≡◌, ◌∙◌, ◌+◌, ◌++◌, ap, append-nil, append_assoc, arith, string_bytes, sym}
 use Rattle.std.specs.List.{flat_map}
-use Rattle.plan_reader.specs.Nodes.{sources_of}
+use Rattle.plan_reader.specs.Nodes.{parts_of}
 use Rattle.plan_reader.specs.PlanView.{PlanView}
+use Rattle.plan_reader.proofs.NextStage.{sources_next}
 use Rattle.pair_machine.specs.Drain.{partition, parts_below}
 use Rattle.trio_core.specs.CoreView.{flow_in, inputs_of}
 use Rattle.trio_state.specs.GroupsText.{group_text}
@@ -23,11 +24,11 @@ loop-part-preserved c s stands =
 
 pub push_group-requires : goal.push_group-requires
 push_group-requires c =
-    group_named c.args.core.now.plan (inputs_of c.args.core.now) c.args.stage c.loop-part.part c.requires.low c.requires.high (omega (arith, c.loop-part-test.true, c.parts-parts.ensures.sources ∙ ap (λ (p : PlanView). sources_of p (c.args.stage + 1)) c.plan.ensures))
+    group_named c.args.core.now.plan (inputs_of c.args.core.now) c.args.stage c.loop-part.part c.requires.low c.requires.high (omega (arith, c.loop-part-test.true, c.parts-parts.ensures ∙ ap (λ (p : PlanView). parts_of p c.args.stage) c.plan.ensures ∙ sym (sources_next c.args.core.now.plan c.args.stage)))
 
 pub returns : goal.returns
 returns c s stands =
     let all : c.loop-part.part ≡ (flow_in c.args.core.now).sources (c.args.stage + 1) =
-    omega (arith, c.loop-part-test.false, c.loop-part.auto.part-end, c.parts-parts.ensures.sources ∙ ap (λ (p : PlanView). sources_of p (c.args.stage + 1)) c.plan.ensures, sources_in c.args.core.now (c.args.stage + 1)) in
+    omega (arith, c.loop-part-test.false, c.loop-part.auto.part-end, c.parts-parts.ensures ∙ ap (λ (p : PlanView). parts_of p c.args.stage) c.plan.ensures ∙ sym (sources_next c.args.core.now.plan c.args.stage), sources_in c.args.core.now (c.args.stage + 1)) in
     c.loop-part.invariant s stands
     ∙ ap (λ n. string_bytes c.args.text.now ++ flat_map (group_text s) (parts_below c.args.stage n)) all
