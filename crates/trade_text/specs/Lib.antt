@@ -7,6 +7,7 @@ pub mod Kinds
 pub mod Laws
 pub mod Limits
 pub mod Messages
+pub mod Pushed
 pub mod Records
 pub mod Refusals
 pub mod Results

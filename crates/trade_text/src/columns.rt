@@ -19,6 +19,21 @@ pub(crate) struct TradeColumns {
     pub(crate) price: usize,
 }
 
+impl TradeColumns {
+    // Those of no header.
+    pub(crate) fn none() -> TradeColumns {
+        TradeColumns {
+            count: 0,
+            time: 0,
+            account: 0,
+            symbol: 0,
+            side: 0,
+            qty: 0,
+            price: 0,
+        }
+    }
+}
+
 // How many fields a record has, and where the fields of a cash movement stand, from 0.
 #[derive(Clone, Copy)]
 pub(crate) struct CashColumns {

@@ -96,6 +96,7 @@ impl RecordParser {
     // At the start of a text.
     pub(crate) fn new(alloc: Global) -> RecordParser
         ensures place { result.place ≡ Place.StartRecord }
+        ensures field { result.field.items ≡ [] }
     {
         RecordParser {
             place: Place::StartRecord,
@@ -109,6 +110,20 @@ impl RecordParser {
         ensures place { self.new.place ≡ self.old.place }
     {
         self.field.clear();
+    }
+
+    // Begins a record with the front of a field, which isn't quoted.
+    pub(crate) fn begin_with(&mut self, front: &[u8]) -> Result<(), StreamError>
+        requires { self.old.field.items ≡ [] }
+        ensures field { OnOk result (self.new.field.items ≡ front.now) }
+        ensures place { OnOk result (self.new.place ≡ (if is_empty front.now then self.old.place else Place.InField)) }
+        ensures failed { IfErr result (λ e. e ≡ stream.OutOfMemory) }
+    {
+        self.field.extend_from_slice(front)?;
+        if !front.is_empty() {
+            self.place = Place::InField;
+        }
+        Ok(())
     }
 
     // Ends the field at hand.

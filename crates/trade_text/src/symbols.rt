@@ -12,8 +12,8 @@ use tuple_edge::OutOfMemory;
 /// The most different symbols.
 pub const MAX_SYMBOLS: usize = 4_096;
 
-// What stands for the symbol of no number.
-const NO_SYMBOL: &[u8] = b"-";
+/// What stands for the symbol of no number.
+pub const NO_SYMBOL: &[u8] = b"-";
 
 // The known symbols, in the order of their numbers.
 #[derive(Drop)]
@@ -42,6 +42,13 @@ impl Symbols {
         Symbols {
             names: IndexSet::new(alloc),
         }
+    }
+
+    // How many are known.
+    pub(crate) fn count(&self) -> usize
+        ensures { result ≡ length self.now }
+    {
+        self.names.len()
     }
 
     // The number of a symbol that is known, which tells that the text is one.

@@ -29,7 +29,7 @@ pub struct TradeReader<R: Read + Drop> {
 }
 
 // The refusal of a record, or want of memory, which is none.
-fn refusal(error: TradeError) -> StreamError
+pub(crate) fn refusal(error: TradeError) -> StreamError
     ensures { result ≡ told_error error }
 {
     match error {

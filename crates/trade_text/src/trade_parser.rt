@@ -1,0 +1,88 @@
+// Trades that are parsed from bytes that are pushed.
+ghost use Rattle.std.specs.Prelude.{◌≡◌, ◌+◌, ◌∷◌, [], ℕ, IfErr, IfOk, IfSome, List, MatchResult, None, Ok, OnOk, false, length, true};
+ghost use Rattle.csv.specs.Machine.{ends_at_end};
+ghost use Rattle.trade_text.specs.Limits.{max_symbol_bytes};
+ghost use Rattle.trade_text.specs.Pushed.{IsReady, Learns, TellsLast, TellsOn, state_after, state_on, told_behind};
+ghost use Rattle.trade_text.specs.Streams.{told_of};
+ghost use Rattle.trade_text.specs.Symbols.{symbol_at};
+ghost use Rattle.trade_text.specs.TradesView.{IsInputRow};
+
+use crate::StreamError;
+use crate::parsing::Parsing;
+use std::alloc::Global;
+use tuple_edge::Row;
+
+/// Trades that are parsed from bytes that are pushed, in pieces of any size. It keeps the symbols, and the front of one record.
+#[derive(Drop)]
+pub struct TradeParser {
+    at: Parsing,
+    over: bool,
+    ghost ready: { over ≡ false → IsReady at },
+}
+
+impl TradeParser {
+    /// At the start of a text.
+    pub fn new(alloc: Global) -> TradeParser
+        ensures told { (rest : List ℕ) → told_behind result.at rest ≡ told_of rest }
+        ensures state { (rest : List ℕ) → state_on result.at rest ≡ state_after rest }
+        ensures symbols { result.at.form.symbols ≡ [] }
+        ensures goes_on { result.over ≡ false }
+    {
+        TradeParser {
+            at: Parsing::new(alloc),
+            over: false,
+        }
+    }
+
+    /// Takes the next byte, and gives the row of the trade whose record it ends, if it ends one. A byte order mark at the
+    /// front of the text is dropped, once. After an error nothing is taken any more.
+    pub fn push(&mut self, alloc: Global, byte: u8) -> Result<Option<Row>, StreamError>
+        ensures tells { self.old.over ≡ false → (rest : List ℕ) → TellsOn result (told_behind self.old.at (byte ∷ rest)) (told_behind self.new.at rest) }
+        ensures within { IfOk result (λ row. IfSome row IsInputRow) }
+        ensures learns { self.old.over ≡ false → IfOk result (λ row. Learns row self.old.at.form.symbols self.new.at.form.symbols) }
+        ensures state { self.old.over ≡ false → OnOk result ((rest : List ℕ) → state_on self.old.at (byte ∷ rest) ≡ state_on self.new.at rest) }
+
+        // Nothing is taken behind an error.
+        ensures over { MatchResult result (λ _. self.new.over ≡ self.old.over) (λ _. self.new.over ≡ true) }
+        ensures nothing { self.old.over ≡ true → result ≡ Ok None }
+    {
+        if self.over {
+            return Ok(None);
+        }
+        self.over = true;
+        let row = self.at.push(alloc, byte)?;
+        self.over = false;
+        Ok(row)
+    }
+
+    /// Takes the end of the text, and gives the row of the trade whose record it ends, if it ends one. After it nothing is
+    /// taken any more.
+    pub fn finish(&mut self, alloc: Global) -> Result<Option<Row>, StreamError>
+        ensures tells { self.old.over ≡ false → TellsLast result (told_behind self.old.at []) self.new.at.form.symbols }
+        ensures within { IfOk result (λ row. IfSome row IsInputRow) }
+        ensures learns { self.old.over ≡ false → IfOk result (λ row. Learns row self.old.at.form.symbols self.new.at.form.symbols) }
+        ensures over { self.new.over ≡ true }
+        ensures nothing { self.old.over ≡ true → result ≡ Ok None }
+    {
+        if self.over {
+            return Ok(None);
+        }
+        self.over = true;
+        self.at.finish(alloc)
+    }
+
+    /// How many symbols are known: they have the numbers from 1 on.
+    pub fn symbols(&self) -> usize
+        ensures { result ≡ length self.now.at.form.symbols }
+    {
+        self.at.form.symbols.count()
+    }
+
+    /// The symbol of a number: `-` where it is that of none.
+    pub fn symbol(&self, number: i64) -> &[u8]
+        ensures symbol { result.now ≡ symbol_at self.now.at.form.symbols number }
+        ensures short { length result.now ≤ max_symbol_bytes }
+    {
+        self.at.form.symbols.name(number)
+    }
+}
