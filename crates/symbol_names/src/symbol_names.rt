@@ -59,7 +59,7 @@ impl SymbolNames {
     pub fn knows(&self, row: &Row) -> bool
         ensures { IsTrue result ↔ IsKnown (names_of self.now) row.now }
     {
-        row.symbol <= self.names.len() as i64
+        row.symbol < 1 || row.symbol as u64 <= self.names.len() as u64
     }
 
     /// The lines of rows whose symbols are known. They are the same whatever names are learnt behind those that are known.

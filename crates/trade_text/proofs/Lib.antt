@@ -1,10 +1,12 @@
 pub mod Digits
 pub mod FirstRows
+pub mod Growing
 pub mod Marks
 pub mod BothFiles
 pub mod Numerals
 pub mod Ordered
 pub mod Places
+pub mod Pushing
 pub mod Reading
 pub mod RecordFacts
 pub mod Sources

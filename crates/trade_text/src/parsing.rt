@@ -1,8 +1,8 @@
 // Where the parsing of trades stands: what is known of the records before, and what came of the one at hand.
-ghost use Rattle.std.specs.Prelude.{◌≡◌, ◌+◌, ◌≤◌, ◌<◌, ◌∷◌, [], ℕ, IfErr, IfOk, IfSome, List, OnErr, OnOk, Some, true, false, length};
+ghost use Rattle.std.specs.Prelude.{◌≡◌, ◌+◌, ◌≤◌, ◌<◌, ◌∷◌, [], ℕ, IfErr, IfOk, IfSome, List, OnOk, Some, true, false, length};
 ghost use Rattle.csv.specs.Machine.{ends_at_end, next_record};
 ghost use Rattle.csv.specs.Reading.{default_config};
-ghost use Rattle.csv.specs.Records.{fields_of, partial_of};
+ghost use Rattle.csv.specs.Records.{fields_of};
 ghost use Rattle.csv.specs.declared.parser.State.{State};
 ghost use Rattle.trade_text.specs.Limits.{max_symbols};
 ghost use Rattle.trade_text.specs.Pushed.{AtRecord, Grows, IsReady, Learns, LeavesFront, TakesMark, TellsLast, TellsOn, has_header, is_of_mark, state_after, state_on, told_behind, told_by_header, told_by_trade, told_found};

@@ -2,7 +2,7 @@
 ghost use Rattle.csv.specs.Machine.{ends_at_end, in_field, start_field, step};
 ghost use Rattle.csv.specs.Reading.{default_config};
 ghost use Rattle.csv.specs.Records.{fields_of, partial_of};
-ghost use Rattle.std.specs.Prelude.{◌≡◌, ◌++◌, ◌∷◌, [], IfErr, IfOk, OnOk};
+ghost use Rattle.std.specs.Prelude.{◌≡◌, ◌<◌, ◌++◌, ◌∷◌, [], IfErr, IfOk, OnOk, length};
 ghost use Rattle.trade_text.specs.StreamRecords.{TakesByte, TakesEnd, csv_step, state_of};
 ghost use Rattle.trade_text.specs.declared.error.StreamError.TheVariants as stream;
 
@@ -116,7 +116,8 @@ impl RecordParser {
     pub(crate) fn begin_with(&mut self, front: &[u8]) -> Result<(), StreamError>
         requires { self.old.field.items ≡ [] }
         ensures field { OnOk result (self.new.field.items ≡ front.now) }
-        ensures place { OnOk result (self.new.place ≡ (if is_empty front.now then self.old.place else Place.InField)) }
+        ensures nothing { OnOk result (front.now ≡ [] → self.new.place ≡ self.old.place) }
+        ensures in_field { OnOk result (0 < length front.now → self.new.place ≡ Place.InField) }
         ensures failed { IfErr result (λ e. e ≡ stream.OutOfMemory) }
     {
         self.field.extend_from_slice(front)?;

@@ -46,7 +46,8 @@ impl Symbols {
 
     // How many are known.
     pub(crate) fn count(&self) -> usize
-        ensures { result ≡ length self.now }
+        ensures count { result ≡ length self.now }
+        ensures few { result ≤ max_symbols }
     {
         self.names.len()
     }

@@ -1,7 +1,6 @@
 // Trades that are parsed from bytes that are pushed.
-ghost use Rattle.std.specs.Prelude.{◌≡◌, ◌+◌, ◌∷◌, [], ℕ, IfErr, IfOk, IfSome, List, MatchResult, None, Ok, OnOk, false, length, true};
-ghost use Rattle.csv.specs.Machine.{ends_at_end};
-ghost use Rattle.trade_text.specs.Limits.{max_symbol_bytes};
+ghost use Rattle.std.specs.Prelude.{◌≡◌, ◌≤◌, ◌∷◌, [], ℕ, IfOk, IfSome, List, MatchResult, None, Ok, OnOk, false, length, true};
+ghost use Rattle.trade_text.specs.Limits.{max_symbol_bytes, max_symbols};
 ghost use Rattle.trade_text.specs.Pushed.{IsReady, Learns, TellsLast, TellsOn, state_after, state_on, told_behind};
 ghost use Rattle.trade_text.specs.Streams.{told_of};
 ghost use Rattle.trade_text.specs.Symbols.{symbol_at};
@@ -73,7 +72,8 @@ impl TradeParser {
 
     /// How many symbols are known: they have the numbers from 1 on.
     pub fn symbols(&self) -> usize
-        ensures { result ≡ length self.now.at.form.symbols }
+        ensures count { result ≡ length self.now.at.form.symbols }
+        ensures few { result ≤ max_symbols }
     {
         self.at.form.symbols.count()
     }

@@ -1,0 +1,212 @@
+-- A byte more of trades that are parsed from bytes that are pushed.
+use Rattle.std.proofs.Common.{ℕ, zero, suc, ◌≡◌, ◌+◌, ◌≤◌, ◌==◌, Bool, true, false, List, [], ◌∷◌, ◌++◌, length, take, Option, Some, None, Ok, Err, get_or, refl, sym, ap, ◌∙◌, arith}
+use Rattle.std.proofs.lemmas.Bool.{false≢true}
+use Rattle.std.proofs.lemmas.Bool.Decides.{nat_tests}
+use Rattle.csv.specs.Machine.{Read as Found, ends_at_end, field_after, fields_after, is_end, next_record, step}
+use Rattle.csv.specs.Reading.{default_config, records, strip_bom}
+use Rattle.csv.specs.Records.{fields_of}
+use Rattle.csv.specs.declared.parser.State.{State}
+use Rattle.csv.specs.declared.parser.State.TheVariants as state
+use Rattle.trade_text.specs.Pushed.{AtRecord, IsReady, front_text, has_header, is_front, mark_bytes, next_behind, state_after, state_behind, state_in, state_on, told_behind, told_by_header, told_by_trade, told_found, told_in}
+use Rattle.trade_text.specs.Records.{records_left, starts_with_mark}
+use Rattle.trade_text.specs.StreamRecords.{TakesByte, TakesEnd, state_of}
+use Rattle.trade_text.specs.Streams.{Told, told_from, told_of, told_of_records, told_of_text}
+use Rattle.trade_text.specs.declared.parsing.Parsing.{Parsing}
+use Rattle.trade_text.specs.declared.stage.Stage.{Stage}
+use Rattle.trade_text.specs.declared.stage.Stage.TheVariants as stage
+use Rattle.trade_text.specs.declared.trade_file.TradeForm.{TradeForm}
+use mathlib.Core.List.{IsPrefix}
+use Rattle.trade_text.proofs.Growing.{known_by_trade}
+use Rattle.trade_text.proofs.Marks.{strip_bom-plain}
+use Rattle.trade_text.proofs.RecordFacts.{records_left-more, records_left-none, step-between}
+use Rattle.trade_text.proofs.StreamFacts.{step_ends, step_on, text_ends, text_leaves}
+
+-- ---- records by the next one
+
+-- records of which the first is the header
+told_records : (text : List ℕ) (next : Option Found) → next_record default_config state.StartRecord [] [] text ≡ next → told_of_records (records_left state.StartRecord text) ≡ told_by_header next
+told_records text None is = ap told_of_records (records_left-none state.StartRecord text is)
+told_records text (Some p) is = ap told_of_records (records_left-more state.StartRecord text p refl is).0
+
+-- a text without a mark
+pub text_by_header : (text : List ℕ) → starts_with_mark text ≡ false → told_of_text text ≡ told_by_header (next_record default_config state.StartRecord [] [] text)
+text_by_header text plain = rw plain (told_records text (next_record default_config state.StartRecord [] [] text) refl)
+
+pub of_by_header : (text : List ℕ) → starts_with_mark text ≡ false → told_of text ≡ told_by_header (next_record default_config state.StartRecord [] [] text)
+of_by_header text plain = ap told_of_text (strip_bom-plain text plain) ∙ text_by_header text plain
+
+-- records of trades
+trade_records : (s : State) (text : List ℕ) (number : ℕ) (form : TradeForm) (next : Option Found) → ends_at_end s ≡ false → next_record default_config s [] [] text ≡ next
+    → told_from number form (records_left s text) ≡ told_by_trade number form next
+trade_records s text number form None between is = ap (told_from number form) (records_left-none s text is)
+trade_records s text number form (Some p) between is = ap (told_from number form) (records_left-more s text p between is).0
+
+pub from_by_trade : (s : State) (text : List ℕ) (number : ℕ) (form : TradeForm) → ends_at_end s ≡ false
+    → told_from number form (records_left s text) ≡ told_by_trade number form (next_record default_config s [] [] text)
+from_by_trade s text number form between = trade_records s text number form (next_record default_config s [] [] text) between refl
+
+-- ---- stages
+
+pub in_found : (s : Stage) (p : Parsing) (rest : List ℕ) → is_front s ≡ false → told_in s p rest ≡ told_found s p.number p.form (next_behind p rest)
+in_found stage.Start p rest e = absurd (false≢true (sym e))
+in_found stage.Marked p rest e = absurd (false≢true (sym e))
+in_found stage.Header p rest e = refl
+in_found stage.Trades p rest e = refl
+
+pub on_behind : (s : Stage) (p : Parsing) (rest : List ℕ) → is_front s ≡ false → state_in s p rest ≡ state_behind (state_of p.record.place) rest
+on_behind stage.Start p rest e = absurd (false≢true (sym e))
+on_behind stage.Marked p rest e = absurd (false≢true (sym e))
+on_behind stage.Header p rest e = refl
+on_behind stage.Trades p rest e = refl
+
+-- ---- the mark at the front
+
+-- where the machine stands behind the front of a mark
+abbrev pub after_front : ℕ → State
+after_front zero = state.StartRecord
+after_front (suc n) = state.InField
+
+-- the machine takes the front of a mark as that of a field
+pub front_in_field : (count : ℕ) (rest : List ℕ) → count ≤ 2
+    → next_record default_config state.StartRecord [] [] (take count mark_bytes ++ rest) ≡ next_record default_config (after_front count) [] (take count mark_bytes) rest
+unfolding next_record
+front_in_field zero rest few = refl
+front_in_field (suc zero) rest few = refl
+front_in_field (suc (suc zero)) rest few = refl
+front_in_field (suc (suc (suc n))) rest few = absurd (omega (arith, few))
+
+pub front_leaves : (count : ℕ) (rest : List ℕ) → count ≤ 2
+    → state_behind state.StartRecord (take count mark_bytes ++ rest) ≡ state_behind (after_front count) rest
+unfolding state_behind
+front_leaves zero rest few = refl
+front_leaves (suc zero) rest few = refl
+front_leaves (suc (suc zero)) rest few = refl
+front_leaves (suc (suc (suc n))) rest few = absurd (omega (arith, few))
+
+-- a byte more of a mark
+pub front_grows : (count byte : ℕ) (rest : List ℕ) → count ≤ 2 → (get_or mark_bytes count 0 == byte) ≡ true
+    → take count mark_bytes ++ byte ∷ rest ≡ take (count + 1) mark_bytes ++ rest
+front_grows zero byte rest few same = let is : 0xEF ≡ byte = grind (arith, nat_tests, same) in ap (λ b. b ∷ rest) (sym is)
+front_grows (suc zero) byte rest few same = let is : 0xBB ≡ byte = grind (arith, nat_tests, same) in ap (λ b. 0xEF ∷ b ∷ rest) (sym is)
+front_grows (suc (suc zero)) byte rest few same = let is : 0xBF ≡ byte = grind (arith, nat_tests, same) in ap (λ b. 0xEF ∷ 0xBB ∷ b ∷ rest) (sym is)
+front_grows (suc (suc (suc n))) byte rest few same = absurd (omega (arith, few))
+
+-- another byte makes it no mark
+pub front_stops : (count byte : ℕ) (rest : List ℕ) → count ≤ 2 → (get_or mark_bytes count 0 == byte) ≡ false
+    → starts_with_mark (take count mark_bytes ++ byte ∷ rest) ≡ false
+front_stops zero byte [] few other = refl
+front_stops zero byte (b ∷ []) few other = refl
+front_stops zero byte (b ∷ c ∷ rest) few other = let is : (byte == 0xEF) ≡ false = grind (arith, nat_tests, other) in rw is refl
+front_stops (suc zero) byte [] few other = refl
+front_stops (suc zero) byte (c ∷ rest) few other = let is : (byte == 0xBB) ≡ false = grind (arith, nat_tests, other) in rw is refl
+front_stops (suc (suc zero)) byte rest few other = let is : (byte == 0xBF) ≡ false = grind (arith, nat_tests, other) in rw is refl
+front_stops (suc (suc (suc n))) byte rest few other = absurd (omega (arith, few))
+
+-- ---- one byte
+
+-- what a byte that doesn't end a record leaves
+pub found_on : (old : Parsing) (byte : ℕ) (new : Parsing) (rest : List ℕ) → TakesByte old.record (fields_of old.fields) byte false new.record (fields_of new.fields)
+    → next_behind old (byte ∷ rest) ≡ next_behind new rest
+found_on old byte new rest t = step_on (state_of old.record.place) byte rest (fields_of old.fields) old.record.field.items (sym t.ends) ∙ rw (t.place, t.so_far, t.at_hand) refl
+
+-- what one that ends a record leaves
+pub found_ends : (old : Parsing) (byte : ℕ) (new : Parsing) (rest : List ℕ) → TakesByte old.record (fields_of old.fields) byte true new.record (fields_of new.fields)
+    → next_behind old (byte ∷ rest) ≡ Some (fields_of new.fields, state_of new.record.place, rest)
+found_ends old byte new rest t = step_ends (state_of old.record.place) byte rest (fields_of old.fields) old.record.field.items (sym t.ends) ∙ rw (t.place, t.so_far) refl
+
+pub ends_between : (old : Parsing) (fields now : List (List ℕ)) (byte : ℕ) (new : Parsing) → TakesByte old.record fields byte true new.record now → ends_at_end (state_of new.record.place) ≡ false
+ends_between old fields now byte new t = rw t.place (step-between (state_of old.record.place) byte (sym t.ends))
+
+-- a byte that doesn't end a record changes what is held of it alone
+pub pushed_on : (old new : Parsing) (byte : ℕ) → is_front old.stage ≡ false → TakesByte old.record (fields_of old.fields) byte false new.record (fields_of new.fields)
+    → new.stage ≡ old.stage → new.number ≡ old.number → new.form ≡ old.form → (rest : List ℕ) → (told_behind old (byte ∷ rest) ≡ told_behind new rest) × (state_on old (byte ∷ rest) ≡ state_on new rest)
+unfolding state_behind
+pushed_on old new byte left t stage_is number_is form_is rest =
+    let new_left : is_front new.stage ≡ false = ap is_front stage_is ∙ left in (
+      in_found old.stage old (byte ∷ rest) left ∙ ap (told_found old.stage old.number old.form) (found_on old byte new rest t)
+          ∙ ap (λ s. told_found s old.number old.form (next_behind new rest)) (sym stage_is) ∙ ap (λ n. told_found new.stage n old.form (next_behind new rest)) (sym number_is)
+          ∙ ap (λ f. told_found new.stage new.number f (next_behind new rest)) (sym form_is) ∙ sym (in_found new.stage new rest new_left),
+      on_behind old.stage old (byte ∷ rest) left ∙ ap (λ s. state_behind s rest) (sym t.place) ∙ sym (on_behind new.stage new rest new_left),
+    )
+
+-- one that does makes it the next record
+pub pushed_ends : (old : Parsing) (byte : ℕ) (new : Parsing) → is_front old.stage ≡ false → TakesByte old.record (fields_of old.fields) byte true new.record (fields_of new.fields)
+    → (rest : List ℕ) → (told_behind old (byte ∷ rest) ≡ told_found old.stage old.number old.form (Some (fields_of new.fields, state_of new.record.place, rest)))
+    × (state_on old (byte ∷ rest) ≡ state_behind (state_of new.record.place) rest)
+unfolding state_behind
+pushed_ends old byte new left t rest = (
+  in_found old.stage old (byte ∷ rest) left ∙ ap (told_found old.stage old.number old.form) (found_ends old byte new rest t),
+  on_behind old.stage old (byte ∷ rest) left ∙ ap (λ s. state_behind s rest) (sym t.place),
+)
+
+-- at the start of a record
+pub at_record : (old new : Parsing) → AtRecord old new → (rest : List ℕ)
+    → (told_behind new rest ≡ told_by_trade new.number new.form (next_record default_config (state_of old.record.place) [] [] rest)) × (state_on new rest ≡ state_behind (state_of old.record.place) rest)
+at_record old new at rest = (
+  ap (λ s. told_in s new rest) at.stage ∙ ap (told_by_trade new.number new.form) (rw (at.place, at.field, at.fields) refl),
+  ap (λ s. state_in s new rest) at.stage ∙ ap (λ p. state_behind (state_of p) rest) at.place,
+)
+
+-- ---- the end
+
+-- no record is left at the end between two
+pub found_last : (old : Parsing) (new : Parsing) → TakesEnd old.record (fields_of old.fields) true new.record (fields_of new.fields) → next_behind old [] ≡ Some (fields_of new.fields, state.StartRecord, [])
+found_last old new t = text_ends (state_of old.record.place) (fields_of old.fields) old.record.field.items t.0 ∙ ap (λ fs. Some (fs, state.StartRecord, [])) (sym t.1)
+
+pub found_none : (old : Parsing) → ends_at_end (state_of old.record.place) ≡ false → next_behind old [] ≡ None
+found_none old between = text_leaves (state_of old.record.place) (fields_of old.fields) old.record.field.items between
+
+pub no_record : next_record default_config state.StartRecord [] [] [] ≡ None
+no_record = text_leaves state.StartRecord [] [] refl
+
+-- a front of a mark is none
+pub front_short : (count : ℕ) → count ≤ 2 → starts_with_mark (take count mark_bytes ++ []) ≡ false
+front_short zero few = refl
+front_short (suc zero) few = refl
+front_short (suc (suc zero)) few = refl
+front_short (suc (suc (suc n))) few = absurd (omega (arith, few))
+
+-- ---- what is left to be told between two records
+
+rows_by_header : (p : Parsing) → ends_at_end (state_of p.record.place) ≡ false → (told_by_header (next_behind p [])).rows ≡ []
+rows_by_header p between = ap (λ next. (told_by_header next).rows) (found_none p between)
+
+rows_by_trade : (p : Parsing) → ends_at_end (state_of p.record.place) ≡ false → (told_by_trade p.number p.form (next_behind p [])).rows ≡ []
+rows_by_trade p between = ap (λ next. (told_by_trade p.number p.form next).rows) (found_none p between)
+
+-- of the front of a mark
+rows_by_front : (count : ℕ) → count ≤ 2 → ends_at_end (state_behind state.StartRecord (take count mark_bytes ++ [])) ≡ false → (told_by_header (next_record default_config state.StartRecord [] [] (take count mark_bytes ++ []))).rows ≡ []
+unfolding state_behind
+rows_by_front zero few between = ap (λ next. (told_by_header next).rows) no_record
+rows_by_front (suc zero) few between = absurd (false≢true (sym between))
+rows_by_front (suc (suc zero)) few between = absurd (false≢true (sym between))
+rows_by_front (suc (suc (suc n))) few between = absurd (omega (arith, few))
+
+pub nothing_left : (p : Parsing) → IsReady p → ends_at_end (state_on p []) ≡ false → (told_behind p []).rows ≡ []
+unfolding state_behind
+nothing_left p ready between = go p.stage refl between
+  where
+    go : (s : Stage) → p.stage ≡ s → ends_at_end (state_in s p []) ≡ false → (told_in s p []).rows ≡ []
+    go stage.Start is between =
+        let few = (ready.front (ap is_front is)).few in
+        let plain = front_short p.bytes few in
+        ap (λ (t : Told). t.rows) (of_by_header (front_text p []) plain)
+        ∙ rows_by_front p.bytes few (ap (λ text. ends_at_end (state_behind state.StartRecord text)) (sym (strip_bom-plain (front_text p []) plain)) ∙ between)
+    go stage.Marked is between =
+        let few = (ready.front (ap is_front is)).few in
+        ap (λ (t : Told). t.rows) (text_by_header (front_text p []) (front_short p.bytes few)) ∙ rows_by_front p.bytes few between
+    go stage.Header is between = rows_by_header p between
+    go stage.Trades is between = rows_by_trade p between
+
+-- the symbols that are known come first of those that are told
+pub known_told : (p : Parsing) → IsReady p → (rest : List ℕ) → IsPrefix p.form.symbols (told_behind p rest).symbols
+known_told p ready rest = go p.stage refl
+  where
+    none : (told : Told) → p.form.symbols ≡ [] → IsPrefix p.form.symbols told.symbols
+    none told is = (told.symbols, ap (λ (names : List (List ℕ)). names ++ told.symbols) is)
+
+    go : (s : Stage) → p.stage ≡ s → IsPrefix p.form.symbols (told_in s p rest).symbols
+    go stage.Start is = none (told_in stage.Start p rest) (ready.new (ap has_header is))
+    go stage.Marked is = none (told_in stage.Marked p rest) (ready.new (ap has_header is))
+    go stage.Header is = none (told_in stage.Header p rest) (ready.new (ap has_header is))
+    go stage.Trades is = known_by_trade p.number p.form (next_behind p rest)
