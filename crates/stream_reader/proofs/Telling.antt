@@ -99,14 +99,14 @@ module _ (looked : List ℕ) (rows : List Row) (old new : Parsing) (byte : ℕ) 
 
 -- at the start nothing was told
 pub follows_start : (parsing : Parsing) → ((rest : List ℕ) → told_behind parsing rest ≡ told_of rest) → ((rest : List ℕ) → state_on parsing rest ≡ state_after rest) → (told_of []).rows ≡ [] → Follows [] [] parsing
-follows_start parsing tells states none = record {
+follows_start parsing tells states nothing = record {
   told = λ rest. sym (tells rest);
   state = λ rest. sym (states rest);
-  ended = λ front rest is open. go front rest is;
+  ended = λ front rest is none. go front rest is;
 }
   where
     go : (front rest : List ℕ) → [] ≡ front ++ rest → IsPrefix (told_of front).rows []
-    go [] rest is = ([], append-nil (told_of []).rows ∙ none)
+    go [] rest is = ([], append-nil (told_of []).rows ∙ nothing)
     go (f ∷ front) rest is = absurd (cc)
 
 module _ (looked : List ℕ) (rows : List Row) (at : Parsing) (f : Follows looked rows at) where

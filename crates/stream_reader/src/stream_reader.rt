@@ -36,6 +36,7 @@ impl<S: ByteSource + Drop> StreamReader<S> {
     ghost use Rattle.stream_reader.specs.Parts.{view_of};
     ghost use Rattle.stream_reader.specs.Telling.{AreFirst, Finishes, Pushes, Takes, came, name_in};
     ghost use Rattle.stream_reader.specs.declared.trade.Next.TheVariants as next;
+    ghost use Rattle.trade_text.specs.Pushed.{has_header};
     ghost use Rattle.trade_text.specs.declared.error.StreamError.TheVariants as stream;
 
     /// A reader that has read nothing.
@@ -138,6 +139,13 @@ impl<S: ByteSource + Drop> StreamReader<S> {
             None => Ok(None),
             Some(row) => Ok(Some(self.trade(row, known))),
         }
+    }
+
+    /// Whether the header has come, and was accepted.
+    pub fn has_header(&self) -> bool
+        ensures { result ≡ has_header self.now.parser.at.stage }
+    {
+        self.parser.has_header()
     }
 
     /// The source.

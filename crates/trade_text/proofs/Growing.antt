@@ -66,12 +66,12 @@ pub row_grows : (number : ℕ) (form : TradeForm) (fields : List (List ℕ)) (ro
 unfolding trade_in
 row_grows number form fields row kept is =
     let t = tested (length fields == form.columns.count) _ (error.Row number) (row, kept) is in
-    let a = came _ _ (row, kept) t in
-    let b = came _ _ (row, kept) a.2 in
-    let c = came _ _ (row, kept) b.2 in
-    let d = came _ _ (row, kept) c.2 in
-    let e = came _ _ (row, kept) d.2 in
-    let f = came _ _ (row, kept) e.2 in
+    let a = came (located number field.Time (time_of (text_at fields form.columns.time))) _ (row, kept) t in
+    let b = came (located number field.Account (account_of (text_at fields form.columns.account))) _ (row, kept) a.2 in
+    let c = came (symbol_in number form.symbols (text_at fields form.columns.symbol)) _ (row, kept) b.2 in
+    let d = came (located number field.Side (side_of (text_at fields form.columns.side))) _ (row, kept) c.2 in
+    let e = came (located number field.Qty (qty_of (text_at fields form.columns.qty))) _ (row, kept) d.2 in
+    let f = came (located number field.Price (price_of (text_at fields form.columns.price))) _ (row, kept) e.2 in
     let same : c.0.1 ≡ kept.symbols = ap (λ (r : Read Field (Row × TradeForm)). symbols_in r) f.2 in
     subst (Grows form.symbols) same (grows_in number form.symbols (text_at fields form.columns.symbol) c.0 c.1)
   where

@@ -86,9 +86,9 @@ front_leaves (suc (suc (suc n))) rest few = absurd (omega (arith, few))
 -- a byte more of a mark
 pub front_grows : (count byte : ℕ) (rest : List ℕ) → count ≤ 2 → (get_or mark_bytes count 0 == byte) ≡ true
     → take count mark_bytes ++ byte ∷ rest ≡ take (count + 1) mark_bytes ++ rest
-front_grows zero byte rest few same = let is : 0xEF ≡ byte = grind (arith, nat_tests, same) in ap (λ b. b ∷ rest) (sym is)
-front_grows (suc zero) byte rest few same = let is : 0xBB ≡ byte = grind (arith, nat_tests, same) in ap (λ b. 0xEF ∷ b ∷ rest) (sym is)
-front_grows (suc (suc zero)) byte rest few same = let is : 0xBF ≡ byte = grind (arith, nat_tests, same) in ap (λ b. 0xEF ∷ 0xBB ∷ b ∷ rest) (sym is)
+front_grows zero byte rest few same = let is : 0xEF ≡ byte = grind (arith, nat_tests) in ap (λ b. b ∷ rest) (sym is)
+front_grows (suc zero) byte rest few same = let is : 0xBB ≡ byte = grind (arith, nat_tests) in ap (λ b. 0xEF ∷ b ∷ rest) (sym is)
+front_grows (suc (suc zero)) byte rest few same = let is : 0xBF ≡ byte = grind (arith, nat_tests) in ap (λ b. 0xEF ∷ 0xBB ∷ b ∷ rest) (sym is)
 front_grows (suc (suc (suc n))) byte rest few same = absurd (omega (arith, few))
 
 -- another byte makes it no mark
@@ -96,10 +96,10 @@ pub front_stops : (count byte : ℕ) (rest : List ℕ) → count ≤ 2 → (get_
     → starts_with_mark (take count mark_bytes ++ byte ∷ rest) ≡ false
 front_stops zero byte [] few other = refl
 front_stops zero byte (b ∷ []) few other = refl
-front_stops zero byte (b ∷ c ∷ rest) few other = let is : (byte == 0xEF) ≡ false = grind (arith, nat_tests, other) in rw is refl
+front_stops zero byte (b ∷ c ∷ rest) few other = let is : (byte == 0xEF) ≡ false = grind (arith, nat_tests) in rw is refl
 front_stops (suc zero) byte [] few other = refl
-front_stops (suc zero) byte (c ∷ rest) few other = let is : (byte == 0xBB) ≡ false = grind (arith, nat_tests, other) in rw is refl
-front_stops (suc (suc zero)) byte rest few other = let is : (byte == 0xBF) ≡ false = grind (arith, nat_tests, other) in rw is refl
+front_stops (suc zero) byte (c ∷ rest) few other = let is : (byte == 0xBB) ≡ false = grind (arith, nat_tests) in rw is refl
+front_stops (suc (suc zero)) byte rest few other = let is : (byte == 0xBF) ≡ false = grind (arith, nat_tests) in rw is refl
 front_stops (suc (suc (suc n))) byte rest few other = absurd (omega (arith, few))
 
 -- ---- one byte

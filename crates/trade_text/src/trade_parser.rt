@@ -1,13 +1,14 @@
 // Trades that are parsed from bytes that are pushed.
 ghost use Rattle.std.specs.Prelude.{◌≡◌, ◌≤◌, ◌∷◌, [], ℕ, IfOk, IfSome, List, MatchResult, None, Ok, OnOk, false, length, true};
 ghost use Rattle.trade_text.specs.Limits.{max_symbol_bytes, max_symbols};
-ghost use Rattle.trade_text.specs.Pushed.{IsReady, Learns, TellsLast, TellsOn, state_after, state_on, told_behind};
+ghost use Rattle.trade_text.specs.Pushed.{IsReady, Learns, TellsLast, TellsOn, has_header, state_after, state_on, told_behind};
 ghost use Rattle.trade_text.specs.Streams.{told_of};
 ghost use Rattle.trade_text.specs.Symbols.{symbol_at};
 ghost use Rattle.trade_text.specs.TradesView.{IsInputRow};
 
 use crate::StreamError;
 use crate::parsing::Parsing;
+use crate::stage::Stage;
 use std::alloc::Global;
 use tuple_edge::Row;
 
@@ -68,6 +69,13 @@ impl TradeParser {
         }
         self.over = true;
         self.at.finish(alloc)
+    }
+
+    /// Whether the header has come, and was accepted.
+    pub fn has_header(&self) -> bool
+        ensures { result ≡ has_header self.now.at.stage }
+    {
+        self.at.stage == Stage::Trades
     }
 
     /// How many symbols are known: they have the numbers from 1 on.
