@@ -1,11 +1,10 @@
 -- One byte more of what a source gave.
-use Rattle.std.proofs.Common.{ℕ, ◌≡◌, ◌+◌, Bool, true, false, List, [], ◌∷◌, ◌++◌, length, Option, Some, None, Ok, Err, Result, refl, sym, ap, subst, ◌∙◌, append-nil, append_assoc}
+use Rattle.std.proofs.Common.{ℕ, ◌≡◌, ◌+◌, false, List, [], ◌∷◌, ◌++◌, None, refl, sym, ap, subst, ◌∙◌, append-nil, append_assoc}
 use mathlib.Core.List.{IsPrefix}
 use Rattle.csv.specs.Machine.{ends_at_end}
 use Rattle.tuple_edge.specs.declared.row.Row.{Row}
-use Rattle.trade_text.specs.Pushed.{Grows, HasNoneOpen, IsReady, Learns, TellsLast, TellsOn, state_after, state_on, told_behind}
+use Rattle.trade_text.specs.Pushed.{HasNoneOpen, Standing, standing_after, standing_on, told_behind}
 use Rattle.trade_text.specs.Streams.{IsFaultOf, Told, behind_row, no_more, told_of}
-use Rattle.trade_text.specs.TradesView.{IsInputRow}
 use Rattle.trade_text.specs.declared.error.StreamError.{StreamError}
 use Rattle.trade_text.specs.declared.error.StreamError.TheVariants as stream
 use Rattle.trade_text.specs.declared.parsing.Parsing.{Parsing}
@@ -61,29 +60,29 @@ module _ (looked : List ℕ) (rows : List Row) (old new : Parsing) (byte : ℕ) 
   told_on rest = ap told_of (append_assoc looked (byte ∷ []) rest) ∙ f.told (byte ∷ rest)
 
   follows : (now : List Row) → IsPrefix rows now → ((rest : List ℕ) → behind_rows rows (told_behind old (byte ∷ rest)) ≡ behind_rows now (told_behind new rest))
-      → ((rest : List ℕ) → state_on old (byte ∷ rest) ≡ state_on new rest) → (ends_at_end (state_on new []) ≡ false → (told_behind new []).rows ≡ []) → Follows (looked ++ byte ∷ []) now new
+      → ((rest : List ℕ) → standing_on old (byte ∷ rest) ≡ standing_on new rest) → (ends_at_end (standing_on new []).state ≡ false → (told_behind new []).rows ≡ []) → Follows (looked ++ byte ∷ []) now new
   follows now more tells states none_left =
       let told : (rest : List ℕ) → told_of ((looked ++ byte ∷ []) ++ rest) ≡ behind_rows now (told_behind new rest) = λ rest. told_on rest ∙ tells rest in
-      let state : (rest : List ℕ) → state_after ((looked ++ byte ∷ []) ++ rest) ≡ state_on new rest =
-      λ rest. ap state_after (append_assoc looked (byte ∷ []) rest) ∙ f.state (byte ∷ rest) ∙ states rest in
+      let state : (rest : List ℕ) → standing_after ((looked ++ byte ∷ []) ++ rest) ≡ standing_on new rest =
+      λ rest. ap standing_after (append_assoc looked (byte ∷ []) rest) ∙ f.standing (byte ∷ rest) ∙ states rest in
       record {
         told = told;
-        state = state;
+        standing = state;
         ended = ended_more looked byte rows now f.ended more (λ none.
-            let at_end : state_after (looked ++ byte ∷ []) ≡ state_on new [] = ap state_after (sym (append-nil (looked ++ byte ∷ []))) ∙ state [] in
-            let nothing = none_left (ap ends_at_end (sym at_end) ∙ none) in
+            let at_end : standing_after (looked ++ byte ∷ []) ≡ standing_on new [] = ap standing_after (sym (append-nil (looked ++ byte ∷ []))) ∙ state [] in
+            let nothing = none_left (ap (λ (s : Standing). ends_at_end s.state) (sym at_end) ∙ none) in
             let all : (told_of (looked ++ byte ∷ [])).rows ≡ now = ap (λ bytes. (told_of bytes).rows) (sym (append-nil (looked ++ byte ∷ []))) ∙ ap (λ (t : Told). t.rows) (told []) ∙ with_none now (told_behind new []) nothing in
             subst (λ l. IsPrefix l now) (sym all) (prefix_self now));
       }
 
   -- a byte that gave no row
-  pub follows_none : ((rest : List ℕ) → told_behind old (byte ∷ rest) ≡ told_behind new rest) → ((rest : List ℕ) → state_on old (byte ∷ rest) ≡ state_on new rest)
-      → (ends_at_end (state_on new []) ≡ false → (told_behind new []).rows ≡ []) → Follows (looked ++ byte ∷ []) rows new
+  pub follows_none : ((rest : List ℕ) → told_behind old (byte ∷ rest) ≡ told_behind new rest) → ((rest : List ℕ) → standing_on old (byte ∷ rest) ≡ standing_on new rest)
+      → (ends_at_end (standing_on new []).state ≡ false → (told_behind new []).rows ≡ []) → Follows (looked ++ byte ∷ []) rows new
   follows_none tells states none_left = follows rows (prefix_self rows) (λ rest. ap (behind_rows rows) (tells rest)) states none_left
 
   -- a byte that gave one
-  pub follows_row : (row : Row) → ((rest : List ℕ) → told_behind old (byte ∷ rest) ≡ behind_row row (told_behind new rest)) → ((rest : List ℕ) → state_on old (byte ∷ rest) ≡ state_on new rest)
-      → (ends_at_end (state_on new []) ≡ false → (told_behind new []).rows ≡ []) → Follows (looked ++ byte ∷ []) (rows ++ row ∷ []) new
+  pub follows_row : (row : Row) → ((rest : List ℕ) → told_behind old (byte ∷ rest) ≡ behind_row row (told_behind new rest)) → ((rest : List ℕ) → standing_on old (byte ∷ rest) ≡ standing_on new rest)
+      → (ends_at_end (standing_on new []).state ≡ false → (told_behind new []).rows ≡ []) → Follows (looked ++ byte ∷ []) (rows ++ row ∷ []) new
   follows_row row tells states none_left =
       follows (rows ++ row ∷ []) (row ∷ [], refl) (λ rest. ap (behind_rows rows) (tells rest) ∙ with_row rows row (told_behind new rest)) states none_left
 
@@ -98,10 +97,10 @@ module _ (looked : List ℕ) (rows : List Row) (old new : Parsing) (byte : ℕ) 
       go stream.OutOfMemory fault = ((told_behind old (byte ∷ rest)).rows, refl)
 
 -- at the start nothing was told
-pub follows_start : (parsing : Parsing) → ((rest : List ℕ) → told_behind parsing rest ≡ told_of rest) → ((rest : List ℕ) → state_on parsing rest ≡ state_after rest) → (told_of []).rows ≡ [] → Follows [] [] parsing
+pub follows_start : (parsing : Parsing) → ((rest : List ℕ) → told_behind parsing rest ≡ told_of rest) → ((rest : List ℕ) → standing_on parsing rest ≡ standing_after rest) → (told_of []).rows ≡ [] → Follows [] [] parsing
 follows_start parsing tells states nothing = record {
   told = λ rest. sym (tells rest);
-  state = λ rest. sym (states rest);
+  standing = λ rest. sym (states rest);
   ended = λ front rest is none. go front rest is;
 }
   where

@@ -4,7 +4,7 @@ use mathlib.Core.List.{IsPrefix}
 use Rattle.tuple_edge.specs.declared.row.Row.{Row}
 use Rattle.symbol_names.specs.Names.{name_of}
 use Rattle.symbol_names.specs.declared.symbol_name.SymbolName.{SymbolName}
-use Rattle.trade_text.specs.Pushed.{Grows, HasNoneOpen, state_after, state_on, told_behind}
+use Rattle.trade_text.specs.Pushed.{Grows, HasNoneOpen, IsLong, standing_after, standing_on, told_behind}
 use Rattle.trade_text.specs.Streams.{Told, told_of}
 use Rattle.trade_text.specs.TradesView.{IsInputRow}
 use Rattle.trade_text.specs.declared.error.StreamError.{StreamError}
@@ -59,17 +59,23 @@ pub record TellsNothing (old new : StreamView) : Type 0 where
   pub ended : EndedAreTold new.looked new.rows
   pub goes_on : new.over ≡ false
 
--- an error is the first fault of what is said, behind these rows; want of memory, a failure of the source and a record that is too long may come at any time
+-- an error is the first fault of what is said, behind these rows; want of memory may come at any time, a failure of the source where its faults rose, and a record is too long by its
+-- bytes, whatever it says
 abbrev pub IsFirstFault : StreamError → List Row → Told → Type 0
 IsFirstFault (stream.Refused fault) rows told = (told.rows ≡ rows) × (told.fault ≡ Some fault)
 IsFirstFault (stream.TooLong rec) rows told = IsPrefix rows told.rows
 IsFirstFault stream.Failed rows told = IsPrefix rows told.rows
 IsFirstFault stream.OutOfMemory rows told = IsPrefix rows told.rows
 
+-- a record was told as too long: as many bytes of it came as a file may have, and then one more
+abbrev pub HasTooMany : List ℕ → ℕ → Type 0
+HasTooMany looked number = (before : List ℕ) × (byte : ℕ) × (looked ≡ before ++ byte ∷ []) × IsLong before number
+
 -- an error was told: whatever comes behind the bytes that were looked at, it is the first fault
 pub record TellsFault (old : StreamView) (e : StreamError) (new : StreamView) : Type 0 where
   pub rows : new.rows ≡ old.rows
   pub fault : (rest : List ℕ) → IsFirstFault e old.rows (told_of (new.looked ++ rest))
+  pub long : (number : ℕ) → e ≡ stream.TooLong number → HasTooMany new.looked number
   pub over : new.over ≡ true
 
 -- a byte was looked at, and this told
@@ -103,5 +109,5 @@ behind_rows rows later = record later { rows = rows ++ later.rows }
 -- A parser is still to tell what bytes say behind the rows that were told, whatever comes, and every record that has ended is told.
 pub record Follows (looked : List ℕ) (rows : List Row) (parsing : Parsing) : Type 0 where
   pub told : (rest : List ℕ) → told_of (looked ++ rest) ≡ behind_rows rows (told_behind parsing rest)
-  pub state : (rest : List ℕ) → state_after (looked ++ rest) ≡ state_on parsing rest
+  pub standing : (rest : List ℕ) → standing_after (looked ++ rest) ≡ standing_on parsing rest
   pub ended : EndedAreTold looked rows

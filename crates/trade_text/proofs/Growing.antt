@@ -5,7 +5,6 @@ use Rattle.std.specs.Str.{bytes_eq}
 use mathlib.Core.List.{IsPrefix}
 use Rattle.csv.specs.Machine.{Read as Found}
 use Rattle.tuple_edge.specs.declared.row.Row.{Row}
-use Rattle.trade_text.specs.Columns.{trade_columns}
 use Rattle.trade_text.specs.Fields.{account_of, price_of, qty_of, side_of, symbol_of, time_of}
 use Rattle.trade_text.specs.Files.{located, text_at}
 use Rattle.trade_text.specs.Pushed.{Grows, told_by_trade}
@@ -13,12 +12,10 @@ use Rattle.trade_text.specs.Records.{records_left}
 use Rattle.trade_text.specs.Results.{Read, ◌>>=◌}
 use Rattle.trade_text.specs.Streams.{Told, told_from, told_next}
 use Rattle.trade_text.specs.Symbols.{numbered, numbered_at}
-use Rattle.trade_text.specs.Trades.{symbol_in, trade_in, trade_row}
+use Rattle.trade_text.specs.Trades.{symbol_in, trade_in}
 use Rattle.trade_text.specs.declared.error.Field.{Field}
 use Rattle.trade_text.specs.declared.error.Field.TheVariants as field
-use Rattle.trade_text.specs.declared.error.ReadError.{ReadError}
 use Rattle.trade_text.specs.declared.error.ReadError.TheVariants as error
-use Rattle.trade_text.specs.declared.fields.Fault.{Fault}
 use Rattle.trade_text.specs.declared.fields.Fault.TheVariants as fault
 use Rattle.trade_text.specs.declared.trade_file.TradeForm.{TradeForm}
 

@@ -1,8 +1,9 @@
 -- Trades that are parsed from bytes that are pushed: what is still to be told where further bytes come.
-use Rattle.std.specs.Prelude.{ℕ, ◌≡◌, ◌≤◌, ◌⊎◌, ◌+◌, ◌==◌, ◌&&◌, get_or, Bool, true, false, List, [], ◌∷◌, ◌++◌, length, take, Option, Some, None, Ok, Err, Result}
-use Rattle.csv.specs.Machine.{Read as Found, ends_at_end, next_record, step}
+use Rattle.std.specs.Prelude.{ℕ, ◌≡◌, ◌≤◌, ◌⊎◌, ◌+◌, ◌==◌, ◌&&◌, get_or, Bool, true, false, List, [], ◌∷◌, ◌++◌, length, take, Option, Some, None, Ok, Err, Result, if◌then◌else◌}
+use Rattle.csv.specs.Machine.{Read as Found, ends_at_end, is_end, next_record, step}
 use Rattle.csv.specs.Reading.{default_config, strip_bom}
 use Rattle.csv.specs.Records.{fields_of, partial_of}
+use Rattle.csv.specs.declared.parser.Action.{Action}
 use Rattle.csv.specs.declared.parser.State.{State}
 use Rattle.csv.specs.declared.parser.State.TheVariants as state
 use Rattle.tuple_edge.specs.declared.row.Row.{Row}
@@ -14,6 +15,7 @@ use Rattle.trade_text.specs.Streams.{IsFaultOf, Told, behind_row, no_more, told_
 use Rattle.trade_text.specs.Trades.{trade_in}
 use Rattle.trade_text.specs.declared.error.ReadError.TheVariants as error
 use Rattle.trade_text.specs.declared.error.StreamError.{StreamError}
+use Rattle.trade_text.specs.declared.error.StreamError.TheVariants as stream
 use Rattle.trade_text.specs.declared.parsing.Parsing.{Parsing}
 use Rattle.trade_text.specs.declared.record_parser.Place.TheVariants as place
 use Rattle.trade_text.specs.declared.stage.Stage.{Stage}
@@ -77,29 +79,65 @@ TellsLast (Err e) before symbols = IsFaultOf e before
 
 -- ---- where records end
 
--- the state of csv's machine behind these bytes
-unfoldable pub state_behind : State → List ℕ → State
-state_behind s [] = s
-state_behind s (c ∷ rest) = state_behind (step default_config s c).0 rest
+-- where csv's machine stands in a text: its state, the number of the record at hand, and how many bytes of it came, with the empty lines before it
+pub record Standing : Type 0 where
+  pub state : State
+  pub number : ℕ
+  pub bytes : ℕ
 
--- the state behind the bytes of a text: a mark at their front is dropped, once
-abbrev pub state_after : List ℕ → State
-state_after bytes = state_behind state.StartRecord (strip_bom bytes)
+-- before the first byte
+abbrev pub at_start : Standing
+at_start = record { state = state.StartRecord; number = 1; bytes = 0 }
+
+-- where a byte leads that does this
+abbrev pub stands_by : Standing → State × Action → Standing
+stands_by s to = record { state = to.0; number = if is_end to.1 then s.number + 1 else s.number; bytes = if is_end to.1 then 0 else s.bytes + 1 }
+
+-- where it stands behind these bytes
+unfoldable pub stands_behind : Standing → List ℕ → Standing
+stands_behind s [] = s
+stands_behind s (c ∷ rest) = stands_behind (stands_by s (step default_config s.state c)) rest
+
+-- where it stands behind the bytes of a text: a mark at their front is dropped, once
+abbrev pub standing_after : List ℕ → Standing
+standing_after bytes = stands_behind at_start (strip_bom bytes)
 
 -- Every record that began within these bytes has ended within them, by its line's end.
 abbrev pub HasNoneOpen : List ℕ → Type 0
-HasNoneOpen bytes = ends_at_end (state_after bytes) ≡ false
+HasNoneOpen bytes = ends_at_end (standing_after bytes).state ≡ false
 
--- the state in a stage behind these bytes
-abbrev pub state_in : Stage → Parsing → List ℕ → State
-state_in stage.Start p rest = state_after (front_text p rest)
-state_in stage.Marked p rest = state_behind state.StartRecord (front_text p rest)
-state_in stage.Header p rest = state_behind (state_of p.record.place) rest
-state_in stage.Trades p rest = state_behind (state_of p.record.place) rest
+-- The record of this number is too long: as many bytes of it came as a file may have.
+abbrev pub IsLong : List ℕ → ℕ → Type 0
+IsLong bytes number = (number ≡ (standing_after bytes).number) × (max_input_bytes ≤ (standing_after bytes).bytes)
 
--- the state of csv's machine behind all that came and these bytes
-abbrev pub state_on : Parsing → List ℕ → State
-state_on p rest = state_in p.stage p rest
+-- where a parser stands
+abbrev pub standing_of : Parsing → Standing
+standing_of p = record { state = state_of p.record.place; number = p.number; bytes = p.bytes }
+
+-- where it stands in a stage behind these bytes
+abbrev pub standing_in : Stage → Parsing → List ℕ → Standing
+standing_in stage.Start p rest = standing_after (front_text p rest)
+standing_in stage.Marked p rest = stands_behind at_start (front_text p rest)
+standing_in stage.Header p rest = stands_behind (standing_of p) rest
+standing_in stage.Trades p rest = stands_behind (standing_of p) rest
+
+-- where it stands behind all that came and these bytes
+abbrev pub standing_on : Parsing → List ℕ → Standing
+standing_on p rest = standing_in p.stage p rest
+
+-- an error that tells that the record at hand is too long tells it of its number, and where no byte more of it may come
+abbrev pub TellsLong : StreamError → Parsing → Type 0
+TellsLong (stream.TooLong rec) p = (rec ≡ p.number) × (max_input_bytes ≤ p.bytes)
+TellsLong (stream.Refused fault) p = Unit {0}
+TellsLong stream.Failed p = Unit {0}
+TellsLong stream.OutOfMemory p = Unit {0}
+
+-- an error that tells no length
+abbrev pub TellsNoLength : StreamError → Type 0
+TellsNoLength (stream.TooLong rec) = ⊥
+TellsNoLength (stream.Refused fault) = Unit {0}
+TellsNoLength stream.Failed = Unit {0}
+TellsNoLength stream.OutOfMemory = Unit {0}
 
 -- ---- parts
 
@@ -131,6 +169,7 @@ pub record IsReady (p : Parsing) : Type 0 where
   pub within : p.bytes ≤ max_input_bytes
   pub front : is_front p.stage ≡ true → AtFront p
   pub new : has_header p.stage ≡ false → p.form.symbols ≡ []
+  pub first : has_header p.stage ≡ false → p.number ≡ 1
 
 -- a text with these bytes doesn't go on with a mark
 abbrev pub IsUnmarked : Parsing → List ℕ → Type 0
@@ -138,13 +177,13 @@ IsUnmarked p rest = is_front p.stage ≡ true → starts_with_mark (front_text p
 
 -- whether a byte goes on with the front of a mark
 abbrev pub is_of_mark : Parsing → ℕ → Bool
-is_of_mark p byte = is_front p.stage && (get_or mark_bytes p.bytes 0 == byte)
+is_of_mark p byte = is_front p.stage && (byte == get_or mark_bytes p.bytes 0)
 
--- bytes were taken: whatever comes behind them, the same is told, in the same states, and the same symbols are known
+-- bytes were taken: whatever comes behind them, the same is told, and the machine stands where it stood, and the same symbols are known
 pub record Took (old : Parsing) (bytes : List ℕ) (new : Parsing) : Type 0 where
   pub ready : IsReady new
   pub told : (rest : List ℕ) → told_behind old (bytes ++ rest) ≡ told_behind new rest
-  pub state : (rest : List ℕ) → state_on old (bytes ++ rest) ≡ state_on new rest
+  pub standing : (rest : List ℕ) → standing_on old (bytes ++ rest) ≡ standing_on new rest
   pub form : new.form ≡ old.form
 
 -- a byte of a mark was taken; or it is none, and nothing is changed
@@ -157,14 +196,16 @@ pub record LeavesFront (old new : Parsing) : Type 0 where
   pub ready : IsReady new
   pub left : is_front new.stage ≡ false
   pub told : (rest : List ℕ) → IsUnmarked old rest → told_behind old rest ≡ told_behind new rest
-  pub state : (rest : List ℕ) → IsUnmarked old rest → state_on old rest ≡ state_on new rest
+  pub standing : (rest : List ℕ) → IsUnmarked old rest → standing_on old rest ≡ standing_on new rest
   pub form : new.form ≡ old.form
+  pub number : new.number ≡ old.number
   pub bytes : new.bytes ≡ old.bytes
 
 -- the next record is at its start
 pub record AtRecord (old new : Parsing) : Type 0 where
   pub ready : IsReady new
   pub stage : new.stage ≡ stage.Trades
+  pub bytes : new.bytes ≡ 0
   pub place : new.record.place ≡ old.record.place
   pub field : new.record.field.items ≡ []
   pub fields : fields_of new.fields ≡ []

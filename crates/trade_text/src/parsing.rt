@@ -5,7 +5,7 @@ ghost use Rattle.csv.specs.Reading.{default_config};
 ghost use Rattle.csv.specs.Records.{fields_of};
 ghost use Rattle.csv.specs.declared.parser.State.{State};
 ghost use Rattle.trade_text.specs.Limits.{max_symbols};
-ghost use Rattle.trade_text.specs.Pushed.{AtRecord, Grows, IsReady, Learns, LeavesFront, TakesMark, TellsLast, TellsOn, has_header, is_of_mark, state_after, state_on, told_behind, told_by_header, told_by_trade, told_found};
+ghost use Rattle.trade_text.specs.Pushed.{AtRecord, Grows, IsReady, Learns, LeavesFront, TakesMark, TellsLast, TellsLong, TellsNoLength, TellsOn, has_header, is_of_mark, standing_after, standing_on, told_behind, told_by_header, told_by_trade, told_found};
 ghost use Rattle.trade_text.specs.Streams.{IsFaultOf, behind_row, told_of};
 ghost use Rattle.trade_text.specs.TradesView.{IsInputRow};
 ghost use Rattle.trade_text.specs.declared.error.StreamError.TheVariants as stream;
@@ -42,7 +42,7 @@ impl Parsing {
     pub(crate) fn new(alloc: Global) -> Parsing
         ensures ready { IsReady result }
         ensures told { (rest : List ℕ) → told_behind result rest ≡ told_of rest }
-        ensures state { (rest : List ℕ) → state_on result rest ≡ state_after rest }
+        ensures standing { (rest : List ℕ) → standing_on result rest ≡ standing_after rest }
         ensures symbols { result.form.symbols ≡ [] }
     {
         let columns = TradeColumns::none();
@@ -74,6 +74,7 @@ impl Parsing {
         requires { IsReady self.old }
         ensures takes { IfOk result (λ took. TakesMark took self.old byte self.new) }
         ensures refused { IfErr result (λ e. (rest : List ℕ) → IsFaultOf e (told_behind self.old (byte ∷ rest))) }
+        ensures short { IfErr result TellsNoLength }
     {
         if !self.is_of_mark(byte) {
             return Ok(false);
@@ -125,7 +126,9 @@ impl Parsing {
         ensures told { OnOk result ((s : State) (text : List ℕ) → ends_at_end s ≡ false
             → told_by_header (Some (fields_of self.old.fields, s, text)) ≡ told_by_trade self.new.number self.new.form (next_record default_config s [] [] text)) }
         ensures symbols { OnOk result (self.new.form.symbols ≡ []) }
+        ensures number { OnOk result (self.new.number ≡ 2) }
         ensures refused { IfErr result (λ e. (s : State) (text : List ℕ) → IsFaultOf e (told_by_header (Some (fields_of self.old.fields, s, text)))) }
+        ensures short { IfErr result TellsNoLength }
     {
         let columns = match trade_columns(&self.fields) {
             Ok(columns) => columns,
@@ -147,8 +150,10 @@ impl Parsing {
             ≡ behind_row row (told_by_trade self.new.number self.new.form (next_record default_config s [] [] text))) }
         ensures within { IfOk result IsInputRow }
         ensures grows { OnOk result (Grows self.old.form.symbols self.new.form.symbols) }
+        ensures number { OnOk result (self.new.number ≡ self.old.number + 1) }
         ensures refused { IfErr result (λ e. (s : State) (text : List ℕ)
             → IsFaultOf e (told_by_trade self.old.number self.old.form (Some (fields_of self.old.fields, s, text)))) }
+        ensures short { IfErr result TellsNoLength }
     {
         if self.number >= NUMBER_LIMIT {
             return Err(StreamError::OutOfMemory);
@@ -167,7 +172,10 @@ impl Parsing {
     fn take_record(&mut self, alloc: Global) -> Result<Option<Row>, StreamError>
         requires known { length self.old.form.symbols ≤ max_symbols }
         requires new { has_header self.old.stage ≡ false → self.old.form.symbols ≡ [] }
+        requires first { has_header self.old.stage ≡ false → self.old.number ≡ 1 }
         ensures at { OnOk result (AtRecord self.old self.new) }
+        ensures number { OnOk result (self.new.number ≡ self.old.number + 1) }
+        ensures short { IfErr result TellsNoLength }
         ensures tells { (s : State) (text : List ℕ) → ends_at_end s ≡ false
             → TellsOn result (told_found self.old.stage self.old.number self.old.form (Some (fields_of self.old.fields, s, text)))
             (told_by_trade self.new.number self.new.form (next_record default_config s [] [] text)) }
@@ -188,7 +196,8 @@ impl Parsing {
         requires { IsReady self.old }
         ensures ready { OnOk result (IsReady self.new) }
         ensures tells { (rest : List ℕ) → TellsOn result (told_behind self.old (byte ∷ rest)) (told_behind self.new rest) }
-        ensures state { OnOk result ((rest : List ℕ) → state_on self.old (byte ∷ rest) ≡ state_on self.new rest) }
+        ensures standing { OnOk result ((rest : List ℕ) → standing_on self.old (byte ∷ rest) ≡ standing_on self.new rest) }
+        ensures long { IfErr result (λ e. TellsLong e self.old) }
         ensures within { IfOk result (λ row. IfSome row IsInputRow) }
         ensures learns { IfOk result (λ row. Learns row self.old.form.symbols self.new.form.symbols) }
     {

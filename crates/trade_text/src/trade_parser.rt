@@ -1,7 +1,7 @@
 // Trades that are parsed from bytes that are pushed.
-ghost use Rattle.std.specs.Prelude.{◌≡◌, ◌≤◌, ◌∷◌, [], ℕ, IfOk, IfSome, List, MatchResult, None, Ok, OnOk, false, length, true};
+ghost use Rattle.std.specs.Prelude.{◌≡◌, ◌≤◌, ◌∷◌, [], ℕ, IfErr, IfOk, IfSome, List, MatchResult, None, Ok, OnOk, false, length, true};
 ghost use Rattle.trade_text.specs.Limits.{max_symbol_bytes, max_symbols};
-ghost use Rattle.trade_text.specs.Pushed.{IsReady, Learns, TellsLast, TellsOn, has_header, state_after, state_on, told_behind};
+ghost use Rattle.trade_text.specs.Pushed.{IsReady, Learns, TellsLast, TellsLong, TellsOn, has_header, standing_after, standing_on, told_behind};
 ghost use Rattle.trade_text.specs.Streams.{told_of};
 ghost use Rattle.trade_text.specs.Symbols.{symbol_at};
 ghost use Rattle.trade_text.specs.TradesView.{IsInputRow};
@@ -24,7 +24,7 @@ impl TradeParser {
     /// At the start of a text.
     pub fn new(alloc: Global) -> TradeParser
         ensures told { (rest : List ℕ) → told_behind result.at rest ≡ told_of rest }
-        ensures state { (rest : List ℕ) → state_on result.at rest ≡ state_after rest }
+        ensures standing { (rest : List ℕ) → standing_on result.at rest ≡ standing_after rest }
         ensures symbols { result.at.form.symbols ≡ [] }
         ensures goes_on { result.over ≡ false }
     {
@@ -40,7 +40,8 @@ impl TradeParser {
         ensures tells { self.old.over ≡ false → (rest : List ℕ) → TellsOn result (told_behind self.old.at (byte ∷ rest)) (told_behind self.new.at rest) }
         ensures within { IfOk result (λ row. IfSome row IsInputRow) }
         ensures learns { self.old.over ≡ false → IfOk result (λ row. Learns row self.old.at.form.symbols self.new.at.form.symbols) }
-        ensures state { self.old.over ≡ false → OnOk result ((rest : List ℕ) → state_on self.old.at (byte ∷ rest) ≡ state_on self.new.at rest) }
+        ensures standing { self.old.over ≡ false → OnOk result ((rest : List ℕ) → standing_on self.old.at (byte ∷ rest) ≡ standing_on self.new.at rest) }
+        ensures long { self.old.over ≡ false → IfErr result (λ e. TellsLong e self.old.at) }
 
         // Nothing is taken behind an error.
         ensures over { MatchResult result (λ _. self.new.over ≡ self.old.over) (λ _. self.new.over ≡ true) }
