@@ -7,3 +7,6 @@ pub mod Moves
 pub mod Rows
 pub mod Shifts
 pub mod Working
+pub use Rattle.op_spec.specs.Times
+pub use Rattle.plan_reader.specs.PlanView
+pub use Rattle.stream_ops.specs.Answers

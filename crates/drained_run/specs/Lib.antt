@@ -1,1 +1,9 @@
 pub mod Ended
+pub use Rattle.flux_core.specs.CoreView
+pub use Rattle.journal_writer.specs.Merged
+pub use Rattle.pair_machine.specs.Output
+pub use Rattle.partition_runner.specs.Job
+pub use Rattle.partition_runner.specs.Parts
+pub use Rattle.partition_runner.specs.Ran
+pub use Rattle.run_journal.specs.Text
+pub use Rattle.trade_text.specs.TradesView

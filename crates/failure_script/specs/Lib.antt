@@ -4,3 +4,4 @@ pub mod Messages
 pub mod Names
 pub mod Orders
 pub mod Script
+pub use Rattle.pair_machine.specs.Scripts

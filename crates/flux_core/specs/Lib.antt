@@ -10,3 +10,10 @@ pub mod Sent
 pub mod Stands
 pub mod Steps
 pub mod Taken
+pub use Rattle.ingress_egress.specs.EgressView
+pub use Rattle.pair_machine.specs.Machine
+pub use Rattle.pair_machine.specs.Output
+pub use Rattle.plan_nodes.specs.NodeOrder
+pub use Rattle.plan_nodes.specs.States
+pub use Rattle.plan_reader.specs.Nodes
+pub use Rattle.trade_text.specs.TradesView

@@ -5,3 +5,7 @@ pub mod Lines
 pub mod Outcome
 pub mod Programs
 pub mod Stops
+pub use Rattle.command_course.specs.Steps
+pub use Rattle.flux_outside.specs.Outside
+pub use Rattle.pair_machine.specs.Drain
+pub use Rattle.run_command.specs.Endings

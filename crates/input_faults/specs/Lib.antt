@@ -9,3 +9,7 @@ pub mod Records
 pub mod Shown
 pub mod Spots
 pub mod WordFaults
+pub use Rattle.failure_script.specs.Script
+pub use Rattle.plan_reader.specs.Plan
+pub use Rattle.trade_text.specs.Cash
+pub use Rattle.trade_text.specs.Trades

@@ -1,3 +1,11 @@
 pub mod Linked
 pub mod Runs
 pub mod Drafts
+pub use Rattle.claim_board.specs.Board
+pub use Rattle.node_tasks.specs.Timely
+pub use Rattle.pair_machine.specs.Courses
+pub use Rattle.pair_machine.specs.Lists
+pub use Rattle.plan_reader.specs.PlanView
+pub use Rattle.run_node.specs.NodeView
+pub use Rattle.run_node.specs.SoundNode
+pub use Rattle.tuple_edge.specs.Input

@@ -3,3 +3,4 @@ pub mod Lines
 pub mod Runs
 pub mod Stops
 pub mod Words
+pub use Rattle.flux_top.specs.Outcome

@@ -3,3 +3,9 @@ pub mod CheckJson
 pub mod Happenings
 pub mod Lines
 pub mod StoryJson
+pub use Rattle.flux_core.specs.CoreView
+pub use Rattle.flux_core.specs.Stands
+pub use Rattle.lane_chart.specs.ChartView
+pub use Rattle.pair_machine.specs.Machine
+pub use Rattle.run_end.specs.Ends
+pub use Rattle.run_watch.specs.Watching

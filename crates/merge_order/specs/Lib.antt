@@ -5,3 +5,4 @@ pub mod MergeView
 pub mod Merged
 pub mod Runs
 pub mod StandsFor
+pub use Rattle.tuple_edge.specs.Limits

@@ -4,3 +4,7 @@ pub mod Moved
 pub mod Outcome
 pub mod Text
 pub mod Within
+pub use Rattle.bucket_move.specs.Limits
+pub use Rattle.bucket_move.specs.Shifts
+pub use Rattle.command_course.specs.Course
+pub use Rattle.command_course.specs.Steps

@@ -2,3 +2,4 @@ pub mod ConsumerLaws
 pub mod InEdges
 pub mod OutEdges
 pub mod ProducerLaws
+pub use Rattle.pair_machine.specs.Replicas

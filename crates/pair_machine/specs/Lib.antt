@@ -33,3 +33,5 @@ pub mod Small
 pub mod Sound
 pub mod Within
 pub mod WorkedRows
+pub use Rattle.plan_reader.specs.PlanView
+pub use Rattle.tuple_edge.specs.Input

@@ -3,3 +3,11 @@ pub mod Drafts
 pub mod Ready
 pub mod Parts
 pub mod Job
+pub use Rattle.claim_board.specs.Board
+pub use Rattle.flux_link.specs.Arrivals
+pub use Rattle.flux_link.specs.LossyInlets
+pub use Rattle.pair_machine.specs.Output
+pub use Rattle.plan_nodes.specs.States
+pub use Rattle.run_node.specs.NodeView
+pub use Rattle.trade_text.specs.TradesView
+pub use Rattle.tuple_edge.specs.Input

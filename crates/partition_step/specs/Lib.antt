@@ -1,3 +1,11 @@
 pub mod Answering
 pub mod Merging
 pub mod Places
+pub use Rattle.flux_producer.specs.ProducerView
+pub use Rattle.merge_order.specs.MergeView
+pub use Rattle.node_edges.specs.OutEdges
+pub use Rattle.op_spec.specs.Times
+pub use Rattle.pair_machine.specs.Drain
+pub use Rattle.plan_reader.specs.Nodes
+pub use Rattle.plan_reader.specs.PlanView
+pub use Rattle.tuple_edge.specs.Limits

@@ -3,3 +3,7 @@ pub mod Columns
 pub mod EachRecord
 pub mod Laws
 pub mod Written
+pub use Rattle.trade_text.specs.Cash
+pub use Rattle.trade_text.specs.Refusals
+pub use Rattle.trade_text.specs.Results
+pub use Rattle.trade_text.specs.Trades

@@ -1,3 +1,9 @@
 pub mod Courses
 pub mod Ends
 pub mod Replaying
+pub use Rattle.command_course.specs.Course
+pub use Rattle.command_course.specs.Lines
+pub use Rattle.command_course.specs.Steps
+pub use Rattle.flux_core.specs.Follows
+pub use Rattle.run_journal.specs.Limits
+pub use Rattle.text_words.specs.Messages

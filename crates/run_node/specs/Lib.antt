@@ -9,3 +9,15 @@ pub mod FirstLinks
 pub mod SoundNode
 pub mod Fresh
 pub mod Portions
+pub use Rattle.flux_link.specs.Arrivals
+pub use Rattle.node_tasks.specs.Coming
+pub use Rattle.node_tasks.specs.Timely
+pub use Rattle.pair_machine.specs.Counts
+pub use Rattle.pair_machine.specs.Joint
+pub use Rattle.pair_machine.specs.Links
+pub use Rattle.pair_machine.specs.Lists
+pub use Rattle.pair_machine.specs.Machine
+pub use Rattle.pair_machine.specs.Numbers
+pub use Rattle.plan_reader.specs.Nodes
+pub use Rattle.plan_reader.specs.PlanView
+pub use Rattle.tuple_edge.specs.Input

@@ -7,3 +7,4 @@ pub mod Signs
 pub mod Ticks
 pub mod Timeline
 pub mod WorkedTimelines
+pub use Rattle.lane_chart.specs.ChartView

@@ -9,3 +9,8 @@ pub mod Stamps
 pub mod TraceView
 pub mod Watching
 pub mod WorkedRows
+pub use Rattle.flux_core.specs.CoreView
+pub use Rattle.flux_core.specs.Follows
+pub use Rattle.flux_core.specs.Stands
+pub use Rattle.pair_machine.specs.Machine
+pub use Rattle.pair_machine.specs.Sound

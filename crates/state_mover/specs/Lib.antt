@@ -1,3 +1,4 @@
+pub mod MoverView
 pub use Rattle.move_list.specs.MoveList
 pub use Rattle.move_list.specs.Pieces
-pub mod MoverView
+pub use Rattle.tuple_edge.specs.Limits

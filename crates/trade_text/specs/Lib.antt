@@ -19,3 +19,4 @@ pub mod Symbols
 pub mod Text
 pub mod Trades
 pub mod TradesView
+pub use Rattle.tuple_edge.specs.Input

@@ -1,3 +1,6 @@
 pub mod Courses
 pub mod Given
 pub mod Kept
+pub use Rattle.command_course.specs.Answers
+pub use Rattle.command_course.specs.Steps
+pub use Rattle.trade_text.specs.Limits
