@@ -5,7 +5,7 @@
 //! trade whose record the end of the input ends. It promises that what was told is what the bytes that came say, whatever comes
 //! behind them, however they were cut into pieces, and whatever the source tells; that every record that has ended is told before
 //! more is read; and that a refusal is the first fault of the bytes. It keeps the symbols, one record and one piece. It stands on
-//! trade_text for what bytes say, on byte_source for where they come from, and on symbol_names for names.
+//! trade_stream for the parsing of what comes, on byte_source for where they come from, and on symbol_names for names.
 #![tactic(auto)]
 
 mod stream_reader;
