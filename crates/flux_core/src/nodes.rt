@@ -36,7 +36,6 @@ pub struct Core<R: CoreRows = AllRows> {
 impl<R: CoreRows> Model for Core<R> {
     ghost use Rattle.flux_core.specs.CoreView.{CoreView, HasItsRows, core_of};
     ghost use Rattle.flux_core.specs.Stands.{IsCore};
-    ghost use Rattle.std.specs.Prelude.{◌×◌};
 
     ghost Value = { CoreView };
 

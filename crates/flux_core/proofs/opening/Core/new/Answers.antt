@@ -1,7 +1,7 @@
 use Rattle.std.proofs.Common.{◌<◌, subst, sym}
 use Rattle.trade_text.specs.TradesView.{inputs_in}
 use Rattle.flux_core.proofs.Opened.{first_there, opened}
-use Rattle.flux_core.proofs.nodes.Core.new.Goals as goal
+use Rattle.flux_core.proofs.opening.Core.new.Goals as goal
 
 pub index-requires : goal.index-requires
 index-requires c = subst (λ n. 0 < n) (sym c.in_ok-nodes.nodes.ok.0) (first_there c.args.plan.now c.in_ok-nodes.nodes.items c.in_ok-nodes.ensures.names)
