@@ -8,6 +8,7 @@ use Rattle.plan_reader.specs.PlanView.{PlanView}
 use Rattle.pair_machine.specs.Lists.{Each}
 use Rattle.pair_machine.specs.Machine.{State}
 use Rattle.pair_machine.specs.Numbers.{Node, is_node}
+use Rattle.pair_machine.specs.declared.order.Order.{Order}
 use Rattle.pair_machine.proofs.Names.{node_self}
 use Rattle.ingress_egress.specs.IngressView.{IngressView}
 use Rattle.plan_nodes.specs.NodeOrder.{nodes_of}
@@ -84,7 +85,7 @@ module _ (plan : PlanView) (inputs : List Input) where
   first_stands (state.Egress e) x name own h = let z : ⊥ = cc name in absurd z
 
   -- of the inputs that came to ingress they stand for the same numbers
-  pub still_stand : (script : List _) (nodes : List NodeState) (at : State) (i : IngressView) → map id_of nodes ≡ nodes_of plan → node_among nodes node.Ingress ≡ Some (state.Ingress i) → i.inputs ≡ inputs
+  pub still_stand : (script : List Order) (nodes : List NodeState) (at : State) (i : IngressView) → map id_of nodes ≡ nodes_of plan → node_among nodes node.Ingress ≡ Some (state.Ingress i) → i.inputs ≡ inputs
       → AllStand plan inputs script nodes at → AllStand plan inputs script (ended_first nodes) at
   still_stand script [] at i e there own h = tt
   still_stand script (s ∷ nodes) at i e there own h =
