@@ -1,4 +1,4 @@
-use Rattle.std.proofs.Common.{◌≡◌, ◌≤◌, ◌<◌, arith}
+use Rattle.std.proofs.Common.{arith}
 use Rattle.stream_reader.proofs.Telling.{follows_start}
 use Rattle.stream_reader.proofs.stream_reader.StreamReader.new.Goals as goal
 

@@ -1,6 +1,5 @@
-use Rattle.std.proofs.Common.{◌≡◌, ◌≤◌, ◌<◌, ◌+◌, ◌∷◌, ◌++◌, [], Bool, false, List, ℕ, sym, ◌∙◌, refl, ap, arith}
+use Rattle.std.proofs.Common.{◌≡◌, false, sym, ◌∙◌, refl, arith}
 use Rattle.stream_reader.proofs.Telling.{fault_first, goes_on, goes_on_with, long_told, one_looked}
-use Rattle.stream_reader.specs.Telling.{IsFirstFault}
 use Rattle.stream_reader.proofs.stream_reader.StreamReader.push_next.Goals as goal
 
 pub invariant_of-self-in-Ok-None : goal.invariant_of-self-in-Ok-None
@@ -11,7 +10,7 @@ invariant_of-self-in-Ok-None g c = record {
       let was : c.args.self.now.parser.over ≡ false = sym c.in-Ok-None.ensures.over ∙ going in
       rw c.and-self.ensures
       (goes_on c.args.self.now.looked.items c.args.self.now.rows.items c.args.self.now.parser.at c.push.new.self.at _ (c.args.self.now.follows was) (c.push.new.self.ready going)
-       (c.in-Ok-None.ensures.standing was) c.in-Ok-None.field-0 c.in-Ok-None.field-0-is (c.in-Ok-None.ensures.tells was));
+      (c.in-Ok-None.ensures.standing was) c.in-Ok-None.field-0 c.in-Ok-None.field-0-is (c.in-Ok-None.ensures.tells was));
 }
 
 pub invariant_of-self-in-Ok-Some : goal.invariant_of-self-in-Ok-Some
@@ -22,7 +21,7 @@ invariant_of-self-in-Ok-Some g c = record {
       let was : c.args.self.now.parser.over ≡ false = sym c.in-Ok-Some.ensures.over ∙ going in
       rw (c.and-self.ensures, c.and-self-in-Ok-Some.ensures)
       (goes_on_with c.args.self.now.looked.items c.args.self.now.rows.items c.args.self.now.parser.at c.push.new.self.at _ (c.args.self.now.follows was) (c.push.new.self.ready going)
-       (c.in-Ok-Some.ensures.standing was) c.in-Ok-Some.field-0 c.in-Ok-Some.row c.in-Ok-Some.field-0-is (c.in-Ok-Some.ensures.tells was));
+      (c.in-Ok-Some.ensures.standing was) c.in-Ok-Some.field-0 c.in-Ok-Some.row c.in-Ok-Some.field-0-is (c.in-Ok-Some.ensures.tells was));
 }
 
 pub returns-in-Err-clause-pushes : goal.returns-in-Err-clause-pushes

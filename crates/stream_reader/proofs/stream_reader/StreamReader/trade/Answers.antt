@@ -1,4 +1,4 @@
-use Rattle.std.proofs.Common.{◌≡◌, ◌∷◌, [], ◌∙◌, ap, arith, List, ℕ}
+use Rattle.std.proofs.Common.{◌∷◌, [], ◌∙◌, ap, arith, List, ℕ}
 use Rattle.std.proofs.lemmas.Int.{ints}
 use Rattle.stream_reader.proofs.Telling.{name_next}
 use Rattle.stream_reader.proofs.stream_reader.StreamReader.trade.Goals as goal
