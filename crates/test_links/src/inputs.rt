@@ -1,6 +1,6 @@
 // Rings of inputs, by one thread and by two.
 ghost use Rattle.input_ring.specs.Ends.{gives_from, sends_to};
-ghost use Rattle.std.specs.Prelude.{◌≡◌, ◌×◌};
+ghost use Rattle.std.specs.Prelude.{◌≡◌};
 
 use input_ring::{InputSender, InputSource, RING_INPUTS, StopFlag, input_ring};
 use node_tasks::{Came, Source};
