@@ -113,3 +113,13 @@ fn what_is_left_is_taken(rt: HostRuntime) -> Result<(), Fail> {
     assert!(rt; are_left(&rt, &mut settled));
     Ok(())
 }
+
+// Where no end receives any more a sender that waits gives up, though the channel is full.
+#[test]
+fn nobody_receives(rt: HostRuntime) -> Result<(), Fail> {
+    let (mut sender, receiver) = channel(rt.alloc(), 1)?;
+    assert!(rt; sender.send(&rt, &1));
+    drop(receiver);
+    assert!(rt; !sender.send(&rt, &2));
+    Ok(())
+}
