@@ -1,6 +1,4 @@
 // Channels of values, by one thread and by two.
-ghost use Rattle.ordered_channel.specs.Ends.{receives_from, sends_to};
-ghost use Rattle.std.specs.Prelude.{◌≡◌};
 
 use ordered_channel::{Receiver, Sender, Settled, channel};
 use std::sync::Wait;
