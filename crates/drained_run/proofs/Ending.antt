@@ -121,7 +121,7 @@ own_inputs : (plan : PlanView) (inputs : List Input) (script : List Order) (ran 
 own_inputs plan inputs script ran run =
     let r = reaches plan inputs script ran run in
     let Stands : NodeState → Type 0 = λ s. NodeStands plan inputs s (r.reached.nodes (id_of s)) in
-    let f = find (λ s. AllCame s × Stands s) node.Ingress ran.nodes (subst (Among node.Ingress) (sym run.nodes_are) (inl refl)) (both AllCame Stands ran.nodes run.came r.stand) in
+    let f = find (λ s. AllCame s × Stands s) node.Ingress ran.nodes (subst (Among node.Ingress) (sym run.course.nodes_are) (inl refl)) (both AllCame Stands ran.nodes run.came r.stand) in
     ap (λ o. inputs_at (standing o).content) f.there ∙ (inputs_contents f.one ∙ inputs_stand plan inputs f.one (r.reached.nodes (id_of f.one)) f.named f.holds.0 f.holds.1)
 
 own_run : (plan : PlanView) (inputs : List Input) (script : List Order) (ran : Ran) → IsLegalRan plan inputs script ran → IsLegalRan plan (inputs_of (bare_core plan ran.nodes)) script ran
@@ -136,7 +136,7 @@ module _ (plan : PlanView) (inputs : List Input) (script : List Order) (ran : Ra
 
   -- no more inputs come to the nodes, and they handed no row on
   pub all : HoldsAll bare_nodes
-  all = all_held plan false ran.nodes run.came run.held (subst (Among node.Ingress) (sym run.nodes_are) (inl refl)) (subst (Among node.Egress) (sym run.nodes_are) (among_last node.Egress (nodes_before_egress plan)))
+  all = all_held plan false ran.nodes run.came run.held (subst (Among node.Ingress) (sym run.course.nodes_are) (inl refl)) (subst (Among node.Egress) (sym run.course.nodes_are) (among_last node.Egress (nodes_before_egress plan)))
 
   -- where the drain's events were listed apart
   pub run_ends : (old core : CoreView) (before after : List Event) (d : Drained) → old ≡ bare_nodes → before ≡ [] → core.plan ≡ old.plan → inputs_of core ≡ inputs_of old

@@ -38,7 +38,7 @@ module _ (plan : PlanView) (inputs : List Input) (script : List Order) (ran : Ra
   pub run_front : IsLegalRan plan inputs script ran → IsPrefix (emitted_in ran.nodes) (output plan inputs)
   run_front run =
       let r = reaches plan inputs script ran run in
-      let f = find (λ s. NodeStands plan inputs s (r.reached.nodes (id_of s))) node.Egress ran.nodes (subst (Among node.Egress) (sym run.nodes_are) (among_last node.Egress (nodes_before_egress plan))) r.stand in
+      let f = find (λ s. NodeStands plan inputs s (r.reached.nodes (id_of s))) node.Egress ran.nodes (subst (Among node.Egress) (sym run.course.nodes_are) (among_last node.Egress (nodes_before_egress plan))) r.stand in
       let count = (egress_in (r.reached.nodes (id_of f.one))).count in
       let emitted : emitted_in ran.nodes ≡ output_first plan inputs count = sym (emitted_bare ran.nodes)
       ∙ (ap (λ o. rows_at (standing o).content) f.there ∙ (same_rows f.one ∙ rows_stand plan inputs f.one (r.reached.nodes (id_of f.one)) f.named f.holds)) in

@@ -61,14 +61,14 @@ legal_ran {K} kept plan inputs script left run =
 -- ---- one log
 
 pub mergeable : (plan : PlanView) (inputs : List Input) (script : List Order) (ran : Ran) → IsLegalRan plan inputs script ran → AreMergeable ran.logs
-mergeable plan inputs script ran run = record { ascending = subst AreAscending (sym run.histories) (nodes_ascend plan); rising = run.rising }
+mergeable plan inputs script ran run = record { ascending = subst AreAscending (sym run.course.histories) (nodes_ascend plan); rising = run.course.rising }
 
 -- the events of all nodes in one list
 abbrev pub events_of : Ran → List Event
 events_of ran = merged_events ran.logs
 
 pub reaches : (plan : PlanView) (inputs : List Input) (script : List Order) (ran : Ran) → IsLegalRan plan inputs script ran → ReachesNodes plan inputs script ran.nodes (merged ran.logs)
-reaches plan inputs script ran run = run.joint (merged ran.logs) (is_log ran.logs run.distinct run.rising)
+reaches plan inputs script ran run = run.course.joint (merged ran.logs) (is_log ran.logs run.course.distinct run.course.rising)
 
 -- ---- a core of the nodes
 
@@ -91,7 +91,7 @@ module _ (plan : PlanView) (script : List Order) (ran : Ran) (limits : IsPlan pl
 
   pub stands : StandsFor bare left
   stands n has =
-      let there : Among n (map id_of ran.nodes) = subst (Among n) (sym run.nodes_are) (all_there plan n ((nodes_named plan inputs n).named has)) in
+      let there : Among n (map id_of ran.nodes) = subst (Among n) (sym run.course.nodes_are) (all_there plan n ((nodes_named plan inputs n).named has)) in
       let f = find (λ s. NodeStands plan inputs s (left.nodes (id_of s))) n ran.nodes there reached.stand in
       let holds : NodeStands plan inputs f.one (left.nodes n) = subst (λ m. NodeStands plan inputs f.one (left.nodes m)) f.named f.holds in
       subst (λ o. StationStands plan inputs n (standing o) left) (sym f.there)

@@ -67,4 +67,4 @@ legal_ran plan inputs script r run =
     (named_same r.histories.items) run
 
 pub mergeable : (plan : PlanView) (inputs : List Input) (script : List Order) (r : ran.Ran) → IsLegalRun plan inputs script r → AreMergeable r.histories.items
-mergeable plan inputs script r run = record { distinct = run.distinct; rising = run.rising }
+mergeable plan inputs script r run = record { distinct = run.course.distinct; rising = run.course.rising }

@@ -8,7 +8,7 @@ use Rattle.drained_run.proofs.Joined.{legal_ran, mergeable, ran_of}
 use Rattle.drained_run.proofs.run.finish_run.Goals as goal
 
 pub of-requires-clause-names : goal.of-requires-clause-names
-of-requires-clause-names g c = c.requires.nodes_are
+of-requires-clause-names g c = c.requires.course.nodes_are
 
 pub of-requires-clause-given : goal.of-requires-clause-given
 of-requires-clause-given g c =
