@@ -3,5 +3,7 @@ pub mod Unlinked
 pub mod Kept
 pub mod Parts
 pub mod TapLaw
-pub mod AllFed
-pub mod Feeds
+pub mod Opening
+pub mod Fitting
+pub mod Ends
+pub mod Supplied

@@ -17,9 +17,9 @@ use Rattle.plan_nodes.specs.declared.state.NodeState.{NodeState}
 use Rattle.plan_nodes.proofs.NodeOrder.{ids_distinct, nodes_apart}
 use Rattle.linked_run.specs.Runs.{IsRun, history_in, ids_in}
 use Rattle.partition_runner.specs.Parts.{IsLeftOf, named_kept, nodes_in}
-use Rattle.partition_runner.specs.Ran.{AllStand, IsLegalKept, IsLegalWith, history_among}
+use Rattle.partition_runner.specs.Ran.{AllStand, IsLegalCourse, IsLegalKept, history_among}
 use Rattle.partition_runner.specs.declared.ran.Left.{Left}
-use Rattle.partition_runner.proofs.Kept.{legal_kept}
+use Rattle.partition_runner.proofs.Kept.{course_kept}
 
 -- ---- one part more
 
@@ -52,15 +52,13 @@ module _ (plan : PlanView) (inputs : List Input) (script : List Order) where
   nodes_stand s [] h = tt
   nodes_stand s (p ∷ ps) h = (h.0, nodes_stand s ps h.1)
 
-  legal_parts : (ps : List (NodeState × List Stamped)) → IsRun id_of StandsFor plan inputs script (nodes_of plan) ps → Each AllCame (nodes_in ps) → Each (λ n. gone_of n ≡ []) (nodes_in ps)
-      → IsLegalWith plan inputs script (λ (p : NodeState × List Stamped). id_of p.0) (λ (p : NodeState × List Stamped). p.1) (nodes_in ps) ps
-  legal_parts ps r came held = record {
+  course_of_parts : (ps : List (NodeState × List Stamped)) → IsRun id_of StandsFor plan inputs script (nodes_of plan) ps
+      → IsLegalCourse plan inputs script (λ (p : NodeState × List Stamped). id_of p.0) (λ (p : NodeState × List Stamped). p.1) (nodes_in ps) ps
+  course_of_parts ps r = record {
     histories = r.nodes;
     distinct = subst AreDistinct (sym r.nodes) (ids_distinct (nodes_of plan) (nodes_apart plan));
     rising = r.rising;
     nodes_are = nodes_named ps ∙ r.nodes;
-    came = came;
-    held = held;
     joint = λ log l.
         let q = r.joint log (record { in_order = l.in_order; whole = λ n. l.whole n ∙ history_of_part ps n }) in
         record { reached = q.reached; legal = q.legal; within = q.within; stand = nodes_stand q.reached ps q.stand };
@@ -70,8 +68,16 @@ module _ (plan : PlanView) (inputs : List Input) (script : List Order) where
   nodes_hold [] held = tt
   nodes_hold (p ∷ ps) held = (held.0, nodes_hold ps held.1)
 
+  pub course_left : {K : Type 0} (kept : K → LogView) (ps : List (NodeState × List Stamped)) (left : Left K) → IsRun id_of StandsFor plan inputs script (nodes_of plan) ps → IsLeftOf kept ps left
+      → IsLegalCourse plan inputs script (λ (l : K). (kept l).node) (λ (l : K). (kept l).entries) left.nodes.items left.logs.items
+  course_left {K} kept ps left r of_parts = subst (λ ns. IsLegalCourse plan inputs script (λ (l : K). (kept l).node) (λ (l : K). (kept l).entries) ns left.logs.items) (sym of_parts.nodes)
+      (course_kept (λ (l : K). (kept l).node) (λ (l : K). (kept l).entries) (λ (p : NodeState × List Stamped). id_of p.0) (λ (p : NodeState × List Stamped). p.1) plan inputs script (nodes_in ps) left.logs.items ps of_parts.logs
+      (course_of_parts ps r))
+
   pub legal_left : {K : Type 0} (kept : K → LogView) (ps : List (NodeState × List Stamped)) (left : Left K) → IsRun id_of StandsFor plan inputs script (nodes_of plan) ps
       → Each (λ (p : NodeState × List Stamped). gone_of p.0 ≡ []) ps → IsLeftOf kept ps left → Each AllCame left.nodes.items → IsLegalKept kept plan inputs script left
-  legal_left {K} kept ps left r held of_parts came = subst (λ ns. IsLegalWith plan inputs script (λ (l : K). (kept l).node) (λ (l : K). (kept l).entries) ns left.logs.items) (sym of_parts.nodes)
-      (legal_kept (λ (l : K). (kept l).node) (λ (l : K). (kept l).entries) (λ (p : NodeState × List Stamped). id_of p.0) (λ (p : NodeState × List Stamped). p.1) plan inputs script (nodes_in ps) left.logs.items ps of_parts.logs
-      (legal_parts ps r (subst (Each AllCame) of_parts.nodes came) (nodes_hold ps held)))
+  legal_left kept ps left r held of_parts came = record {
+    course = course_left kept ps left r of_parts;
+    came = came;
+    held = subst (Each (λ n. gone_of n ≡ [])) (sym of_parts.nodes) (nodes_hold ps held);
+  }

@@ -1,6 +1,6 @@
 -- Nodes with no link yet.
-use Rattle.std.proofs.Common.{◌≡◌, ◌∙◌, ◌+◌, ◌<◌, ◌||◌, ◌&&◌, ℕ, zero, suc, Bool, true, false, List, [], ◌∷◌, ◌++◌, length, get_or, take, refl, sym, ap, subst, arith}
-use Rattle.std.specs.Prelude.{IsSome, IsTrue, map}
+use Rattle.std.proofs.Common.{◌≡◌, ◌∙◌, ◌+◌, ◌<◌, ◌||◌, ◌&&◌, ℕ, zero, suc, Bool, true, false, List, [], ◌∷◌, ◌++◌, length, ◌≤◌, drop, get_or, take, refl, sym, ap, subst, arith, true≢false}
+use Rattle.std.specs.Prelude.{◌≢◌, IsSome, IsTrue, map}
 use Rattle.tuple_edge.specs.Input.{Input}
 use Rattle.tuple_edge.specs.declared.node.NodeId.{NodeId}
 use Rattle.tuple_edge.specs.declared.node.NodeId.TheVariants as node
@@ -9,7 +9,8 @@ use Rattle.plan_reader.specs.PlanView.{PlanView}
 use Rattle.pair_machine.specs.Counts.{flow_of}
 use Rattle.pair_machine.specs.Links.{HasNode, link}
 use Rattle.pair_machine.specs.Numbers.{is_node}
-use Rattle.pair_machine.proofs.Lists.{each_at, each_right}
+use Rattle.pair_machine.proofs.Lists.{each_at, each_left, each_map, each_right}
+use Rattle.pair_machine.proofs.Names.{node_self}
 use Rattle.pair_machine.proofs.PlanNodes.{nodes_named}
 use Rattle.pair_machine.specs.Courses.{Pairwise}
 use Rattle.pair_machine.specs.Lists.{Each}
@@ -17,10 +18,10 @@ use Rattle.linked_run.specs.Drafts.{Grows, LeadsTo, LeadsToAll}
 use Rattle.partition_runner.specs.Drafts.{all_unlinked, unlinked}
 use Rattle.linked_run.specs.Linked.{AreDistinct, AreLinked, IsLinkFrom, ids_of}
 use Rattle.run_node.specs.FirstLinks.{identity_to}
-use Rattle.plan_nodes.specs.NodeOrder.{nodes_before_egress, nodes_of}
+use Rattle.plan_nodes.specs.NodeOrder.{nodes_before_egress, nodes_of, stages_nodes}
 use Rattle.run_node.specs.NodeView.{NodeName}
 use Rattle.partition_runner.specs.Ready.{AreNodesOf, HaveTheirLinks}
-use Rattle.linked_run.specs.Runs.{any_tapped}
+use Rattle.linked_run.specs.Runs.{any_tapped, taps_of}
 use Rattle.linked_run.proofs.Joining.{same_ids}
 use Rattle.plan_nodes.proofs.NodeOrder.{Apart, all_there, nodes_apart, nodes_there}
 
@@ -51,6 +52,23 @@ unlinked_next drafts drafts_after ns i d n m l before e is made =
     let it : m ≡ record { id = get_or ns i d; ins = []; outs = []; tapped = false } = made ∙ ap (λ k. record { id = k; ins = []; outs = []; tapped = false }) is in
     e ∙ ((λ p. before p ++ it p ∷ []) ∙ (sym (unlinked_more (take i ns) (get_or ns i d)) ∙ ap unlinked (sym (take_next ns i d l))))
 
+-- nodes behind the first that is ingress are others
+pub other_at : (ids : List NodeId) (i : ℕ) (d : NodeId) → Each (λ n. n ≢ node.Ingress) (drop 1 ids) → 1 ≤ i → i < length ids → get_or ids i d ≢ node.Ingress
+other_at [] i d h from l = absurd (omega arith)
+other_at (n ∷ ids) zero d h from l = absurd (omega arith)
+other_at (n ∷ ids) (suc i) d h from l = go ids i h (omega arith)
+  where
+    go : (ns : List NodeId) (k : ℕ) → Each (λ n. n ≢ node.Ingress) ns → k < length ns → get_or ns k d ≢ node.Ingress
+    go [] k e m = absurd (omega arith)
+    go (n ∷ ns) zero e m = e.0
+    go (n ∷ ns) (suc k) e m = go ns k e.1 (omega arith)
+
+pub others_apart : (plan : PlanView) → Each (λ n. n ≢ node.Ingress) (drop 1 (nodes_before_egress plan))
+others_apart plan =
+    let apart = (nodes_apart plan).0 in
+    each_map (λ n. is_node node.Ingress n ≡ false) (λ n. n ≢ node.Ingress) (λ n e same. true≢false (sym (node_self node.Ingress) ∙ ap (is_node node.Ingress) (sym same) ∙ e)) (stages_nodes 1 plan.stages)
+    (each_left (λ n. is_node node.Ingress n ≡ false) (stages_nodes 1 plan.stages) (node.Egress ∷ []) apart)
+
 ids_append : (xs ys : List NodeName) → ids_of (xs ++ ys) ≡ ids_of xs ++ ids_of ys
 ids_append [] ys = refl
 ids_append (x ∷ xs) ys = ap (λ l. x.id ∷ l) (ids_append xs ys)
@@ -79,15 +97,28 @@ all_linked plan = go (all_unlinked plan) (none_in (nodes_before_egress plan) (re
     go [] h = tt
     go (m ∷ ms) h = (subst (Each (λ l. IsLinkFrom (all_unlinked plan) m.id l.0 l.1)) (sym h.0) tt, go ms h.1)
 
-tapped_last : (ns : List NodeId) (m : NodeName) → m.tapped ≡ true → any_tapped (unlinked ns ++ m ∷ []) ≡ true
-tapped_last [] m h = ap (λ b. b || false) h
-tapped_last (n ∷ ns) m h = tapped_last ns m h
-
-still_tapped : (xs ys : List NodeName) → Pairwise Grows xs ys → any_tapped ys ≡ any_tapped xs
+still_tapped : (xs ys : List NodeName) → Pairwise Grows xs ys → taps_of ys ≡ taps_of xs
 still_tapped [] [] g = refl
 still_tapped [] (y ∷ ys) g = absurd g
 still_tapped (x ∷ xs) [] g = absurd g
-still_tapped (x ∷ xs) (y ∷ ys) g = λ p. g.0.tapped p || still_tapped xs ys g.1 p
+still_tapped (x ∷ xs) (y ∷ ys) g = λ p. g.0.tapped p ∷ still_tapped xs ys g.1 p
+
+same_tapped : (xs ys : List NodeName) → taps_of xs ≡ taps_of ys → any_tapped xs ≡ any_tapped ys
+same_tapped [] [] e = refl
+same_tapped [] (y ∷ ys) e = cc
+same_tapped (x ∷ xs) [] e = cc
+same_tapped (x ∷ xs) (y ∷ ys) e =
+    let first : x.tapped ≡ y.tapped = cc e in
+    let rest : taps_of xs ≡ taps_of ys = cc e in
+    λ i. first i || same_tapped xs ys rest i
+
+-- a node of a plan has a tap
+pub some_tapped : (plan : PlanView) (names : List NodeName) → taps_of names ≡ taps_of (all_unlinked plan) → any_tapped names ≡ true
+some_tapped plan names e = same_tapped names (all_unlinked plan) e ∙ last (nodes_before_egress plan)
+  where
+    last : (ns : List NodeId) → any_tapped (unlinked ns ++ record { id = node.Egress; ins = []; outs = []; tapped = true } ∷ []) ≡ true
+    last [] = refl
+    last (n ∷ ns) = last ns
 
 pub have_links : (plan : PlanView) (xs ys : List NodeName) → xs ≡ all_unlinked plan → Pairwise Grows xs ys → AreLinked ys ys → Each (λ m. LeadsToAll plan m (ids_of xs)) ys → HaveTheirLinks plan ys
 have_links plan xs ys e g linked leads =
@@ -96,7 +127,7 @@ have_links plan xs ys e g linked leads =
       nodes = record {
         ids = same_ids xs ys g ∙ ids;
         linked = linked;
-        tapped = still_tapped xs ys g ∙ (ap any_tapped e ∙ tapped_last (nodes_before_egress plan) (record { id = node.Egress; ins = []; outs = []; tapped = true }) refl);
+        tapped = still_tapped xs ys g ∙ ap taps_of e;
       };
       leads = subst (λ ns. Each (λ m. LeadsToAll plan m ns) ys) ids leads;
     }

@@ -5,10 +5,7 @@ use Rattle.tuple_edge.specs.declared.node.NodeId.{NodeId}
 use Rattle.tuple_edge.specs.declared.node.NodeId.TheVariants as node
 use Rattle.ingress_egress.specs.IngressStands.{AreCome}
 use Rattle.ingress_egress.specs.IngressView.{IngressView}
-use Rattle.node_tasks.specs.Coming.{inputs_of}
 use Rattle.node_tasks.specs.Timely.{AreTimely}
-use Rattle.node_tasks.specs.declared.source.Came.{Came}
-use Rattle.node_tasks.specs.declared.source.Came.TheVariants as came
 use Rattle.pair_machine.specs.Numbers.{is_node}
 use Rattle.plan_nodes.specs.States.{id_of}
 use Rattle.plan_nodes.specs.declared.state.NodeState.{NodeState}
@@ -72,13 +69,6 @@ module _ {S : Type 0} (gave : S → List Input) (ended : S → Bool) where
   IsFedBy supply (state.Replica r) = Unit {0}
   IsFedBy supply (state.Control c) = Unit {0}
   IsFedBy supply (state.Egress e) = Unit {0}
-
-  -- What comes next: an input is held from then on, and it is the next one that the source gave; at the end the source said so.
-  pub record HasNext (old new : Supply S) (c : Came) : Type 0 where
-    pub gives : (came : List Input) → gave old.source ≡ came ++ listed old.held → gave new.source ≡ came ++ listed new.held
-    pub held : listed new.held ≡ inputs_of c
-    pub ends : c ≡ came.End → ended new.source ≡ true
-    pub over : new.over ≡ old.over
 
 -- ---- among nodes
 

@@ -4,6 +4,7 @@ pub mod Ready
 pub mod Parts
 pub mod Job
 pub mod Feeds
+pub mod FeedLaws
 pub mod Streams
 pub use Rattle.claim_board.specs.Board
 pub use Rattle.flux_link.specs.Arrivals

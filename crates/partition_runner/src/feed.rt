@@ -53,7 +53,7 @@ pub(crate) struct Beforehand<N: FedNames> {
 }
 
 impl<N: FedNames> Feed for Beforehand<N> {
-    ghost use Rattle.partition_runner.proofs.Feeds.{still_has_all};
+    ghost use Rattle.partition_runner.specs.FeedLaws.{still_has_all};
 
     ghost fits = { λ _ s. HasAll N.inputs s };
 

@@ -38,7 +38,7 @@ impl<K: Keeps> Left<K> {
     ghost use Rattle.partition_runner.specs.Parts.{HasRoom, IsLeftOf};
     ghost use Rattle.plan_nodes.specs.States.{id_of};
     ghost use Rattle.plan_nodes.specs.declared.state.NodeState.{NodeState};
-    ghost use Rattle.std.specs.Prelude.{◌≡◌, ◌++◌, ◌∷◌, [], IfOk, List, None, length};
+    ghost use Rattle.std.specs.Prelude.{◌≡◌, ◌+◌, ◌++◌, ℕ, ◌∷◌, [], IfOk, List, None, length};
     ghost use Rattle.tuple_edge.specs.declared.event.Stamped.{Stamped};
 
     /// Nothing yet, with room for what is left of so many nodes.
@@ -59,7 +59,7 @@ impl<K: Keeps> Left<K> {
         ensures of_parts { (parts : List (NodeState × List Stamped)) → IsLeftOf K.kept parts self.old → IsLeftOf K.kept (parts ++ (part.state, (K.kept part.history).entries) ∷ []) self.new }
         ensures fits { Each (λ s. (f : F) × F.fits f s) self.old.nodes.items → Each (λ s. (f : F) × F.fits f s) self.new.nodes.items }
         ensures feed { IsFeedOf F.fits result self.new.nodes.items }
-        ensures room { (more : _) → HasRoom (more + 1) self.old → HasRoom more self.new }
+        ensures room { (more : ℕ) → HasRoom (more + 1) self.old → HasRoom more self.new }
     {
         let Part { state, history } = part;
         let (state, its) = state.into_parts();

@@ -74,7 +74,7 @@ impl<N: RunNames, F: Feed, K: Keeps, M: Links, T: Draws> Model for Ready<N, F, K
 }
 
 /// Makes the nodes, with this ingress to which inputs come so, their links and the board for so many workers.
-pub(crate) fn make_ready<N: RunNames, F: Feed, K: Keeps + Send, M: Links, T: Draws + Send>(
+pub(crate) fn make_ready<N: RunNames, F: Feed + Send, K: Keeps + Send, M: Links, T: Draws + Send>(
     alloc: Global,
     plan: &Plan,
     ingress: NodeState,
@@ -118,7 +118,7 @@ pub(crate) struct Ended<F: Feed, K: Keeps, T: Draws> {
 /// legal and within the script, and each node stands for its numbers in the state that they reach.
 pub(crate) fn run_ready<
     N: RunNames,
-    F: Feed,
+    F: Feed + Send,
     K: Keeps + Send,
     M: Links,
     T: Draws + Send,

@@ -107,10 +107,10 @@ fn run_named<N: FedNames, K: Keeps + Send, M: Links, T: Draws + Send, R: Threads
         tap,
         failed,
     } = run_ready(rt, plan, script, turns, gate, links, ready);
+    let (left, _feed) = room.filled(parts);
     if failed {
         return (Err(OutOfMemory), tap);
     }
-    let (left, _feed) = room.filled(parts);
     (Ok(left), tap)
 }
 

@@ -20,7 +20,7 @@ use unwritten::Log as Unwritten;
 
 /// A run that is ready, over rings, with a source of inputs beside ingress and a tap beside egress.
 #[derive(Drop)]
-pub struct Streaming<N: RunNames, S: Source, T: RowTap> {
+pub struct Streaming<N: RunNames, S: Source + Send, T: RowTap> {
     ready: Ready<N, Option<Supply<S>>, Unwritten, Rings, HandsOn<T>>,
 }
 
@@ -38,7 +38,7 @@ pub struct StreamLeft {
 /// Makes the nodes of a plan as they open, the rings between them and the board for as many workers as the job has, with a
 /// source beside ingress and a tap beside egress. The names are those of the job. Where memory is wanting both are dropped,
 /// before either was asked for anything.
-pub fn ready_streamed<N: RunNames, S: Source, T: RowTap + Send, G: Gate>(
+pub fn ready_streamed<N: RunNames, S: Source + Send, T: RowTap + Send, G: Gate>(
     alloc: Global,
     job: &StreamJob<'_, G>,
     source: S,
@@ -51,7 +51,11 @@ pub fn ready_streamed<N: RunNames, S: Source, T: RowTap + Send, G: Gate>(
     // Whoever makes it ready says under which script it will run.
     let _orders = job.script.orders();
     let ingress = streamed_state(alloc, job.plan, NodeId::Ingress)?;
-    let supply = Some(Supply::new(source));
+    let supply = Some(Supply {
+        source,
+        held: None,
+        over: false,
+    });
     let ready = make_ready(
         alloc,
         job.plan,
@@ -71,7 +75,7 @@ pub fn ready_streamed<N: RunNames, S: Source, T: RowTap + Send, G: Gate>(
 /// inputs are with which those that came begin, the run is legal as one is whose inputs came beforehand: there is one history for each node of the plan, all events in
 /// the order of their clocks are legal and within the script, and each node stands for its numbers in the state that they reach. The
 /// tap took the first rows that egress emitted, which egress holds no longer; without memory, the first of the output.
-pub fn run_streamed<R: Threads + Sync, G: Gate, N: RunNames, S: Source, T: RowTap + Send>(
+pub fn run_streamed<R: Threads + Sync, G: Gate, N: RunNames, S: Source + Send, T: RowTap + Send>(
     rt: &R,
     job: &StreamJob<'_, G>,
     ready: Streaming<N, S, T>,
@@ -92,9 +96,8 @@ pub fn run_streamed<R: Threads + Sync, G: Gate, N: RunNames, S: Source, T: RowTa
     );
     let HandsOn { tap } = tap;
     let (left, feed) = room.filled(parts);
-    let Some(Some(supply)) = feed else {
-        unreachable!()
-    };
+    let Some(feed) = feed else { unreachable!() };
+    let Some(supply) = feed else { unreachable!() };
     let Supply {
         source,
         held,

@@ -3,10 +3,10 @@ ghost use Rattle.ingress_egress.specs.IngressStands.{AreCome, IsOfPlan, StandsFo
 ghost use Rattle.node_tasks.specs.Coming.{inputs_of};
 ghost use Rattle.node_tasks.specs.declared.source.Came.TheVariants as came;
 ghost use Rattle.pair_machine.specs.Numbers.{Node};
-ghost use Rattle.partition_runner.specs.Feeds.{HasNext, IsFedBy, IsSupplied};
+ghost use Rattle.partition_runner.specs.Feeds.{IsFedBy, IsGivenBy, came_to};
 ghost use Rattle.plan_nodes.specs.States.{has_merged_end, tells_loss};
 ghost use Rattle.plan_reader.specs.PlanView.{PlanView};
-ghost use Rattle.std.specs.Prelude.{◌≡◌, ◌||◌, IfOk, List, None, false};
+ghost use Rattle.std.specs.Prelude.{◌≡◌, ◌++◌, ◌||◌, Bool, List, None, Ok, false, true};
 ghost use Rattle.tuple_edge.specs.Input.{Input};
 
 use crate::feed::Feed;
@@ -25,82 +25,61 @@ pub(crate) struct Supply<S: Source> {
     pub(crate) over: bool,
 }
 
-impl<S: Source> Supply<S> {
-    /// A source that is to be asked yet.
-    pub(crate) fn new(source: S) -> Supply<S>
-        ensures source { result.source ≡ source }
-        ensures held { result.held ≡ None }
-        ensures over { result.over ≡ false }
-    {
-        Supply {
-            source,
-            held: None,
-            over: false,
-        }
+// Gives ingress the input that is held, if one is. Whether none is held any more.
+fn pass_held(node: &mut Ingress, held: &mut Option<Input>) -> Result<bool, OutOfMemory>
+    ensures given { (gave : List Input) (ended : Bool) → IsGivenBy gave ended (came_to node.old held.old) → IsGivenBy gave ended (came_to node.new held.new) }
+    ensures none { result ≡ Ok true → held.new ≡ None }
+    ensures told { node.new.ended ≡ node.old.ended }
+    ensures inputs { (inputs : List Input) → AreCome node.new.ended node.new.inputs inputs → AreCome node.old.ended node.old.inputs inputs }
+    ensures stands { (plan : PlanView) (inputs : List Input) (x : Node) → AreCome node.new.ended node.new.inputs inputs → StandsFor plan inputs node.old x → StandsFor plan inputs node.new x }
+    ensures of_plan { (plan : PlanView) → IsOfPlan plan node.old → IsOfPlan plan node.new }
+{
+    let Some(input) = *held else {
+        return Ok(true);
+    };
+    let took = node.feed(input)?;
+    if took {
+        *held = None;
     }
+    Ok(took)
+}
 
-    // What comes next: the input that is held, or else what the source says. An input is held from then on.
-    fn next(&mut self) -> Came
-        ensures { HasNext S.gave S.ended self.old self.new result }
-    {
-        if let Some(input) = self.held {
-            return Came::Input(input);
+// Gives ingress what a source said: an input, which is held until ingress takes it, or that no more come. Whether it was an
+// input that ingress took.
+fn pass_on(
+    node: &mut Ingress,
+    held: &mut Option<Input>,
+    over: &mut bool,
+    said: Came,
+) -> Result<bool, OutOfMemory>
+    requires none { held.old ≡ None }
+    requires open { node.old.ended ≡ false }
+    requires told { over.old ≡ node.old.ended }
+    ensures given { (gave : List Input) (before ended : Bool) → IsGivenBy gave before (came_to node.old held.old) → (said ≡ came.End → ended ≡ true)
+        → IsGivenBy (gave ++ inputs_of said) ended (came_to node.new held.new) }
+    ensures none { result ≡ Ok true → held.new ≡ None }
+    ensures told { over.new ≡ node.new.ended }
+    ensures inputs { (inputs : List Input) → AreCome node.new.ended node.new.inputs inputs → AreCome node.old.ended node.old.inputs inputs }
+    ensures stands { (plan : PlanView) (inputs : List Input) (x : Node) → AreCome node.new.ended node.new.inputs inputs → StandsFor plan inputs node.old x → StandsFor plan inputs node.new x }
+    ensures of_plan { (plan : PlanView) → IsOfPlan plan node.old → IsOfPlan plan node.new }
+{
+    match said {
+        Came::Input(input) => {
+            *held = Some(input);
+            pass_held(node, held)
         }
-        let came = self.source.next();
-        if let Came::Input(input) = came {
-            self.held = Some(input);
+        Came::End => {
+            node.end();
+            *over = true;
+            Ok(false)
         }
-        came
-    }
-
-    // Gives ingress the next input, or tells it that no more come. Whether it took one.
-    fn pass_one(&mut self, node: &mut Ingress) -> Result<bool, OutOfMemory>
-        requires supplied { IsSupplied S.gave S.ended self.old node.old }
-        ensures supplied { IsSupplied S.gave S.ended self.new node.new }
-        ensures inputs { (inputs : List Input) → AreCome node.new.ended node.new.inputs inputs → AreCome node.old.ended node.old.inputs inputs }
-        ensures stands { (plan : PlanView) (inputs : List Input) (x : Node) → AreCome node.new.ended node.new.inputs inputs → StandsFor plan inputs node.old x → StandsFor plan inputs node.new x }
-        ensures of_plan { (plan : PlanView) → IsOfPlan plan node.old → IsOfPlan plan node.new }
-    {
-        if self.over {
-            return Ok(false);
-        }
-        match self.next() {
-            Came::Input(input) => {
-                let took = node.feed(input)?;
-                if took {
-                    self.held = None;
-                }
-                Ok(took)
-            }
-            Came::End => {
-                node.end();
-                self.over = true;
-                Ok(false)
-            }
-            Came::Nothing => Ok(false),
-        }
-    }
-
-    // Feeds ingress while fewer than so many inputs wait there.
-    fn fill(&mut self, node: &mut Ingress, most: usize) -> Result<(), OutOfMemory>
-        requires supplied { IsSupplied S.gave S.ended self.old node.old }
-        ensures supplied { IsSupplied S.gave S.ended self.new node.new }
-        ensures inputs { (inputs : List Input) → AreCome node.new.ended node.new.inputs inputs → AreCome node.old.ended node.old.inputs inputs }
-        ensures stands { (plan : PlanView) (inputs : List Input) (x : Node) → AreCome node.new.ended node.new.inputs inputs → StandsFor plan inputs node.old x → StandsFor plan inputs node.new x }
-        ensures of_plan { (plan : PlanView) → IsOfPlan plan node.old → IsOfPlan plan node.new }
-    {
-        for _ in node.waiting()..most {
-            if !self.pass_one(node)? {
-                break;
-            }
-        }
-        Ok(())
+        Came::Nothing => Ok(false),
     }
 }
 
 // Inputs come to ingress from a source, and to no other node.
-impl<S: Source> Feed for Option<Supply<S>> {
-    ghost use Rattle.partition_runner.proofs.Feeds.{still_fed_by};
+impl<S: Source + Send> Feed for Option<Supply<S>> {
+    ghost use Rattle.partition_runner.specs.FeedLaws.{still_fed_by};
 
     ghost fits = { λ supply s. IsFedBy S.gave S.ended supply s };
 
@@ -113,10 +92,25 @@ impl<S: Source> Feed for Option<Supply<S>> {
     }
 
     fn refill(&mut self, state: &mut NodeState, most: usize) -> Result<(), OutOfMemory> {
-        match (self, state) {
-            (Some(supply), NodeState::Ingress(node)) => supply.fill(node, most),
-            _ => Ok(()),
+        let Some(supply) = self else {
+            return Ok(());
+        };
+        let NodeState::Ingress(node) = state else {
+            return Ok(());
+        };
+        if !pass_held(node, &mut supply.held)? {
+            return Ok(());
         }
+        for _ in node.waiting()..most {
+            if supply.over {
+                return Ok(());
+            }
+            let said = supply.source.next();
+            if !pass_on(node, &mut supply.held, &mut supply.over, said)? {
+                return Ok(());
+            }
+        }
+        Ok(())
     }
 
     fn is_over(state: &NodeState) -> bool {

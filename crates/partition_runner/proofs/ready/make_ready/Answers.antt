@@ -14,7 +14,6 @@ invariant_of-result g c =
     subst (λ (l : List (NodeView _ _)). AreNodesOf g.N.RunNames.plan (map (name_of id_of) l)) (sym c.in-Ok.ensures.values) made in
     let opened : length (opening_of c.in-Ok.board) ≡ c.len-places.result = search rules in
     record {
-      timely = c.times_of.ensures;
       some = subst (λ n. 0 < n) opened (some_nodes (name_of id_of) g.N.RunNames.plan (opening_of c.in-Ok.board) nodes);
       opened = opened;
       seats = c.in-Ok.ensures.all;
@@ -22,5 +21,6 @@ invariant_of-result g c =
       nodes = nodes;
       empty = c.in_ok-room.ensures.parts.0;
       room = c.in_ok-room.ensures.parts.1;
-      left_room = c.in_ok-room.ensures.left;
+      left_empty = c.in_ok-room.ensures.left.0;
+      left_room = c.in_ok-room.ensures.left.1;
     }

@@ -1,9 +1,10 @@
-use Rattle.std.proofs.Common.{◌≡◌, ◌++◌}
+use Rattle.std.proofs.Common.{◌≡◌, ◌++◌, length}
 use Rattle.std.specs.Vec.Iter.{into_iter_items}
 use Rattle.pair_machine.specs.Lists.{Each}
-use Rattle.plan_nodes.specs.States.{AllCame}
 use Rattle.linked_run.specs.Runs.{parts_in}
-use Rattle.partition_runner.specs.Parts.{IsLeftOf}
+use Rattle.plan_nodes.specs.declared.state.NodeState.{NodeState}
+use Rattle.partition_runner.specs.Feeds.{IsFeedOf}
+use Rattle.partition_runner.specs.Parts.{HasRoom, IsLeftOf}
 use Rattle.partition_runner.proofs.ran.Left.filled.Given as goal
 
 abbrev pub invariant-loop-part : goal.invariant-loop-part
@@ -13,5 +14,7 @@ invariant-loop-part g l =
     record {
       rest : l.yielded ++ into_iter_items l.part-iterator ≡ l.fn.parts.items;
       done : IsLeftOf g.K.Keeps.kept (parts_in g.K.Keeps.kept l.yielded) l.left;
-      came : Each AllCame l.left.nodes.items;
+      room : HasRoom (length (into_iter_items l.part-iterator)) l.left;
+      fits : Each (λ (s : NodeState). (f : g.row.F.Denot) × g.F.Feed.fits f s) l.left.nodes.items;
+      feed : IsFeedOf g.F.Feed.fits l.feed l.left.nodes.items;
     }
