@@ -1,5 +1,5 @@
 -- The nodes that the threads left, where no more inputs come to the first of them, which is ingress; and nodes by their names.
-use Rattle.std.proofs.Common.{◌≡◌, ◌∙◌, Bool, true, false, List, [], ◌∷◌, Option, None, Some, map, refl, sym, ap, subst, true≢false}
+use Rattle.std.proofs.Common.{◌≡◌, ◌∙◌, Bool, true, false, List, [], ◌∷◌, Some, map, refl, sym, ap, subst, true≢false}
 use Rattle.std.specs.Prelude.{if◌then◌else◌}
 use Rattle.tuple_edge.specs.Input.{Input}
 use Rattle.tuple_edge.specs.declared.node.NodeId.{NodeId}
@@ -9,10 +9,9 @@ use Rattle.pair_machine.specs.Lists.{Each}
 use Rattle.pair_machine.specs.Machine.{State}
 use Rattle.pair_machine.specs.Numbers.{Node, is_node}
 use Rattle.pair_machine.specs.declared.order.Order.{Order}
-use Rattle.pair_machine.proofs.Names.{node_self}
 use Rattle.ingress_egress.specs.IngressView.{IngressView}
 use Rattle.plan_nodes.specs.NodeOrder.{nodes_of}
-use Rattle.plan_nodes.specs.States.{AllCame, StandsFor, contents_of, ended_at, id_of, inputs_in}
+use Rattle.plan_nodes.specs.States.{AllCame, StandsFor, ended_at, id_of, inputs_in}
 use Rattle.plan_nodes.specs.declared.state.NodeState.{NodeState}
 use Rattle.plan_nodes.specs.declared.state.NodeState.TheVariants as state
 use Rattle.plan_nodes.proofs.NodeOrder.{Apart, nodes_apart}
