@@ -1,8 +1,9 @@
 -- The drain's end of what the threads left is the end of a run of just what came; and the rows that were handed on begin every output that may be.
-use Rattle.std.proofs.Common.{◌≡◌, ◌∙◌, ◌++◌, Bool, List, [], ap, subst, sym}
+use Rattle.std.proofs.Common.{◌≡◌, ◌∙◌, ◌++◌, ℕ, Bool, List, [], ap, subst, sym}
 use mathlib.Core.List.{IsPrefix}
 use Rattle.tuple_edge.specs.Input.{Input}
 use Rattle.tuple_edge.specs.declared.event.Drained.{Drained}
+use Rattle.tuple_edge.specs.declared.event.Drained.TheVariants as drained
 use Rattle.tuple_edge.specs.declared.event.Event.{Event}
 use Rattle.tuple_edge.specs.declared.node.NodeId.TheVariants as node
 use Rattle.tuple_edge.specs.declared.row.Row.{Row}
@@ -24,20 +25,23 @@ use Rattle.drained_run.specs.Ended.{EndsSo}
 use Rattle.drained_run.proofs.Ending as ending
 use Rattle.drained_run.proofs.Fronts.{run_front}
 use Rattle.drained_run.proofs.Joined.{events_of}
+use Rattle.drained_run.proofs.Nodes.{emitted_bare}
 use Rattle.streamed_run.specs.Streamed.{IsStreamEnded}
 use Rattle.streamed_run.proofs.Courses.{course, inputs, left, legal, nodes_are, none_come, ran}
-use Rattle.streamed_run.proofs.Firsts.{egress_same, emitted_among, gone_bare}
+use Rattle.streamed_run.proofs.Firsts.{egress_same, emitted_among, emitted_same, gone_bare}
 
 module _ (plan : PlanView) (script : List Order) (gave : List Input) (ended : Bool) (l : StreamLeft) (run : IsLegalStream plan script gave ended l) where
-  -- ---- what was handed on
+  -- ---- what egress emitted, and handed on
+
+  pub all_begin : (all : List Input) → MayBeInputs (came_to run.ingress l.held) all → IsPrefix (emitted_in l.left.nodes.items) (output plan all)
+  all_begin all may = run_front plan all script (left plan script gave ended l run) (course plan script gave ended l run all may)
 
   module _ (rows : List Row) (handed : AreHandedOn rows l.left.nodes.items) where
     pub begins : (all : List Input) → MayBeInputs (came_to run.ingress l.held) all → IsPrefix rows (output plan all)
     begins all may =
-        let whole = run_front plan all script (left plan script gave ended l run) (course plan script gave ended l run all may) in
         let emitted : emitted_in l.left.nodes.items ≡ handed.egress.emitted = emitted_among l.left.nodes.items ∙ ap rows_at handed.there in
         prefix_more rows handed.egress.emitted (output plan all) (subst (λ (xs : List Row). IsPrefix xs handed.egress.emitted) (sym handed.gone) handed.front)
-        (subst (λ (xs : List Row). IsPrefix xs (output plan all)) emitted whole)
+        (subst (λ (xs : List Row). IsPrefix xs (output plan all)) emitted (all_begin all may))
 
     pub begin_output : BeginOutput plan gave ended rows
     begin_output = record { came = came_to run.ingress l.held; given = run.came; front = begins }
@@ -75,9 +79,14 @@ module _ (plan : PlanView) (script : List Order) (gave : List Input) (ended : Bo
         same_inputs ∙ (ap (λ (c : CoreView). inputs_of c) is ∙ ending.own_inputs plan all script (ran plan script gave ended l run) (legal plan script gave ended l run) came_all) in
         let came : ◌≡◌ {A = CameIn} (record { inputs = inputs_of core; ended = l.ended; held = l.held }) (came_to run.ingress l.held) =
         (λ j. record { inputs = own j; ended = run.told j; held = l.held }) in
+        let stay : (stage part : ℕ) → d ≡ drained.Lost stage part → emitted_by core ≡ emitted_in l.left.nodes.items =
+        λ stage part e.
+        let lost : IsDrained old core before after (drained.Lost stage part) = subst (IsDrained old core before after) e h in
+        ap (λ (c : CoreView). emitted_by c) (lost.unchanged ∙ is) ∙ (emitted_bare (ran plan script gave ended l run).nodes ∙ emitted_same plan l.left.nodes.items (nodes_are plan script gave ended l run)) in
         let gone : gone_by core ≡ rows = same_gone ∙ (ap (λ (c : CoreView). gone_by c) is ∙ gone_is rows handed) in
         record {
           came = subst (IsGivenBy gave ended) (sym came) run.came;
           run = subst (λ (xs : List Input). EndsSo plan xs script (events_of (ran plan script gave ended l run) ++ after) (emitted_by core) d) (sym own) end;
           front = λ xs may. subst (λ (ys : List Row). IsPrefix ys (output plan xs)) (sym gone) (begins rows handed xs (subst (λ (c : CameIn). MayBeInputs c xs) came may));
+          lost = λ stage part e xs may. subst (λ (ys : List Row). IsPrefix ys (output plan xs)) (sym (stay stage part e)) (all_begin xs (subst (λ (c : CameIn). MayBeInputs c xs) came may));
         }

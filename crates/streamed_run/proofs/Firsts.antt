@@ -112,3 +112,7 @@ emitted_among (s ∷ nodes) = go (is_node (id_of s) node.Egress) (emitted_among 
     go : (b : Bool) → emitted_in nodes ≡ rows_at (node_among nodes node.Egress) → (if b then rows_at (Some s) else emitted_in nodes) ≡ rows_at (if b then Some s else node_among nodes node.Egress)
     go true rest = refl
     go false rest = rest
+
+-- egress emitted the same
+pub emitted_same : (plan : PlanView) (nodes : List NodeState) → map id_of nodes ≡ nodes_of plan → emitted_in (ended_first nodes) ≡ emitted_in nodes
+emitted_same plan nodes e = emitted_among (ended_first nodes) ∙ (ap rows_at (egress_same plan nodes e) ∙ sym (emitted_among nodes))

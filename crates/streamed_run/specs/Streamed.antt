@@ -1,7 +1,8 @@
 -- How a run ends to which inputs came while it went on: as one does whose inputs were known beforehand, and are just those that came.
-use Rattle.std.specs.Prelude.{Bool, List, [], ◌∷◌}
+use Rattle.std.specs.Prelude.{◌≡◌, ℕ, Bool, List, [], ◌∷◌}
 use mathlib.Core.List.{IsPrefix}
 use Rattle.tuple_edge.specs.Input.{Input}
+use Rattle.tuple_edge.specs.declared.event.Drained.TheVariants as drained
 use Rattle.tuple_edge.specs.declared.row.Row.{Row}
 use Rattle.plan_reader.specs.PlanView.{PlanView}
 use Rattle.pair_machine.specs.Output.{output}
@@ -24,8 +25,10 @@ pub record StreamView : Type 0 where
   pub gone : List Row
 
 -- A run has ended to which a source gave these inputs, whether or not it said that they are all. What came to ingress is what the source gave, but for
--- what is held. A run of the plan over just what came ends so. The rows that were handed on begin the output of every list of inputs that may be.
+-- what is held. A run of the plan over just what came ends so. The rows that were handed on begin the output of every list of inputs that may be; where
+-- a pair is lost, all rows do.
 pub record IsStreamEnded (plan : PlanView) (script : List Order) (gave : List Input) (ended : Bool) (v : StreamView) : Type 0 where
   pub came : IsGivenBy gave ended v.came
   pub run : IsEnded plan v.came.inputs script v.run
   pub front : (inputs : List Input) → MayBeInputs v.came inputs → IsPrefix v.gone (output plan inputs)
+  pub lost : (stage part : ℕ) → v.run.drained ≡ drained.Lost stage part → (inputs : List Input) → MayBeInputs v.came inputs → IsPrefix v.run.rows (output plan inputs)
