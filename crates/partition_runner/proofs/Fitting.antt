@@ -8,7 +8,6 @@ use Rattle.tuple_edge.specs.declared.node.NodeId.{NodeId}
 use Rattle.tuple_edge.specs.declared.node.NodeId.TheVariants as node
 use Rattle.event_log.specs.Views.{LogView}
 use Rattle.ingress_egress.specs.IngressStands.{AreCome}
-use Rattle.ingress_egress.specs.IngressView.{IngressView}
 use Rattle.pair_machine.specs.Lists.{Each}
 use Rattle.pair_machine.specs.Numbers.{is_node}
 use Rattle.linked_run.specs.Linked.{ids_of}

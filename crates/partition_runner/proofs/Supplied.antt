@@ -1,5 +1,5 @@
 -- Inputs that a source gave, as they come to ingress.
-use Rattle.std.proofs.Common.{◌≡◌, ◌∙◌, Bool, true, false, List, [], ◌∷◌, ◌++◌, Option, None, Some, append-nil, ap, sym, subst, refl, true≢false}
+use Rattle.std.proofs.Common.{◌≡◌, ◌∙◌, Bool, true, false, List, [], ◌∷◌, ◌++◌, Option, None, Some, append-nil, ap, sym, subst, true≢false}
 use Rattle.std.proofs.lemmas.List.Elements.{All-push}
 use Rattle.tuple_edge.specs.Input.{Input}
 use Rattle.stream_ops.specs.Times.{IsTime}

@@ -1,5 +1,5 @@
 -- How inputs came to a node fits it after an event, by which none come.
-use Rattle.std.proofs.Common.{◌≡◌, ◌∙◌, Bool, List, Option, None, Some, ap, subst, sym}
+use Rattle.std.proofs.Common.{◌≡◌, ◌∙◌, Bool, List, Option, None, Some, subst, sym}
 use Rattle.std.specs.Prelude.{◌↔◌}
 use Rattle.tuple_edge.specs.Input.{Input}
 use Rattle.plan_nodes.specs.States.{Admits, id_of}

@@ -1,5 +1,5 @@
 -- The nodes of a run before their first turn.
-use Rattle.std.specs.Prelude.{◌≡◌, ◌<◌, ◌≤◌, ℕ, true, List, [], length, map}
+use Rattle.std.specs.Prelude.{◌≡◌, ◌<◌, ◌≤◌, ℕ, List, [], length, map}
 use Rattle.tuple_edge.specs.Input.{Input}
 use Rattle.event_log.specs.Views.{LogView}
 use Rattle.claim_board.specs.Board.{AllHoldNone, AreAll, opening_of}

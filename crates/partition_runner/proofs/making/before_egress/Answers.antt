@@ -1,4 +1,4 @@
-use Rattle.std.proofs.Common.{rules, false, ◌≡◌, ◌∙◌, ◌∷◌, ◌++◌, [], List, true, drop, take, ap, subst, sym}
+use Rattle.std.proofs.Common.{false, ◌≡◌, ◌∙◌, ◌∷◌, ◌++◌, [], List, true, drop, take, ap, subst, sym}
 use Rattle.std.specs.Prelude.{◌≢◌}
 use Rattle.tuple_edge.specs.declared.node.NodeId.{NodeId}
 use Rattle.tuple_edge.specs.declared.node.NodeId.TheVariants as node

@@ -1,4 +1,4 @@
-use Rattle.std.proofs.Common.{List, subst}
+use Rattle.std.proofs.Common.{subst}
 use Rattle.plan_nodes.specs.States.{Admits}
 use Rattle.plan_nodes.specs.declared.state.NodeState.{NodeState}
 use Rattle.pair_machine.specs.Lists.{Each}

@@ -2,7 +2,6 @@ use Rattle.std.proofs.Common.{◌≡◌, ◌∙◌, None, Some, ap, subst, sym}
 use Rattle.event_log.specs.Views.{LogView}
 use Rattle.linked_run.specs.Runs.{parts_in}
 use Rattle.plan_nodes.specs.declared.state.NodeState.{NodeState}
-use Rattle.tuple_edge.specs.declared.row.Row.{Row}
 use Rattle.std.specs.Prelude.{List}
 use Rattle.partition_runner.specs.Feeds.{IsFedBy, IsFeedOf}
 use Rattle.partition_runner.specs.Streams.{AreHandedOn}

@@ -1,4 +1,4 @@
-use Rattle.std.proofs.Common.{◌≡◌, ◌∙◌, List, Ok, subst, sym, ap}
+use Rattle.std.proofs.Common.{◌∙◌, List, Ok, subst, sym, ap}
 use Rattle.plan_nodes.specs.States.{StandsFor}
 use Rattle.plan_nodes.specs.declared.state.NodeState.{NodeState}
 use Rattle.partition_runner.specs.Feeds.{IsGivenBy, came_to}
