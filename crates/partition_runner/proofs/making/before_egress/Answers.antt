@@ -25,5 +25,5 @@ add_others-requires-clause-others g c κs within =
 pub add_others-requires-clause-first : goal.add_others-requires-clause-first
 add_others-requires-clause-first g c κs within =
     let made : c.add_draft.new.drafts.items ≡ record { id = id_of c.args.ingress; ins = []; outs = []; tapped = false } ∷ [] =
-        c.in_ok-add_draft.ensures ∙ ap (λ (drafts : List NodeName). drafts ++ record { id = id_of c.args.ingress; ins = []; outs = []; tapped = false } ∷ []) c.in_ok-drafts.ensures.items in
+    c.in_ok-add_draft.ensures ∙ ap (λ (drafts : List NodeName). drafts ++ record { id = id_of c.args.ingress; ins = []; outs = []; tapped = false } ∷ []) c.in_ok-drafts.ensures.items in
     made ∙ (ap (λ (n : NodeId). unlinked (n ∷ [])) c.requires.ingress.0 ∙ ap (λ (ids : List NodeId). unlinked (take 1 ids)) (sym (c.deref.ensures.value ∙ c.in_ok-ids.ensures)))
