@@ -160,7 +160,11 @@ fn explained<'a>(
         all: wanted.all,
         check: wanted.check,
     };
-    answered(alloc, plan, &question, wanted.number)
+    // By cases, since what each promises is shown apart: the question is told of the texts as they lie in memory.
+    match answered(alloc, plan, &question, wanted.number) {
+        Ok(answer) => Ok(answer),
+        Err(stop) => Err(stop),
+    }
 }
 
 // The answer without movements.
