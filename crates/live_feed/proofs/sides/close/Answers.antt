@@ -1,4 +1,4 @@
-use Rattle.std.proofs.Common.{List, Result, subst}
+use Rattle.std.proofs.Common.{◌∙◌, List, Result, length, ap, subst}
 use Rattle.tuple_edge.specs.declared.memory.OutOfMemory.{OutOfMemory}
 use Rattle.tuple_edge.specs.declared.row.Row.{Row}
 use Rattle.trade_text.specs.Text.{part_text}
@@ -20,7 +20,7 @@ returns-in-Ok g c start w =
     let e = c.settle-settled.ensures in
     c.finish.ensures start
     (subst (λ (l : List Row). IsWritten start (g.W.Wire.told c.args.out.now) (part_text c.args.trades.now.symbols l) c.args.written)
-    (first_received got sent c.in-Ok.ended.rows c.received-first.result c.received-first.ensures e.front run.1) w)
+    (first_received got sent c.in-Ok.ended.rows c.received-first.result (c.received-first.ensures ∙ ap (λ (l : List Row). length l) e.got) e.front run.1) w)
 
 pub returns : goal.returns
 returns g c start w =
