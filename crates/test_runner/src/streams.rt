@@ -1,4 +1,6 @@
 // Runs to which trades come while they go on, and from which rows go.
+ghost use Rattle.std.specs.Prelude.{◌≡◌};
+
 use crate::answer::is_so;
 use crate::fixture::THREE_TRADES;
 use crate::nodes::is_done;
