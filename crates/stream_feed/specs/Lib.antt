@@ -1,0 +1,5 @@
+pub mod Sides
+pub mod Streams
+pub use Rattle.flux_outside.specs.Outside
+pub use Rattle.pair_machine.specs.Scripts
+pub use Rattle.partition_runner.specs.Job
