@@ -37,7 +37,7 @@ start_record-between : (c : ℕ) → EndsBetween (start_record default_config c)
 start_record-between c =
     ends-if ((c == 13) || (c == 10)) (state.StartRecord, action.Skip) (start_field default_config c) (λ e. absurd (false≢true e)) (start_field-between c)
 
-step-between : (s : State) (c : ℕ) → EndsBetween (step default_config s c)
+pub step-between : (s : State) (c : ℕ) → EndsBetween (step default_config s c)
 step-between state.StartRecord c = start_record-between c
 step-between state.StartField c = start_field-between c
 step-between state.InField c = in_field-between c

@@ -87,12 +87,12 @@ module _ (text front : List ℕ) (after : Option (List ℕ)) (turns : ℕ) (f : 
 -- ---- one step of the machine
 
 module _ (s : State) (c : ℕ) (rest : List ℕ) where
-  step_on : (fields : List (List ℕ)) (field : List ℕ) → is_end (step default_config s c).1 ≡ false → next_record default_config s fields field (c ∷ rest)
+  pub step_on : (fields : List (List ℕ)) (field : List ℕ) → is_end (step default_config s c).1 ≡ false → next_record default_config s fields field (c ∷ rest)
       ≡ next_record default_config (step default_config s c).0 (fields_after (step default_config s c).1 fields field) (field_after (step default_config s c).1 c field) rest
   unfolding next_record
   step_on fields field on = rw on refl
 
-  step_ends : (fields : List (List ℕ)) (field : List ℕ) → is_end (step default_config s c).1 ≡ true
+  pub step_ends : (fields : List (List ℕ)) (field : List ℕ) → is_end (step default_config s c).1 ≡ true
       → next_record default_config s fields field (c ∷ rest) ≡ Some (fields_after (step default_config s c).1 fields field, (step default_config s c).0, rest)
   unfolding next_record
   step_ends fields field ends = rw ends refl
@@ -117,11 +117,11 @@ no_bytes : (s : State) → next_bytes s [] ≡ 0
 unfolding next_bytes
 no_bytes s = refl
 
-text_ends : (s : State) (fields : List (List ℕ)) (field : List ℕ) → ends_at_end s ≡ true → next_record default_config s fields field [] ≡ Some (fields ++ field ∷ [], state.StartRecord, [])
+pub text_ends : (s : State) (fields : List (List ℕ)) (field : List ℕ) → ends_at_end s ≡ true → next_record default_config s fields field [] ≡ Some (fields ++ field ∷ [], state.StartRecord, [])
 unfolding next_record
 text_ends s fields field ends = rw ends refl
 
-text_leaves : (s : State) (fields : List (List ℕ)) (field : List ℕ) → ends_at_end s ≡ false → next_record default_config s fields field [] ≡ None
+pub text_leaves : (s : State) (fields : List (List ℕ)) (field : List ℕ) → ends_at_end s ≡ false → next_record default_config s fields field [] ≡ None
 unfolding next_record
 text_leaves s fields field leaves = rw leaves refl
 

@@ -26,11 +26,11 @@ use Rattle.trade_text.proofs.RecordFacts.{records_left-more, records_left-none}
 abbrev pub IsFault : ReadError Field → Told → Type 0
 IsFault e told = (told.rows ≡ []) × (told.fault ≡ Some e)
 
-fault_of : (e : ReadError Field) (known : List (List ℕ)) (told : Told) → told ≡ no_more (Some e) known → IsFault e told
+pub fault_of : (e : ReadError Field) (known : List (List ℕ)) (told : Told) → told ≡ no_more (Some e) known → IsFault e told
 fault_of e known told is = (ap (λ (t : Told). t.rows) is, ap (λ (t : Told). t.fault) is)
 
 -- whatever the refusal of a reading is, a call that tells it tells the fault
-fault_by : {A : Type 0} (e : ReadError Field) (read : Read Field A) (told : Told) → ((e : ReadError Field) → read ≡ Err e → IsFault e told) → IsRefusalOf e read → IsFaultOf (told_error e) told
+pub fault_by : {A : Type 0} (e : ReadError Field) (read : Read Field A) (told : Told) → ((e : ReadError Field) → read ≡ Err e → IsFault e told) → IsRefusalOf e read → IsFaultOf (told_error e) told
 fault_by error.Header read told by is = by error.Header is
 fault_by (error.Row number) read told by is = by (error.Row number) is
 fault_by (error.Field number what) read told by is = by (error.Field number what) is
@@ -39,7 +39,7 @@ fault_by error.TooMany read told by is = by error.TooMany is
 fault_by (error.TooLong bytes) read told by is = by (error.TooLong bytes) is
 fault_by error.OutOfMemory read told by is = tt
 
-refusal_is : {A : Type 0} (e : ReadError Field) (read : Read Field A) → read ≡ Err e → IsRefusalOf e read
+pub refusal_is : {A : Type 0} (e : ReadError Field) (read : Read Field A) → read ≡ Err e → IsRefusalOf e read
 refusal_is error.Header read is = is
 refusal_is (error.Row number) read is = is
 refusal_is (error.Field number what) read is = is

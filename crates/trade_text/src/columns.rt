@@ -7,16 +7,31 @@ use crate::fields::{is_word, trimmed};
 use crate::{CashError, CashField, Field, FileField, ReadError, TradeError};
 use csv::ByteRecord;
 
-// How many fields a record has, and where the fields of a trade stand, from 0.
+/// How many fields a record has, and where the fields of a trade stand, from 0.
 #[derive(Clone, Copy)]
-pub(crate) struct TradeColumns {
-    pub(crate) count: usize,
-    pub(crate) time: usize,
-    pub(crate) account: usize,
-    pub(crate) symbol: usize,
-    pub(crate) side: usize,
-    pub(crate) qty: usize,
-    pub(crate) price: usize,
+pub struct TradeColumns {
+    pub count: usize,
+    pub time: usize,
+    pub account: usize,
+    pub symbol: usize,
+    pub side: usize,
+    pub qty: usize,
+    pub price: usize,
+}
+
+impl TradeColumns {
+    /// Those of no header.
+    pub fn none() -> TradeColumns {
+        TradeColumns {
+            count: 0,
+            time: 0,
+            account: 0,
+            symbol: 0,
+            side: 0,
+            qty: 0,
+            price: 0,
+        }
+    }
 }
 
 // How many fields a record has, and where the fields of a cash movement stand, from 0.
@@ -66,9 +81,9 @@ fn place_of<F: FileField>(field: F, header: &ByteRecord) -> Result<usize, ReadEr
     }
 }
 
-// The places of the fields of trades.
+/// The places of the fields of trades, each of which the header names exactly once.
 #[tactic(auto, unfolding(crate::specs::Columns::trade_columns))]
-pub(crate) fn trade_columns(header: &ByteRecord) -> Result<TradeColumns, TradeError>
+pub fn trade_columns(header: &ByteRecord) -> Result<TradeColumns, TradeError>
     ensures { result ≡ trade_columns (fields_of header.now) }
 {
     Ok(TradeColumns {

@@ -20,7 +20,8 @@ const MAX_CENTS: u64 = 100_000_000;
 // The greatest amount, in cents.
 const MAX_AMOUNT: u64 = 10_000_000_000;
 
-const MAX_SYMBOL_BYTES: usize = 32;
+/// The most bytes of a symbol.
+pub const MAX_SYMBOL_BYTES: usize = 32;
 // The most digits that a number may have.
 const MAX_DIGITS: usize = 18;
 

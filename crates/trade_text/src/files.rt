@@ -20,8 +20,8 @@ pub const MAX_INPUT_BYTES: u64 = 16_777_216;
 /// The most trades, and the most trades and cash movements together.
 pub const MAX_INPUTS: usize = 100_000;
 
-// What reads the rows of a kind of file, record by record.
-pub(crate) trait RecordForm<F>: Sized {
+/// What reads the rows of a kind of file, record by record.
+pub trait RecordForm<F>: Sized {
     ghost use Rattle.std.specs.Prelude.{◌≡◌, ℕ, IfOk, List};
     ghost use Rattle.csv.specs.Records.{fields_of};
     ghost use Rattle.trade_text.specs.Refusals.{Reads};
@@ -37,7 +37,7 @@ pub(crate) trait RecordForm<F>: Sized {
     // what holds of each row
     ghost within: { Row → Type 0 };
 
-    // Reads the row of a record of this number.
+    /// Reads the row of a record of this number.
     fn row(&mut self, alloc: Global, rec: u64, fields: &ByteRecord) -> Result<Row, ReadError<F>>
         requires { stands self.old }
         ensures reads { Reads result self.new (row_in rec self.old (fields_of fields.now)) }

@@ -12,12 +12,12 @@ use tuple_edge::OutOfMemory;
 /// The most different symbols.
 pub const MAX_SYMBOLS: usize = 4_096;
 
-// What stands for the symbol of no number.
-const NO_SYMBOL: &[u8] = b"-";
+/// What stands for the symbol of no number.
+pub const NO_SYMBOL: &[u8] = b"-";
 
-// The known symbols, in the order of their numbers.
+/// The known symbols, in the order of their numbers.
 #[derive(Drop)]
-pub(crate) struct Symbols {
+pub struct Symbols {
     names: IndexSet<Vec<u8>>,
 }
 
@@ -35,13 +35,21 @@ impl Model for Symbols {
 }
 
 impl Symbols {
-    // No symbols.
-    pub(crate) fn new(alloc: Global) -> Symbols
+    /// No symbols.
+    pub fn new(alloc: Global) -> Symbols
         ensures { result ≡ [] }
     {
         Symbols {
             names: IndexSet::new(alloc),
         }
+    }
+
+    /// How many are known.
+    pub fn count(&self) -> usize
+        ensures count { result ≡ length self.now }
+        ensures few { result ≤ max_symbols }
+    {
+        self.names.len()
     }
 
     // The number of a symbol that is known, which tells that the text is one.
@@ -75,8 +83,8 @@ impl Symbols {
         Ok(Some(count as u64 + 1))
     }
 
-    // The symbol of a number: `-` where it is that of none.
-    pub(crate) fn name(&self, number: i64) -> &[u8]
+    /// The symbol of a number: `-` where it is that of none.
+    pub fn name(&self, number: i64) -> &[u8]
         ensures symbol { result.now ≡ symbol_at self.now number }
         ensures short { length result.now ≤ max_symbol_bytes }
     {

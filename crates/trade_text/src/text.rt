@@ -1,9 +1,10 @@
 // The text of rows.
 ghost use Rattle.std.specs.Prelude.{◌≡◌, ◌+◌, ◌≤◌, ◌++◌, ◌∷◌, [], IfOk, OnOk, codes, drop, if◌then◌else◌, length};
 ghost use Rattle.std.specs.Fmt.{signed_decimal};
+ghost use Rattle.std.specs.List.{flat_map};
 ghost use Rattle.trade_text.specs.Text.{count_line, part_text, row_line, text};
 
-use crate::Trades;
+use crate::{HasSymbols, Trades};
 use itoa::{Buffer, write_digits};
 use std::alloc::Global;
 use tuple_edge::{OutOfMemory, Row};
@@ -72,31 +73,56 @@ fn write_pair(bytes: &mut [u8], end: usize, first: i64, second: i64) -> usize
 
 // Writes the line of a row so that it ends with the bytes, and says where it starts.
 #[inline(always)]
-fn write_line(bytes: &mut [u8; MAX_LINE_BYTES], trades: &Trades, row: &Row) -> usize
+fn write_line<N: HasSymbols>(bytes: &mut [u8; MAX_LINE_BYTES], names: &N, row: &Row) -> usize
     ensures within { result ≤ 117 }
-    ensures written { drop result bytes.new ≡ row_line trades.now.symbols row.now }
+    ensures written { drop result bytes.new ≡ row_line (N.symbols names.now) row.now }
 {
     let after_value = write_byte(bytes, MAX_LINE_BYTES, b'\n');
     let qty = write_pair(bytes, after_value, row.qty, row.value);
     let after_symbol = write_byte(bytes, qty, b',');
-    let symbol = write_text(bytes, after_symbol, trades.symbol(row.symbol));
+    let symbol = write_text(bytes, after_symbol, names.symbol(row.symbol));
     let after_account = write_byte(bytes, symbol, b',');
     write_pair(bytes, after_account, row.time, row.account)
 }
 
 // Appends the line of a row. It is put together from its end on, and copied as one piece.
 #[inline(always)]
-fn push_row(
+fn push_row<N: HasSymbols>(
     out: &mut Vec<u8>,
     line: &mut [u8; MAX_LINE_BYTES],
-    trades: &Trades,
+    names: &N,
     row: &Row,
 ) -> Result<(), OutOfMemory>
-    ensures { OnOk result (out.new.items ≡ out.old.items ++ row_line trades.now.symbols row.now) }
+    ensures { OnOk result (out.new.items ≡ out.old.items ++ row_line (N.symbols names.now) row.now) }
 {
-    let start = write_line(line, trades, row);
+    let start = write_line(line, names, row);
     out.extend_from_slice(&line[start..])?;
     Ok(())
+}
+
+// Appends the lines of rows.
+fn push_rows<N: HasSymbols>(out: &mut Vec<u8>, rows: &[Row], names: &N) -> Result<(), OutOfMemory>
+    ensures { OnOk result (out.new.items ≡ out.old.items ++ flat_map (row_line (N.symbols names.now)) rows.now) }
+{
+    let mut line = [0; MAX_LINE_BYTES];
+    for row in rows {
+        push_row(out, &mut line, names, row)?;
+    }
+    Ok(())
+}
+
+/// A line for each row, with its symbol by the name that is had for it.
+pub fn write_lines<N: HasSymbols>(
+    alloc: Global,
+    rows: &[Row],
+    names: &N,
+) -> Result<Vec<u8>, OutOfMemory>
+    ensures { IfOk result (λ bytes. bytes.items ≡ flat_map (row_line (N.symbols names.now)) rows.now) }
+{
+    let mut out = Vec::new(alloc);
+    out.reserve(rows.len().saturating_mul(MAX_LINE_BYTES))?;
+    push_rows(&mut out, rows, names)?;
+    Ok(out)
 }
 
 // Appends the last line.
@@ -123,10 +149,7 @@ pub fn write_output(
     let mut out = Vec::new(alloc);
     out.reserve(rows.len().saturating_add(2).saturating_mul(MAX_LINE_BYTES))?;
     out.extend_from_slice(HEADER)?;
-    let mut line = [0; MAX_LINE_BYTES];
-    for row in rows {
-        push_row(&mut out, &mut line, trades, row)?;
-    }
+    push_rows(&mut out, rows, trades)?;
     if !whole {
         return Ok(out);
     }

@@ -16,11 +16,11 @@ use csv::ByteRecord;
 use std::alloc::Global;
 use tuple_edge::Row;
 
-// Where the fields of trades stand, and the symbols that are known.
+/// Where the fields of trades stand, and the symbols that are known.
 #[derive(Drop)]
-pub(crate) struct TradeForm {
-    pub(crate) columns: TradeColumns,
-    pub(crate) symbols: Symbols,
+pub struct TradeForm {
+    pub columns: TradeColumns,
+    pub symbols: Symbols,
 }
 
 // A number as it counts: below zero for a sale.

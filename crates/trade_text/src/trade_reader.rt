@@ -28,8 +28,8 @@ pub struct TradeReader<R: Read + Drop> {
     ghost few: { length form.symbols ≤ max_symbols },
 }
 
-// The refusal of a record, or want of memory, which is none.
-fn refusal(error: TradeError) -> StreamError
+/// The refusal of a record, or want of memory, which is none.
+pub fn refusal(error: TradeError) -> StreamError
     ensures { result ≡ told_error error }
 {
     match error {

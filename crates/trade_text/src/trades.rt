@@ -4,7 +4,7 @@ ghost use Rattle.trade_text.specs.Limits.{max_inputs, max_symbols};
 ghost use Rattle.trade_text.specs.TradesView.{IsInputRow, only_trades};
 ghost use Rattle.tuple_edge.specs.declared.row.Row.{Row};
 
-use crate::symbols::Symbols;
+use crate::{HasSymbols, Symbols};
 use std::alloc::Global;
 use std::marker::Model;
 use tuple_edge::{Input, Row};
@@ -83,6 +83,14 @@ impl Trades {
         ensures short { length result.now ≤ max_symbol_bytes }
     {
         self.symbols.name(number)
+    }
+}
+
+impl HasSymbols for Trades {
+    ghost symbols = { λ trades. trades.symbols };
+
+    fn symbol(&self, number: i64) -> &[u8] {
+        Trades::symbol(self, number)
     }
 }
 
