@@ -4,6 +4,6 @@ pub mod Sides
 pub use Rattle.flux_outside.specs.Outside
 pub use Rattle.pair_machine.specs.Scripts
 pub use Rattle.partition_runner.specs.Job
-pub use Rattle.row_channel.specs.Ends
+pub use Rattle.ordered_channel.specs.Ends
 pub use Rattle.row_wire.specs.Written
 pub use Rattle.trade_text.specs.TradesView

@@ -4,7 +4,7 @@
 //! whatever fails; and that it is all of it, or that the answer says why not: a pair was lost, the wire took not all, or
 //! no memory was to be had. It may never return, and that any row is put before the run ends isn't promised. It stands
 //! on `partition_runner`, which turns the nodes with a tap beside egress, on `drained_run`, which brings what is left to
-//! its end, and on `row_channel` and `row_wire` for what lies between the tap and the wire.
+//! its end, and on `ordered_channel` and `row_wire` for what lies between the tap and the wire.
 #![tactic(auto)]
 
 mod answer;

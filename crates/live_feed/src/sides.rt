@@ -8,7 +8,7 @@ ghost use Rattle.flux_outside.specs.Outside.{Rose};
 ghost use Rattle.flux_outside.specs.Told.{SinkTold};
 ghost use Rattle.pair_machine.specs.Scripts.{IsSafe};
 ghost use Rattle.partition_runner.specs.Job.{AreWorkers, IsJobOf};
-ghost use Rattle.row_channel.specs.Ends.{receives_from, rows_got, rows_sent, sends_to};
+ghost use Rattle.ordered_channel.specs.Ends.{receives_from, sends_to, values_got, values_sent};
 ghost use Rattle.row_wire.specs.Written.{IsWritten, OffersFront, TakesFront};
 ghost use Rattle.std.specs.Prelude.{◌≡◌, ◌≤◌, ◌⊎◌, [], IsTrue, is_some, length, take};
 ghost use Rattle.trade_text.specs.Text.{part_text};
@@ -19,22 +19,25 @@ use crate::end::end_of;
 use crate::tap::{RowTap, SendingTap};
 use drained_run::Ended;
 use failure_script::Script;
+use ordered_channel::{ChannelNames, Receiver, Sender, channel};
 use partition_runner::{FedNames, Gate, Job, Tapped, Unwritten, ready_tapped, run_tapped};
 use plan_reader::Plan;
-use row_channel::{ChannelNames, RowReceiver, RowSender, row_channel};
 use row_wire::{Wire, Written, write_received, write_rest};
 use std::alloc::Global;
 use std::marker::{Brand, PhantomData};
 use std::sync::Wait;
 use std::thread::{Threads, join_mut};
 use trade_text::Trades;
-use tuple_edge::{Drained, OutOfMemory};
+use tuple_edge::{Drained, OutOfMemory, Row};
+
+/// How many rows the channel to the writer holds at most.
+const ROWS: usize = 1_024;
 
 // What the side leaves that runs.
 #[derive(Drop)]
 struct RunSide {
     end: Result<Ended<Unwritten>, OutOfMemory>,
-    sender: RowSender,
+    sender: Sender<Row>,
 }
 
 // Runs what is ready, drains it, and says that no row comes any more.
@@ -46,7 +49,7 @@ fn run_side<N: FedNames, T: SendingTap + Send, R: Threads + Wait + Sync, G: Gate
 ) -> RunSide
     requires job { IsJobOf N.plan N.inputs N.script job.now }
     requires ready { IsTrue (is_some ready.old) }
-    ensures run { HasRun N.plan N.inputs N.script (rows_sent result.sender) result.end }
+    ensures run { HasRun N.plan N.inputs N.script (values_sent result.sender) result.end }
     ensures channel { sends_to result.sender ≡ T.channel }
 {
     let Some(ready) = ready.take() else {
@@ -107,17 +110,18 @@ fn close<N: FedNames, W: Wire>(
     alloc: Global,
     trades: &Trades,
     side: RunSide,
-    receiver: RowReceiver,
+    receiver: Receiver<Row>,
     written: Written,
     out: &mut W,
 ) -> Live
-    requires run { HasRun N.plan N.inputs N.script (rows_sent side.sender) side.end }
+    requires run { HasRun N.plan N.inputs N.script (values_sent side.sender) side.end }
     requires channel { receives_from receiver ≡ sends_to side.sender }
-    ensures { (start : SinkTold) → IsWritten start (W.told out.old) (part_text trades.now.symbols (rows_got receiver)) written
+    ensures { (start : SinkTold) → IsWritten start (W.told out.old) (part_text trades.now.symbols (values_got receiver)) written
         → LivesSo N.plan N.inputs N.script trades.now.symbols start (W.told out.new) result }
 {
-    let RunSide { end, mut sender } = side;
-    let first = sender.settle(receiver);
+    let RunSide { end, sender } = side;
+    let settled = sender.settle(receiver);
+    let first = settled.received();
     match end {
         Ok(ended) => finish::<N, W>(alloc, trades, &ended, first, written, out),
         Err(OutOfMemory) => Live::OutOfMemory,
@@ -131,27 +135,27 @@ fn fork<N: FedNames, T: SendingTap + Send, R: Threads + Wait + Sync, W: Wire + S
     job: &Job<'_, G>,
     ready: &mut Option<Tapped<N, T>>,
     named: &Trades,
-    receiver: &mut RowReceiver,
+    receiver: &mut Receiver<Row>,
     out: &mut W,
 ) -> (RunSide, Written)
     requires job { IsJobOf N.plan N.inputs N.script job.now }
     requires ready { IsTrue (is_some ready.old) }
-    requires got { rows_got receiver.old ≡ [] }
-    ensures run { HasRun N.plan N.inputs N.script (rows_sent result.0.sender) result.0.end }
+    requires got { values_got receiver.old ≡ [] }
+    ensures run { HasRun N.plan N.inputs N.script (values_sent result.0.sender) result.0.end }
     ensures sends { sends_to result.0.sender ≡ T.channel }
     ensures receives { receives_from receiver.new ≡ receives_from receiver.old }
-    ensures written { IsWritten (W.told out.old) (W.told out.new) (part_text named.now.symbols (rows_got receiver.new)) result.1 }
+    ensures written { IsWritten (W.told out.old) (W.told out.new) (part_text named.now.symbols (values_got receiver.new)) result.1 }
 {
     // Each side has an allocator of its own to borrow.
     let for_writing = alloc;
     let mut write = || -> Written
-        requires { rows_got receiver.now ≡ [] }
-        ensures { IsWritten (W.told out.entry.now) (W.told out.exit.now) (part_text named.entry.now.symbols (rows_got receiver.exit.now)) result
+        requires { values_got receiver.now ≡ [] }
+        ensures { IsWritten (W.told out.entry.now) (W.told out.exit.now) (part_text named.entry.now.symbols (values_got receiver.exit.now)) result
             × (receives_from receiver.exit.now ≡ receives_from receiver.entry.now) }
     { write_received(rt, for_writing, named, receiver, out) };
     let mut run = || -> RunSide
         requires { IsJobOf N.plan N.inputs N.script job.now × IsTrue (is_some ready.now) }
-        ensures { HasRun N.plan N.inputs N.script (rows_sent result.sender) result.end × (sends_to result.sender ≡ T.channel) }
+        ensures { HasRun N.plan N.inputs N.script (values_sent result.sender) result.end × (sends_to result.sender ≡ T.channel) }
     { run_side(rt, alloc, job, ready) };
     // The one that waits for the other has the new thread: where none can be made it comes last, and finds what was sent.
     let (written, side) = join_mut(rt, &mut write, &mut run);
@@ -164,12 +168,12 @@ fn live_ready<N: FedNames, T: SendingTap + Send, R: Threads + Wait + Sync, W: Wi
     alloc: Global,
     job: &Job<'_, G>,
     ready: Tapped<N, T>,
-    receiver: RowReceiver,
+    receiver: Receiver<Row>,
     out: &mut W,
 ) -> Live
     requires job { IsJobOf N.plan N.inputs N.script job.now }
     requires receives { receives_from receiver ≡ T.channel }
-    requires got { rows_got receiver ≡ [] }
+    requires got { values_got receiver ≡ [] }
     ensures { LivesSo N.plan N.inputs N.script job.now.trades.now.symbols (W.told out.old) (W.told out.new) result }
 {
     let mut ready = Some(ready);
@@ -180,19 +184,19 @@ fn live_ready<N: FedNames, T: SendingTap + Send, R: Threads + Wait + Sync, W: Wi
 
 // Runs a plan on one side and writes on the other, over the two ends of a channel.
 #[tactic(auto, using(crate::proofs::Texts::lives_unstarted))]
-fn live_over<N: FedNames, C: ChannelNames, R: Threads + Wait + Sync, W: Wire + Send, G: Gate>(
+fn live_over<N: FedNames, C: ChannelNames<Row>, R: Threads + Wait + Sync, W: Wire + Send, G: Gate>(
     rt: &R,
     alloc: Global,
     job: &Job<'_, G>,
-    sender: RowSender,
-    receiver: RowReceiver,
+    sender: Sender<Row>,
+    receiver: Receiver<Row>,
     out: &mut W,
 ) -> Live
     requires job { IsJobOf N.plan N.inputs N.script job.now }
     requires sends { sends_to sender ≡ C.channel }
     requires receives { receives_from receiver ≡ C.channel }
-    requires sent { rows_sent sender ≡ [] }
-    requires got { rows_got receiver ≡ [] }
+    requires sent { values_sent sender ≡ [] }
+    requires got { values_got receiver ≡ [] }
     ensures { LivesSo N.plan N.inputs N.script job.now.trades.now.symbols (W.told out.old) (W.told out.new) result }
 {
     let tap: RowTap<'_, R, C> = RowTap {
@@ -224,7 +228,7 @@ fn live_named<N: FedNames, R: Threads + Wait + Sync, W: Wire + Send, G: Gate>(
     requires job { IsJobOf N.plan N.inputs N.script job.now }
     ensures { LivesSo N.plan N.inputs N.script job.now.trades.now.symbols (W.told out.old) (W.told out.new) result }
 {
-    let Ok((sender, receiver)) = row_channel(alloc) else {
+    let Ok((sender, receiver)) = channel(alloc, ROWS) else {
         return Live::OutOfMemory;
     };
     live_over::<N, Brand, R, W, G>(rt, alloc, job, sender, receiver, out)

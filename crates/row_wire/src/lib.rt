@@ -1,7 +1,7 @@
 //! Rows written as a text onto a wire: while they come out of a channel, and then to the text's end.
 //!
 //! It promises that what is put is the text of the rows in order, each once: all of it, or a front of it where a put
-//! failed or no memory was to be had, after which nothing more is put. It stands on `row_channel` for the rows that
+//! failed or no memory was to be had, after which nothing more is put. It stands on `ordered_channel` for the rows that
 //! come, and on `trade_text` for their lines.
 #![tactic(auto)]
 

@@ -1,6 +1,6 @@
 // Rows are written: those that come out of a channel, and then those that didn't.
 ghost use Rattle.flux_outside.specs.Told.{SinkTold};
-ghost use Rattle.row_channel.specs.Ends.{receives_from, rows_got};
+ghost use Rattle.ordered_channel.specs.Ends.{receives_from, values_got};
 ghost use Rattle.row_wire.specs.Lines.{lines_of};
 ghost use Rattle.row_wire.specs.Written.{AreLines, IsWritten, WritesOn};
 ghost use Rattle.row_wire.specs.declared.written.Written.TheVariants.{Whole};
@@ -9,7 +9,7 @@ ghost use Rattle.trade_text.specs.Text.{count_line, part_text, text};
 
 use crate::wire::{Broken, Wire, put_all};
 use crate::written::Written;
-use row_channel::RowReceiver;
+use ordered_channel::Receiver;
 use std::alloc::Global;
 use std::sync::Wait;
 use trade_text::{Trades, write_output};
@@ -94,12 +94,12 @@ fn write_next<R: Wait, W: Wire>(
     rt: &R,
     alloc: Global,
     trades: &Trades,
-    receiver: &mut RowReceiver,
+    receiver: &mut Receiver<Row>,
     wire: &mut W,
     written: &mut Written,
 ) -> bool
-    ensures written { (start : SinkTold) → IsWritten start (W.told wire.old) (part_text trades.now.symbols (rows_got receiver.old)) written.old
-        → IsWritten start (W.told wire.new) (part_text trades.now.symbols (rows_got receiver.new)) written.new }
+    ensures written { (start : SinkTold) → IsWritten start (W.told wire.old) (part_text trades.now.symbols (values_got receiver.old)) written.old
+        → IsWritten start (W.told wire.new) (part_text trades.now.symbols (values_got receiver.new)) written.new }
     ensures channel { receives_from receiver.new ≡ receives_from receiver.old }
 {
     let more = receiver.take(rt);
@@ -114,11 +114,11 @@ pub fn write_received<R: Wait, W: Wire>(
     rt: &R,
     alloc: Global,
     trades: &Trades,
-    receiver: &mut RowReceiver,
+    receiver: &mut Receiver<Row>,
     wire: &mut W,
 ) -> Written
-    requires { rows_got receiver.old ≡ [] }
-    ensures written { IsWritten (W.told wire.old) (W.told wire.new) (part_text trades.now.symbols (rows_got receiver.new)) result }
+    requires { values_got receiver.old ≡ [] }
+    ensures written { IsWritten (W.told wire.old) (W.told wire.new) (part_text trades.now.symbols (values_got receiver.new)) result }
     ensures channel { receives_from receiver.new ≡ receives_from receiver.old }
 {
     let mut written = write_names(wire, alloc, trades);

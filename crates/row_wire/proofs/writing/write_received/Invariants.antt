@@ -1,11 +1,11 @@
 use Rattle.std.proofs.Common.{◌≡◌}
 use Rattle.trade_text.specs.Text.{part_text}
-use Rattle.row_channel.specs.Ends.{receives_from, rows_got}
+use Rattle.ordered_channel.specs.Ends.{receives_from, values_got}
 use Rattle.row_wire.specs.Written.{IsWritten}
 use Rattle.row_wire.proofs.writing.write_received.Given as goal
 
 abbrev pub invariant-loop : goal.invariant-loop
 invariant-loop g l = record {
-  written : IsWritten (g.W.Wire.told l.fn.wire) (g.W.Wire.told l.wire) (part_text l.trades.symbols (rows_got l.receiver)) l.written;
+  written : IsWritten (g.W.Wire.told l.fn.wire) (g.W.Wire.told l.wire) (part_text l.trades.symbols (values_got l.receiver)) l.written;
   channel : receives_from l.receiver ≡ receives_from l.fn.receiver;
 }

@@ -1,0 +1,4 @@
+pub mod Ends
+pub mod Nexts
+pub mod Rule
+pub mod Settling
