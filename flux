@@ -1,12 +1,12 @@
 #!/usr/bin/env bash
-# Runs flux with the words as given, in the caller's folder, and ends with its status; by its other names, flux_live and flux_look, it
-# runs those programs. Where the program isn't built, or was built from other sources, it is proved and built first, crates side by side, and
+# Runs flux with the words as given, in the caller's folder, and ends with its status; by its other names, flux_live, flux_stream and
+# flux_look, it runs those programs. Where the program isn't built, or was built from other sources, it is proved and built first, crates side by side, and
 # standard error tells how far that is; a build that fails ends with status 70. Words that need no program are answered here.
 set -u
 top=${BASH_SOURCE[0]}
 name=flux
 while :; do
-  case ${top##*/} in flux_live | flux_look) name=${top##*/} ;; esac
+  case ${top##*/} in flux_live | flux_stream | flux_look) name=${top##*/} ;; esac
   [[ $top == */* ]] || top=./$top
   [ -L "$top" ] || break
   link=$(readlink "$top")
@@ -17,6 +17,7 @@ top=$(CDPATH='' cd -P -- "${top%/*}/" && pwd)
 case $name in
   flux) main=$top/crates/flux_main ;;
   flux_live) main=$top/crates/live_main ;;
+  flux_stream) main=$top/crates/stream_main ;;
   flux_look) main=$top/crates/look_main ;;
 esac
 program=$main/out/${main##*/}
@@ -31,6 +32,7 @@ MEMORY=4
 # As the program says it; .ci/run compares them.
 usage='flux: usage: eval PLAN TRADES [--cash C] | run PLAN TRADES [options] | replay PLAN TRADES EVENTS [--cash C] | make START COUNT | trial PLAN START COUNT [options] | trio PLAN TRADES EVENTS | move PLAN TRADES MOVES'
 [ "$name" != flux_live ] || usage='flux_live: usage: PLAN TRADES [SCRIPT]'
+[ "$name" != flux_stream ] || usage='flux_stream: usage: PLAN [SCRIPT] [--script S] [--threads N]'
 [ "$name" != flux_look ] || usage='flux_look: usage: check PLAN [TRADES] [--cash C] [--script S] [--all] [--json] | story PLAN TRADES EVENTS [--cash C] [--script S] [--json] | timeline PLAN TRADES EVENTS [--cash C] [--svg | --json] [--only] | rehearse PLAN TRADES SCRIPT [--cash C] [--threads N] [--turns T] [--svg FILE] | why PLAN TRADES N [--cash C] [--all] [--check] | trace PLAN TRADES LINE [--cash C] | sift TRADES --rejects R | sql PLAN'
 
 # What `[options]` of the usage line stands for.
@@ -53,8 +55,9 @@ flux: a parallel stream dataflow over trades that survives failures, and whose e
   flux --version                      writes the version and the commit; so does flux -V
   flux completion bash                writes what bash has to be told so that it completes words
 
-Two more programs go with it: flux_live writes the rows while a run goes on, and flux_look says what a plan
-will do and what a run did: ./flux_live --help, ./flux_look --help.
+Three more programs go with it: flux_live writes the rows while a run goes on, flux_stream reads the trades
+while it does, and flux_look says what a plan will do and what a run did: ./flux_live --help,
+./flux_stream --help, ./flux_look --help.
 
 Try it, in this repository:
 
@@ -242,6 +245,39 @@ for want of memory, and 70 where the program could not be built.
 Try it, in this repository:
 
   ./flux_live examples/failures/large.txt examples/failures/blotter.csv examples/failures/script.txt
+TEXT
+}
+
+help_stream() {
+  cat <<'TEXT'
+flux_stream PLAN [SCRIPT] [--script S] [--threads N]
+
+Reads trades from standard input while they come, runs a plan over them by pairs of replicas on threads, and
+writes its rows while they come out: the column names once the input's header was accepted, each row as soon
+as the output takes it, and the count of rows once the input has ended. No number of trades is too many: it
+keeps the symbols, what the plan's operators keep, and at most 1,024 trades that it has read ahead.
+
+  PLAN          the file with the plan, of at most 65,536 bytes, of version 1
+  SCRIPT        the file with the failure script, of at most 65,536 bytes; without it nothing fails
+  --script S    the same; only one of the two
+  --threads N   how many threads turn the nodes, 1 to 16; 4 without the option. One more reads, and one writes
+
+A name isn't empty and doesn't begin with "-". An option stands anywhere, once, as --threads 2 or as
+--threads=2.
+
+A stage of more than one partition gives a row only once each partition has said how far it is, which it says
+behind so many trades as the plan's mark has. Who wants each row at once writes mark 1 into the plan.
+
+What is written is the first part of the text that flux eval writes of the trades that came and those that
+may still come, whatever happens, each row once and in order. The exit status is 0 where the input ended and
+the whole text was written, 2 for words that have no form, 3 for a file that is refused, or for a record of
+the input, of which the trades before it are written, 4 for a file that can't be read, or for the input, 5
+for an output that took not all, 6 where a pair was lost, 8 for want of memory, and 70 where the program
+could not be built.
+
+Try it, in this repository:
+
+  ./flux_stream examples/first/total.txt <examples/first/blotter.csv
 TEXT
 }
 
@@ -479,13 +515,15 @@ version() {
 answer() { "$1" 2>/dev/null || { echo "$name: cannot write" >&2; exit 5; }; exit 0; }
 stop() { echo "$name: $1" >&2; exit 70; }
 
-# Fills `forms` from the usage line: of each command, by its name, what may stand behind it; `commands` are the names in order. flux_live has
-# no command, and its one form goes by `-`.
+# Whether the program has commands. Of one that has none the one form goes by `-`.
+has_commands() { [ "$name" != flux_live ] && [ "$name" != flux_stream ]; }
+
+# Fills `forms` from the usage line: of each command, by its name, what may stand behind it; `commands` are the names in order.
 declare -A forms
 commands=()
 list_forms() {
   local words word command='' is_open=''
-  [ "$name" != flux_live ] || command=-
+  has_commands || command=-
   read -ra words <<<"${usage#*: usage: }"
   for word in "${words[@]}"; do
     if [ "$word" = '|' ] && [ -z "$is_open" ]; then
@@ -500,7 +538,7 @@ list_forms() {
     fi
   done
 }
-is_command() { [ "$name" != flux_live ] && [ -n "${1-}" ] && [ -n "${forms[$1]+is there}" ]; }
+is_command() { has_commands && [ -n "${1-}" ] && [ -n "${forms[$1]+is there}" ]; }
 
 # Reads the form of a command: `wanted` are the names of its words, of which `least` have to be there; `options` are its options, of which `needed`
 # have to be there; `takes` says what the value of each is, nothing where it has none, and `instead` beside which one it may not stand.
@@ -572,7 +610,7 @@ take_apart() {
   local word option at
   command=- plain=() values=() asks='' fault=''
   list_forms
-  if [ "$name" != flux_live ]; then
+  if has_commands; then
     command=$1
     shift
     is_command "$command" || wrong "\"$command\"" "it is no command" "$(any_of "${commands[@]}")"
@@ -620,16 +658,16 @@ take_apart() {
 # What bash has to be told so that it completes words: source <(./flux completion bash)
 completion() {
   cat <<'TEXT'
-# The words of flux, flux_live and flux_look in bash. Where none of theirs fits, names of files are offered.
+# The words of flux, flux_live, flux_stream and flux_look in bash. Where none of theirs fits, names of files are offered.
 _flux() { mapfile -t COMPREPLY < <("${COMP_WORDS[0]}" --complete "${COMP_WORDS[@]:1:COMP_CWORD}" 2>/dev/null); }
-complete -o default -F _flux flux flux_live flux_look
+complete -o default -F _flux flux flux_live flux_stream flux_look
 TEXT
 }
 # Writes the words that may stand in place of the last one of these, which is begun: commands, or options that aren't there yet.
 offer_words() {
   local last=${*: -1} more="--help"
   take_apart "$@"
-  if [ $# -eq 1 ] && [ "$name" != flux_live ]; then
+  if [ $# -eq 1 ] && has_commands; then
     more="${commands[*]} help --help --version completion"
   elif [[ $last == -* ]]; then
     unset "values[$last]"
@@ -644,6 +682,7 @@ answer_help() {
   case $name in
     flux) answer help ;;
     flux_live) answer help_live ;;
+    flux_stream) answer help_stream ;;
     flux_look) answer help_look ;;
   esac
 }
@@ -880,11 +919,11 @@ case $#,$1 in
   1,--help | 1,-h | 1,help) answer_help ;;
   1,--version | 1,-V) answer version ;;
   2,--help | 2,-h | 2,help) ! is_command "$2" || answer "help_$2" ;;
-  2,completion) [ "$name" = flux_live ] || [ "$2" != bash ] || answer completion ;;
+  2,completion) ! has_commands || [ "$2" != bash ] || answer completion ;;
 esac
 # No file can have such a name.
 if [ -n "$asks" ]; then
-  [ "$name" != flux_live ] || answer help_live
+  has_commands || answer_help
   ! is_command "$command" || answer "help_$command"
 fi
 check_saved

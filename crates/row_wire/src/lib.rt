@@ -10,5 +10,5 @@ mod writing;
 mod written;
 
 pub use wire::{Broken, Wire};
-pub use writing::{write_received, write_rest};
+pub use writing::{put_on, write_count, write_received, write_rest};
 pub use written::Written;

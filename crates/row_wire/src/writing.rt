@@ -18,8 +18,8 @@ use tuple_edge::{OutOfMemory, Row};
 /// How many bytes the line of column names has, with its end.
 const COLUMN_NAMES_BYTES: usize = 30;
 
-// Puts whole lines behind what was written, if that was put whole.
-fn put_on<W: Wire>(wire: &mut W, bytes: &[u8], written: Written) -> Written
+/// Puts whole lines behind what was written, if that was put whole.
+pub fn put_on<W: Wire>(wire: &mut W, bytes: &[u8], written: Written) -> Written
     requires { AreLines bytes.now }
     ensures { WritesOn (W.told wire.old) (W.told wire.new) written bytes.now result }
 {
@@ -76,8 +76,8 @@ fn write_lines<W: Wire>(
     }
 }
 
-// Writes the last line behind what was written, if that was put whole.
-fn write_count<W: Wire>(wire: &mut W, alloc: Global, count: usize, written: Written) -> Written
+/// Writes the last line, of so many rows, behind what was written, if that was put whole.
+pub fn write_count<W: Wire>(wire: &mut W, alloc: Global, count: usize, written: Written) -> Written
     ensures { WritesOn (W.told wire.old) (W.told wire.new) written (count_line count) result }
 {
     match written {

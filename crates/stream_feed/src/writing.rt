@@ -2,7 +2,7 @@
 use crate::naming::Naming;
 use input_ring::StopFlag;
 use ordered_channel::Receiver;
-use row_wire::{Wire, Written, put_lines};
+use row_wire::{Wire, Written, put_on};
 use std::alloc::Global;
 use std::sync::Wait;
 use symbol_names::SymbolNames;
@@ -84,7 +84,7 @@ pub(crate) fn write_rows<W: Wire>(
                 return Written::Short;
             }
             match known.lines(alloc, rows) {
-                Ok(lines) => put_lines(wire, &lines, Written::Whole),
+                Ok(lines) => put_on(wire, &lines, Written::Whole),
                 Err(OutOfMemory) => Written::Short,
             }
         }
@@ -112,7 +112,7 @@ fn write_batch<R: Wait, W: Wire>(
 // Writes the column names, once the header was accepted or no trade will come.
 fn write_names<R: Wait, W: Wire>(rt: &R, side: &mut WriteSide, wire: &mut W) -> Written {
     match side.learn_next(rt) {
-        Ok(_) => put_lines(wire, COLUMN_NAMES, Written::Whole),
+        Ok(_) => put_on(wire, COLUMN_NAMES, Written::Whole),
         Err(OutOfMemory) => Written::Short,
     }
 }

@@ -29,7 +29,7 @@ no_stream_line plan = line_of plan (codes "not of version 1")
 
 -- what is said of words that have no form: the form that there is
 abbrev pub usage_line : List ℕ
-usage_line = codes "flux_stream: usage: PLAN [SCRIPT | --script S] [--threads N]\n"
+usage_line = codes "flux_stream: usage: PLAN [SCRIPT] [--script S] [--threads N]\n"
 
 -- what is said where a text could not be written
 abbrev pub cannot_write_line : List ℕ

@@ -13,7 +13,7 @@ use stream_feed::Gate;
 use stream_reader::StreamReader;
 
 /// What is said of words without a form.
-const USAGE: &str = "flux_stream: usage: PLAN [SCRIPT | --script S] [--threads N]\n";
+const USAGE: &str = "flux_stream: usage: PLAN [SCRIPT] [--script S] [--threads N]\n";
 
 /// What is said where a text could not be written.
 const CANNOT_WRITE: &str = "flux_stream: cannot write\n";
