@@ -112,16 +112,26 @@ pub(crate) fn close<R: Wait, W: Wire>(
     write: (WriteSide, Written),
     out: &mut W,
 ) -> Streamed {
-    let (ReadSide { trades, names, .. }, how) = read;
+    let (
+        ReadSide {
+            mut trades, names, ..
+        },
+        how,
+    ) = read;
+    let RunSide {
+        end,
+        mut source,
+        rows: to,
+    } = run;
     let (WriteSide { rows, names: told, mut known }, written) = write;
     let mut named = names.settle(told);
-    let mut sent = run.rows.settle(rows);
+    let mut sent = to.settle(rows);
     let Ok(()) = learn_rest(rt, &mut known, &mut named) else {
         return Streamed::OutOfMemory;
     };
     let written = write_sent(rt, alloc, &known, &mut sent, out, written);
-    let all = trades.settle(run.source);
-    match run.end {
+    let all = source.settle(&mut trades);
+    match end {
         Ok(ended) => finish(alloc, &known, &ended, sent.received(), how, all, out, written),
         Err(OutOfMemory) => match written {
             Written::Broken => Streamed::WriteFault,

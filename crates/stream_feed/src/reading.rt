@@ -1,7 +1,7 @@
 // The side that reads: it sends on each trade when its record has ended, and the name of each new symbol before it.
 use crate::naming::Naming;
 use byte_source::ByteSource;
-use input_ring::InputSender;
+use input_ring::{InputSender, StopFlag};
 use ordered_channel::Sender;
 use std::alloc::Global;
 use std::sync::Wait;
@@ -125,10 +125,11 @@ pub(crate) fn read_side<R: Wait + Clock, B: ByteSource + Drop>(
     alloc: Global,
     reader: &mut StreamReader<B>,
     side: &mut ReadSide,
+    stop: &StopFlag,
 ) -> ReadEnd {
     let end = read_all(rt, alloc, reader, side);
     match end {
-        ReadEnd::Stopped | ReadEnd::Faulty(StreamError::OutOfMemory) => side.trades.stop(),
+        ReadEnd::Stopped | ReadEnd::Faulty(StreamError::OutOfMemory) => stop.stop(),
         ReadEnd::Ended | ReadEnd::Faulty(_) => side.trades.close(),
     }
     side.names.stop(rt);

@@ -2,7 +2,7 @@
 use crate::gate::Resting;
 use crate::tap::SendingTap;
 use failure_script::Script;
-use input_ring::{InputSource, StopFlag};
+use input_ring::{InputSource, NamedSource, RingNames, StopFlag};
 use ordered_channel::Sender;
 use partition_runner::Gate;
 use plan_reader::Plan;
@@ -24,8 +24,8 @@ pub(crate) struct StreamJob<'a, G: Gate> {
 
 /// What a run takes its inputs from, and gives its rows to.
 #[derive(Drop)]
-pub(crate) struct RunEnds<T: SendingTap> {
-    pub(crate) source: InputSource,
+pub(crate) struct RunEnds<N: RingNames, T: SendingTap> {
+    pub(crate) source: NamedSource<N>,
     pub(crate) tap: T,
 }
 
@@ -38,11 +38,16 @@ pub(crate) struct RunSide {
 }
 
 /// Runs the plan over what comes, drains it, has the reader stop, and says that no row comes any more.
-pub(crate) fn run_side<T: SendingTap + Send, R: Threads + Wait + Sync + Clock, G: Gate>(
+pub(crate) fn run_side<
+    N: RingNames,
+    T: SendingTap + Send,
+    R: Threads + Wait + Sync + Clock,
+    G: Gate,
+>(
     rt: &R,
     alloc: Global,
     job: &StreamJob<'_, G>,
-    ends: &mut Option<RunEnds<T>>,
+    ends: &mut Option<RunEnds<N, T>>,
     stop: &StopFlag,
 ) -> RunSide {
     let Some(RunEnds { source, tap }) = ends.take() else {
@@ -63,5 +68,9 @@ pub(crate) fn run_side<T: SendingTap + Send, R: Threads + Wait + Sync + Clock, G
     stop.stop();
     let mut rows = tap.into_sender();
     rows.stop(rt);
-    RunSide { end, source, rows }
+    RunSide {
+        end,
+        source: source.into_source(),
+        rows,
+    }
 }

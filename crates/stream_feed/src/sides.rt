@@ -8,7 +8,7 @@ use crate::tap::{SendingTap, SendsRows};
 use crate::writing::{WriteSide, write_side};
 use byte_source::ByteSource;
 use failure_script::Script;
-use input_ring::{StopFlag, input_ring};
+use input_ring::{RingNames, StopFlag, input_ring};
 use ordered_channel::{ChannelNames, Receiver, Sender, channel};
 use partition_runner::Gate;
 use plan_reader::Plan;
@@ -31,6 +31,7 @@ const NAMINGS: usize = 4_200;
 
 // Runs on one side, and writes on the other what is sent.
 fn run_and_write<
+    N: RingNames,
     T: SendingTap + Send,
     R: Threads + Wait + Sync + Clock,
     W: Wire + Send,
@@ -39,7 +40,7 @@ fn run_and_write<
     rt: &R,
     alloc: Global,
     job: &StreamJob<'_, G>,
-    ends: &mut Option<RunEnds<T>>,
+    ends: &mut Option<RunEnds<N, T>>,
     side: &mut WriteSide,
     stop: &StopFlag,
     out: &mut W,
@@ -55,6 +56,7 @@ fn run_and_write<
 
 // Reads on one side, and runs and writes on the other.
 fn fork<
+    N: RingNames,
     T: SendingTap + Send,
     R: Threads + Wait + Sync + Clock,
     B: ByteSource + Send + Drop,
@@ -64,7 +66,7 @@ fn fork<
     rt: &R,
     alloc: Global,
     job: &StreamJob<'_, G>,
-    ends: &mut Option<RunEnds<T>>,
+    ends: &mut Option<RunEnds<N, T>>,
     reader: &mut StreamReader<B>,
     reads: &mut ReadSide,
     writes: &mut WriteSide,
@@ -72,7 +74,7 @@ fn fork<
     out: &mut W,
 ) -> (ReadEnd, RunSide, Written) {
     let for_reading = alloc;
-    let mut read = || -> ReadEnd { read_side(rt, for_reading, reader, reads) };
+    let mut read = || -> ReadEnd { read_side(rt, for_reading, reader, reads, stop) };
     let mut others =
         || -> (RunSide, Written) { run_and_write(rt, alloc, job, ends, writes, stop, out) };
     // Where no thread can be made, those come last that wait for the reader.
@@ -82,6 +84,7 @@ fn fork<
 
 // The same over channels that are made first.
 fn stream_over<
+    N: RingNames,
     C: ChannelNames<Row>,
     R: Threads + Wait + Sync + Clock,
     B: ByteSource + Send + Drop,
@@ -99,13 +102,18 @@ fn stream_over<
     let Ok((trades, source)) = input_ring(alloc) else {
         return Streamed::OutOfMemory;
     };
-    let stop = trades.stop_flag();
+    let Ok(stop) = trades.stop_flag() else {
+        return Streamed::OutOfMemory;
+    };
     let tap: SendsRows<'_, R, C> = SendsRows {
         rt,
         sender: rows.0,
         channel: PhantomData,
     };
-    let mut ends = Some(RunEnds { source, tap });
+    let mut ends = Some(RunEnds {
+        source: source.named::<N>(),
+        tap,
+    });
     let mut reads = ReadSide {
         trades,
         names: names.0,
@@ -160,5 +168,5 @@ pub fn stream<
         threads,
         gate,
     };
-    stream_over::<Brand, R, B, W, G>(rt, alloc, &job, reader, rows, names, out)
+    stream_over::<Brand, Brand, R, B, W, G>(rt, alloc, &job, reader, rows, names, out)
 }
