@@ -1,7 +1,7 @@
 // A run of nodes that are linked: the fork, and what its histories come to.
 ghost use Rattle.claim_board.specs.Board.{AllHoldNone, AreAll, opening_of};
 ghost use Rattle.linked_run.specs.Linked.{AreDistinct, AreLinked, ids_of};
-ghost use Rattle.linked_run.specs.Runs.{AllAdmit, AreSettled, FitTheirTaps, IsRun, TapOfSome, any_tapped, parts_in, taps_of};
+ghost use Rattle.linked_run.specs.Runs.{AllAdmit, AreSettled, FitTheirTaps, IsRun, TapOfSome, any_tapped, ids_in, parts_in, taps_of};
 ghost use Rattle.node_tasks.specs.Timely.{AreTimely};
 ghost use Rattle.pair_machine.specs.Lists.{Each};
 ghost use Rattle.plan_reader.specs.PlanView.{IsPlan};
@@ -31,6 +31,7 @@ fn into_parts<N: RunNames, A: Acts, K: Keeps, M: Links, T: Draws>(
     requires settled { AreSettled A.id nodes.items nodes.items }
     ensures run { (inputs : List Input) → AllAdmit A.admits inputs (parts_in K.kept result.0.items) → AreTimely inputs
         → IsRun A.id A.stands N.plan inputs N.script (ids_of (map (name_of A.id) nodes.items)) (parts_in K.kept result.0.items) }
+    ensures ids { ids_in A.id (parts_in K.kept result.0.items) ≡ ids_of (map (name_of A.id) nodes.items) }
     ensures tap { TapOfSome T.given A.rows result.1 (parts_in K.kept result.0.items) }
     ensures named { Each (λ p. (K.kept p.history).node ≡ A.id p.state) result.0.items }
     ensures tapped { is_some result.1 ≡ any_tapped (map (name_of A.id) nodes.items) }
@@ -77,6 +78,7 @@ pub fn run_linked<
     requires linked { AreLinked (map (name_of A.id) (opening_of board)) (map (name_of A.id) (opening_of board)) }
     ensures run { (inputs : List Input) → AllAdmit A.admits inputs (parts_in K.kept result.0.items) → AreTimely inputs
         → IsRun A.id A.stands N.plan inputs N.script (ids_of (map (name_of A.id) (opening_of board))) (parts_in K.kept result.0.items) }
+    ensures ids { ids_in A.id (parts_in K.kept result.0.items) ≡ ids_of (map (name_of A.id) (opening_of board)) }
     ensures tap { TapOfSome T.given A.rows result.1 (parts_in K.kept result.0.items) }
     ensures named { Each (λ p. (K.kept p.history).node ≡ A.id p.state) result.0.items }
     ensures tapped { is_some result.1 ≡ any_tapped (map (name_of A.id) (opening_of board)) }

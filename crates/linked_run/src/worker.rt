@@ -13,7 +13,6 @@ use run_node::{Draws, Links, Node, RunNames};
 use std::hint::spin_loop;
 use std::sync::atomic::AtomicBool;
 use std::sync::atomic::Ordering::SeqCst;
-use std::thread::yield_now;
 
 // What came of a turn.
 enum Turned {
@@ -21,7 +20,7 @@ enum Turned {
     Did,
     // The place was taken, or the node did nothing.
     Idle,
-    // The run is over: egress is done, or there was no memory.
+    // The run is over: a node says so, or there was no memory.
     Over,
 }
 
@@ -93,8 +92,8 @@ fn look<N: RunNames, A: Acts + Send, K: Keeps + Send, M: Links, T: Draws + Send>
 }
 
 /// The turns of one worker: in turn number k it tries the place of its own number and k. It ends after
-/// its turns, or where the halt word is set. Once it found nothing to do at any place it gives its processor
-/// back after each idle turn, since another thread may have to run before there is.
+/// its turns, or where the halt word is set. Once it found nothing to do at any place it rests after each
+/// idle turn, since another thread may have to run before there is.
 pub(crate) fn work<
     N: RunNames,
     A: Acts + Send,
@@ -125,7 +124,7 @@ pub(crate) fn work<
             Turned::Idle => {
                 counts.idle = counts.idle.saturating_add(1);
                 if counts.idle >= nodes as u64 {
-                    yield_now();
+                    shared.gate.rest();
                 }
                 if look(board, seat, counts.idle) {
                     return;

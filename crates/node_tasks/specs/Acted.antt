@@ -1,5 +1,5 @@
 -- What came of a task at a node.
-use Rattle.std.specs.Prelude.{◌≡◌, ◌≤◌, [], List, Result, Ok, OnErr, length}
+use Rattle.std.specs.Prelude.{◌≡◌, ◌≤◌, ◌↔◌, [], List, Result, Ok, OnErr, length}
 use mathlib.Core.List.{IsPrefix}
 use Rattle.tuple_edge.specs.Input.{Input}
 use Rattle.tuple_edge.specs.Limits.{most_packets}
@@ -33,5 +33,5 @@ pub record HasActed {A : Type 0} (id_of : A → NodeId) (is_of_plan : PlanView �
   pub of_plan : (plan : PlanView) → is_of_plan plan old → is_of_plan plan new
   pub rows : IsPrefix (rows_of old) (rows_of new)
   pub gone : gone_of new ≡ gone_of old
-  -- what came to it stays
-  pub inputs : (inputs : List Input) → admits new inputs → admits old inputs
+  -- what came to it stays, and no more came
+  pub inputs : (inputs : List Input) → admits new inputs ↔ admits old inputs

@@ -53,7 +53,8 @@ pub trait Acts: Send + Drop {
     /// The first of these rows: those that it handed on, and holds no longer.
     ghost gone: { Self → List Row };
 
-    /// It is egress, and has merged its end.
+    /// The run is over at it: it is egress and has merged its end, or it tells that a pair is lost without which the run is not
+    /// to go on.
     ghost done: { Self → Bool };
 
     /// It is ingress, and each of its edges holds fewer items than this plan says.
@@ -105,7 +106,7 @@ pub trait Acts: Send + Drop {
         // It fails only where there is no memory for the first one. Then it stands for the same numbers, and nothing is sent.
         ensures unsent { OnErr result (out.new.packets ≡ []) }
         ensures unchanged { OnErr result ((plan : PlanView) (inputs : List Input) (x : Node) → stands plan inputs self.old x → stands plan inputs self.new x) }
-        ensures inputs { (inputs : List Input) → admits self.new inputs → admits self.old inputs }
+        ensures inputs { (inputs : List Input) → admits self.new inputs ↔ admits self.old inputs }
         // It stays the same node of the same plans, and the rows that it emitted stay.
         ensures id { id self.new ≡ id self.old }
         ensures of_plan { (plan : PlanView) → of_plan plan self.old → of_plan plan self.new }
@@ -120,7 +121,7 @@ pub trait Acts: Send + Drop {
         ensures most { IfOk result (λ count. count ≤ most) }
         // It fails only where there is no memory for the first one. Then it stands for the same numbers.
         ensures unchanged { OnErr result ((plan : PlanView) (inputs : List Input) (x : Node) → stands plan inputs self.old x → stands plan inputs self.new x) }
-        ensures inputs { (inputs : List Input) → admits self.new inputs → admits self.old inputs }
+        ensures inputs { (inputs : List Input) → admits self.new inputs ↔ admits self.old inputs }
         // It stays the same node of the same plans, and the rows that it emitted stay.
         ensures id { id self.new ≡ id self.old }
         ensures of_plan { (plan : PlanView) → of_plan plan self.old → of_plan plan self.new }
@@ -142,6 +143,17 @@ pub trait Acts: Send + Drop {
         ensures rows { rows self.new ≡ rows self.old }
         ensures gone { gone self.new ≡ gone self.old };
 
+    /// Takes inputs that come from outside, while fewer than so many wait to be made. It is no event of the machine.
+    fn refill(&mut self, most: usize) -> Result<(), OutOfMemory>
+        // What may be the inputs now might have been before. It stands for the same numbers, of each list of inputs with which
+        // all that came begins.
+        ensures inputs { (inputs : List Input) → admits self.new inputs → admits self.old inputs }
+        ensures stands { (plan : PlanView) (inputs : List Input) (x : Node) → admits self.new inputs → stands plan inputs self.old x → stands plan inputs self.new x }
+        ensures id { id self.new ≡ id self.old }
+        ensures of_plan { (plan : PlanView) → of_plan plan self.old → of_plan plan self.new }
+        ensures rows { rows self.new ≡ rows self.old }
+        ensures gone { gone self.new ≡ gone self.old };
+
     /// How many items it has merged, where it is a replica that runs.
     fn merged(&self) -> Option<u64>
         ensures merged { IfSome result (λ k. (plan : PlanView) (inputs : List Input) (x : Node) → stands plan inputs self.now x → HasMerged k (replica_in x)) }
@@ -151,7 +163,7 @@ pub trait Acts: Send + Drop {
         ensures runs { IsNone result → is_replica (id self.now) ≡ true → (plan : PlanView) (inputs : List Input) (x : Node)
             → stands plan inputs self.now x → HasMerged 0 (replica_in x) → ⊥ };
 
-    /// Whether egress has merged its end.
+    /// Whether the run is over at it.
     fn is_done(&self) -> bool
         ensures { result ≡ done self.now };
 
@@ -172,7 +184,7 @@ pub trait Acts: Send + Drop {
         ensures rows { rows self.new ≡ rows self.old }
         // It stands for the same numbers, and is the same node of the same plans.
         ensures stands { (plan : PlanView) (inputs : List Input) (x : Node) → stands plan inputs self.old x → stands plan inputs self.new x }
-        ensures inputs { (inputs : List Input) → admits self.new inputs → admits self.old inputs }
+        ensures inputs { (inputs : List Input) → admits self.new inputs ↔ admits self.old inputs }
         ensures id { id self.new ≡ id self.old }
         ensures of_plan { (plan : PlanView) → of_plan plan self.old → of_plan plan self.new };
 }

@@ -9,8 +9,10 @@
 
 mod acts;
 mod limits;
+mod source;
 mod task;
 
 pub use acts::{Acts, Steps};
 pub use limits::{PORTION, PORTION_UNDER_ORDERS};
+pub use source::{Came, Source};
 pub use task::Task;

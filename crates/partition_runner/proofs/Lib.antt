@@ -4,3 +4,4 @@ pub mod Kept
 pub mod Parts
 pub mod TapLaw
 pub mod AllFed
+pub mod Feeds

@@ -3,6 +3,8 @@ pub mod Drafts
 pub mod Ready
 pub mod Parts
 pub mod Job
+pub mod Feeds
+pub mod Streams
 pub use Rattle.claim_board.specs.Board
 pub use Rattle.flux_link.specs.Arrivals
 pub use Rattle.flux_link.specs.LossyInlets

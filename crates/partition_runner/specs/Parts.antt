@@ -1,5 +1,5 @@
 -- What a run leaves of its nodes, as it comes off the board: each with its history.
-use Rattle.std.specs.Prelude.{◌≡◌, List, map}
+use Rattle.std.specs.Prelude.{◌≡◌, ◌+◌, ◌≤◌, ℕ, List, map, vec_capacity, vec_len}
 use Rattle.tuple_edge.specs.declared.event.Stamped.{Stamped}
 use Rattle.tuple_edge.specs.declared.node.NodeId.{NodeId}
 use Rattle.event_log.specs.Views.{LogView}
@@ -23,3 +23,8 @@ named_kept {K = K} kept logs = map (λ (l : K). ((kept l).node, (kept l).entries
 pub record IsLeftOf {K : Type 0} (kept : K → LogView) (parts : List (NodeState × List Stamped)) (left : Left K) : Type 0 where
   pub nodes : left.nodes.items ≡ nodes_in parts
   pub logs : named_kept kept left.logs.items ≡ named_parts parts
+
+-- there is room for so many further nodes with their logs
+pub record HasRoom {K : Type 0} (more : ℕ) (left : Left K) : Type 0 where
+  pub nodes : vec_len left.nodes + more ≤ vec_capacity left.nodes
+  pub logs : vec_len left.logs + more ≤ vec_capacity left.logs

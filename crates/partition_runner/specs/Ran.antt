@@ -49,17 +49,21 @@ module _ (plan : PlanView) (inputs : List Input) (script : List Order) where
     pub within : AreWithin (flow_of plan inputs) script (logged_events log)
     pub stand : AllStand nodes reached
 
-  -- What a run promises of its nodes, and of what happened at each, however that is kept. The nodes are those of the plan in their order, and
-  -- there is one history for each, with rising clocks. No more inputs come to them, and each holds all rows that it emitted. All events in the
-  -- order of their clocks are legal and within the script, and each node stands for its numbers in the state that they reach.
-  pub record IsLegalWith {H : Type 0} (node_in : H → NodeId) (entries_in : H → List Stamped) (nodes : List NodeState) (kept : List H) : Type 0 where
+  -- What a run leaves, and what happened at each of its nodes, however that is kept. The nodes are those of the plan in their order, and there is
+  -- one history for each, with rising clocks. All events in the order of their clocks are legal and within the script, and each node stands for its
+  -- numbers in the state that they reach.
+  pub record IsLegalCourse {H : Type 0} (node_in : H → NodeId) (entries_in : H → List Stamped) (nodes : List NodeState) (kept : List H) : Type 0 where
     pub histories : map node_in kept ≡ nodes_of plan
     pub distinct : AreDistinct (map node_in kept)
     pub rising : Each (λ h. AreRising (entries_in h)) kept
     pub nodes_are : map id_of nodes ≡ nodes_of plan
+    pub joint : (log : List Logged) → IsLog (history_among node_in entries_in kept) log → ReachesNodes nodes log
+
+  -- What a run promises whose inputs came before it began. No more come to its nodes, and each holds all rows that it emitted.
+  pub record IsLegalWith {H : Type 0} (node_in : H → NodeId) (entries_in : H → List Stamped) (nodes : List NodeState) (kept : List H) : Type 0 where
+    pub course : IsLegalCourse node_in entries_in nodes kept
     pub came : Each AllCame nodes
     pub held : Each (λ n. gone_of n ≡ []) nodes
-    pub joint : (log : List Logged) → IsLog (history_among node_in entries_in kept) log → ReachesNodes nodes log
 
   -- what is promised of a run whose histories are logs
   abbrev pub IsLegalLeft : Left LogView → Type 0

@@ -1,62 +1,58 @@
-// A node's own part in a run whose inputs came before it begins.
-ghost use Rattle.plan_nodes.specs.States.{AllCame, IsOfPlan, MayDo, StandsFor, WantsRows, gone_of, has_merged_end, id_of, rows_of};
+// A node's own part in a run.
+ghost use Rattle.plan_nodes.specs.States.{Admits, IsOfPlan, MayDo, StandsFor, WantsRows, gone_of, id_of, rows_of};
 ghost use Rattle.std.specs.Prelude.{◌≡◌};
 
-use crate::names::FedNames;
+use crate::feed::Feed;
 use node_tasks::{Acts, Steps, Task};
 use plan_nodes::NodeState;
 use plan_reader::Plan;
-use std::marker::{Model, PhantomData};
+use std::marker::Model;
 use tuple_edge::{Input, NodeId, OutOfMemory, Outbox, Packet, Row, Worked};
 
-/// A node's own part in a run whose inputs all came before it begins: no others may be the inputs, and no more come.
+/// A node's own part in a run: its state as a node of the plan, and how inputs come to it.
 #[derive(Drop)]
-pub(crate) struct Fed<N: FedNames> {
+pub(crate) struct Fed<F: Feed> {
     state: NodeState,
-    of: PhantomData<N>,
+    feed: F,
 }
 
-impl<N: FedNames> Model for Fed<N> {
-    ghost use Rattle.plan_nodes.specs.States.{AllCame};
+impl<F: Feed> Model for Fed<F> {
     ghost use Rattle.plan_nodes.specs.declared.state.NodeState.{NodeState};
 
     ghost Value = { NodeState };
 
     ghost view = { λ f. f.state };
 
-    ghost invariant = { λ f. AllCame f.state };
+    ghost invariant = { λ f. F.fits f.feed f.state };
 }
 
-impl<N: FedNames> Fed<N> {
-    /// The part of a node to which no more inputs come.
-    pub(crate) fn new(state: NodeState) -> Fed<N>
-        requires { AllCame state }
+impl<F: Feed> Fed<F> {
+    /// The part of a node, and how inputs come to it.
+    pub(crate) fn new(state: NodeState, feed: F) -> Fed<F>
+        requires { F.fits feed state }
         ensures { result ≡ state }
     {
-        Fed {
-            state,
-            of: PhantomData,
-        }
+        Fed { state, feed }
     }
 
-    /// The node's own part.
-    pub(crate) fn into_state(self) -> NodeState
-        ensures state { result ≡ self }
-        ensures came { AllCame result }
+    /// The node, and how inputs came to it.
+    pub(crate) fn into_parts(self) -> (NodeState, F)
+        ensures state { result.0 ≡ self }
+        ensures fits { F.fits result.1 result.0 }
     {
-        let Fed { state, of: _ } = self;
-        state
+        let Fed { state, feed } = self;
+        (state, feed)
     }
 }
 
-impl<N: FedNames> Acts for Fed<N> {
+impl<F: Feed> Acts for Fed<F> {
     ghost id = { λ s. id_of s };
 
     ghost of_plan = { λ plan s. IsOfPlan plan s };
 
     ghost stands = { λ plan inputs s x. StandsFor plan inputs s x };
 
-    ghost admits = { λ s inputs. inputs ≡ N.inputs };
+    ghost admits = { λ s inputs. Admits s inputs };
 
     ghost may = { λ s t. MayDo s t };
 
@@ -64,7 +60,7 @@ impl<N: FedNames> Acts for Fed<N> {
 
     ghost gone = { λ s. gone_of s };
 
-    ghost done = { λ s. has_merged_end s };
+    ghost done = { λ s. F.over s };
 
     ghost wants = { λ plan s. WantsRows plan s };
 
@@ -98,9 +94,14 @@ impl<N: FedNames> Acts for Fed<N> {
         self.state.make(most, plan)
     }
 
+    // Inputs come as the feed has it, and not one by one from whoever turns the node.
     fn feed(&mut self, _input: Input) -> Result<bool, OutOfMemory> {
         let _state = &self.state;
         Ok(false)
+    }
+
+    fn refill(&mut self, most: usize) -> Result<(), OutOfMemory> {
+        self.feed.refill(&mut self.state, most)
     }
 
     fn merged(&self) -> Option<u64> {
@@ -108,7 +109,7 @@ impl<N: FedNames> Acts for Fed<N> {
     }
 
     fn is_done(&self) -> bool {
-        self.state.is_done()
+        F::is_over(&self.state)
     }
 
     fn emitted(&self) -> &[Row] {

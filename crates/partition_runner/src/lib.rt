@@ -11,6 +11,7 @@
 #![tactic(auto)]
 
 mod fed;
+mod feed;
 mod job;
 mod lossy_rings;
 mod making;
@@ -19,13 +20,17 @@ mod ran;
 mod ready;
 mod rings;
 mod runs;
+mod streams;
+mod supply;
 
-pub use job::Job;
+pub use job::{Job, StreamJob};
 pub use linked_run::{FreeGate, Gate};
 pub use lossy_rings::LossyRings;
 pub use names::FedNames;
+pub use node_tasks::{Came, Source};
 pub use ran::{Left, Ran};
 pub use rings::Rings;
-pub use run_node::{Links, NoTap, RunNames, Tap};
+pub use run_node::{Links, NoTap, RowTap, RunNames, Tap};
 pub use runs::{Tapped, ready_tapped, run_logged, run_nodes, run_over, run_tapped, run_unlogged};
+pub use streams::{StreamLeft, Streaming, ready_streamed, run_streamed};
 pub use unwritten::Log as Unwritten;

@@ -1,95 +1,116 @@
 // The nodes of a run are made, with their links.
 ghost use Rattle.pair_machine.specs.Lists.{Each};
 ghost use Rattle.partition_runner.specs.Drafts.{all_unlinked, unlinked};
-ghost use Rattle.partition_runner.specs.Ready.{AreNodesOf, HaveTheirLinks};
+ghost use Rattle.partition_runner.specs.Ready.{AreNodesOf, HaveTheirLinks, IsOpening};
 ghost use Rattle.plan_reader.specs.Nodes.{has_node};
 ghost use Rattle.plan_reader.specs.PlanView.{IsPlan};
 ghost use Rattle.run_node.specs.NodeView.{name_of};
 ghost use Rattle.plan_nodes.specs.NodeOrder.{nodes_before_egress};
 ghost use Rattle.plan_nodes.specs.States.{id_of};
-ghost use Rattle.std.specs.Prelude.{◌≡◌, ◌≤◌, ◌++◌, ◌∷◌, [], true, IfOk, IfSome, IsTrue, OnOk, is_some, map, vec_capacity, vec_len};
-ghost use Rattle.trade_text.specs.TradesView.{inputs_in};
+ghost use Rattle.std.specs.Prelude.{◌≡◌, ◌≢◌, ◌≤◌, ◌++◌, ◌∷◌, [], true, IfOk, IfSome, IsTrue, OnOk, drop, is_some, map, take, vec_capacity, vec_len};
+ghost use Rattle.tuple_edge.specs.declared.node.NodeId.TheVariants as node;
 
 use crate::fed::Fed;
-use crate::names::FedNames;
+use crate::feed::Feed;
 use event_log::Keeps;
 use linked_run::connect_all;
 use node_tasks::Acts;
-use plan_nodes::{nodes_before_egress, opening_state};
+use plan_nodes::{NodeState, nodes_before_egress, streamed_state};
 use plan_reader::Plan;
 use run_node::{Draft, Draws, Links, Node, RunNames};
 use std::alloc::Global;
-use trade_text::Trades;
 use tuple_edge::{NodeId, OutOfMemory};
 
-// Puts a node of the plan as it opens, with no link yet, behind others.
-fn add_draft<N: FedNames, M: Links, T: Draws>(
+// Puts a node as it opens, with no link yet, behind others.
+fn add_draft<N: RunNames, F: Feed, M: Links, T: Draws>(
     alloc: Global,
-    plan: &Plan,
-    trades: &Trades,
-    id: NodeId,
+    state: NodeState,
+    feed: F,
     tap: Option<T>,
-    drafts: &mut Vec<Draft<N, Fed<N>, M, T>>,
+    drafts: &mut Vec<Draft<N, Fed<F>, M, T>>,
 ) -> Result<(), OutOfMemory>
-    requires plan { plan.now ≡ N.plan }
-    requires trades { inputs_in trades.now ≡ N.inputs }
-    requires there { IsTrue (has_node plan.now id) }
+    requires opening { IsOpening N.plan state }
+    requires fits { F.fits feed state }
     requires tap { IfSome tap (λ t. T.given t ≡ []) }
-    ensures { OnOk result (drafts.new.items ≡ drafts.old.items ++ record { id = id; ins = []; outs = []; tapped = is_some tap } ∷ []) }
+    ensures { OnOk result (drafts.new.items ≡ drafts.old.items ++ record { id = id_of state; ins = []; outs = []; tapped = is_some tap } ∷ []) }
 {
-    let state = opening_state(alloc, plan, trades, id)?;
-    drafts.push(Draft::new(alloc, Fed::new(state), tap))?;
+    drafts.push(Draft::new(alloc, Fed::new(state, feed), tap))?;
     Ok(())
 }
 
-// The nodes of these names as they open, none with a link or a tap.
-fn untapped<N: FedNames, M: Links, T: Draws>(
+// The same of a node of the plan to which no inputs come.
+fn add_other<N: RunNames, F: Feed, M: Links, T: Draws>(
     alloc: Global,
     plan: &Plan,
-    trades: &Trades,
-    ids: &[NodeId],
-) -> Result<Vec<Draft<N, Fed<N>, M, T>>, OutOfMemory>
+    id: NodeId,
+    tap: Option<T>,
+    drafts: &mut Vec<Draft<N, Fed<F>, M, T>>,
+) -> Result<(), OutOfMemory>
     requires plan { plan.now ≡ N.plan }
-    requires trades { inputs_in trades.now ≡ N.inputs }
-    requires there { Each (λ n. has_node plan.now n ≡ true) ids.now }
-    ensures { IfOk result (λ drafts. drafts.items ≡ unlinked ids.now) }
+    requires there { IsTrue (has_node plan.now id) }
+    requires other { id ≢ node.Ingress }
+    requires tap { IfSome tap (λ t. T.given t ≡ []) }
+    ensures { OnOk result (drafts.new.items ≡ drafts.old.items ++ record { id = id; ins = []; outs = []; tapped = is_some tap } ∷ []) }
 {
-    let mut drafts = Vec::with_capacity(alloc, ids.len())?;
-    for place in 0..ids.len() {
-        let id = ids[place];
-        add_draft(alloc, plan, trades, id, None, &mut drafts)?;
-    }
-    Ok(drafts)
+    let state = streamed_state(alloc, plan, id)?;
+    add_draft(alloc, state, F::nothing(), tap, drafts)
 }
 
-// The nodes of the plan before egress as they open, in their order, none with a link or a tap.
-fn all_untapped<N: FedNames, M: Links, T: Draws>(
+// The same of all nodes of these names behind the first, which is there already, none with a tap.
+fn add_others<N: RunNames, F: Feed, M: Links, T: Draws>(
     alloc: Global,
     plan: &Plan,
-    trades: &Trades,
-) -> Result<Vec<Draft<N, Fed<N>, M, T>>, OutOfMemory>
+    ids: &[NodeId],
+    drafts: &mut Vec<Draft<N, Fed<F>, M, T>>,
+) -> Result<(), OutOfMemory>
     requires plan { plan.now ≡ N.plan }
-    requires trades { inputs_in trades.now ≡ N.inputs }
+    requires there { Each (λ n. has_node plan.now n ≡ true) ids.now }
+    requires others { Each (λ n. n ≢ node.Ingress) (drop 1 ids.now) }
+    requires first { drafts.old.items ≡ unlinked (take 1 ids.now) }
+    ensures { OnOk result (drafts.new.items ≡ unlinked ids.now) }
+{
+    for place in 1..ids.len() {
+        let id = ids[place];
+        add_other(alloc, plan, id, None, drafts)?;
+    }
+    Ok(())
+}
+
+// The nodes of the plan before egress as they open, in their order, none with a link or a tap, and with this ingress.
+fn before_egress<N: RunNames, F: Feed, M: Links, T: Draws>(
+    alloc: Global,
+    plan: &Plan,
+    ingress: NodeState,
+    feed: F,
+) -> Result<Vec<Draft<N, Fed<F>, M, T>>, OutOfMemory>
+    requires plan { plan.now ≡ N.plan }
+    requires ingress { (id_of ingress ≡ node.Ingress) × IsOpening N.plan ingress }
+    requires fits { F.fits feed ingress }
     ensures { IfOk result (λ drafts. drafts.items ≡ unlinked (nodes_before_egress plan.now)) }
 {
     let ids = nodes_before_egress(alloc, plan)?;
-    untapped(alloc, plan, trades, &ids)
+    let mut drafts = Vec::with_capacity(alloc, ids.len())?;
+    add_draft(alloc, ingress, feed, None, &mut drafts)?;
+    add_others(alloc, plan, &ids, &mut drafts)?;
+    Ok(drafts)
 }
 
 // All nodes of the plan as they open, in their order, with no link yet; egress has the tap.
-fn drafts_of<N: FedNames, M: Links, T: Draws>(
+fn drafts_of<N: RunNames, F: Feed, M: Links, T: Draws>(
     alloc: Global,
     plan: &Plan,
-    trades: &Trades,
+    ingress: NodeState,
+    feed: F,
     tap: T,
-) -> Result<Vec<Draft<N, Fed<N>, M, T>>, OutOfMemory>
+) -> Result<Vec<Draft<N, Fed<F>, M, T>>, OutOfMemory>
     requires plan { plan.now ≡ N.plan }
-    requires trades { inputs_in trades.now ≡ N.inputs }
+    requires ingress { (id_of ingress ≡ node.Ingress) × IsOpening N.plan ingress }
+    requires fits { F.fits feed ingress }
     requires tap { T.given tap ≡ [] }
     ensures { IfOk result (λ drafts. drafts.items ≡ all_unlinked plan.now) }
 {
-    let mut drafts = all_untapped(alloc, plan, trades)?;
-    add_draft(alloc, plan, trades, NodeId::Egress, Some(tap), &mut drafts)?;
+    let mut drafts = before_egress(alloc, plan, ingress, feed)?;
+    add_other(alloc, plan, NodeId::Egress, Some(tap), &mut drafts)?;
     Ok(drafts)
 }
 
@@ -126,20 +147,22 @@ fn finish_all<N: RunNames, A: Acts, K: Keeps, M: Links, T: Draws>(
     }
 }
 
-/// All nodes of the plan as they open, in their order, with their links; egress has the tap.
-pub(crate) fn make_nodes<N: FedNames, K: Keeps, M: Links, T: Draws>(
+/// All nodes of the plan as they open, in their order, with their links: this ingress, and as inputs come to it; egress has the tap.
+pub(crate) fn make_nodes<N: RunNames, F: Feed, K: Keeps, M: Links, T: Draws>(
     alloc: Global,
     plan: &Plan,
-    trades: &Trades,
+    ingress: NodeState,
+    feed: F,
     tap: T,
     links: &mut M,
-) -> Result<Vec<Node<N, Fed<N>, K, M, T>>, OutOfMemory>
+) -> Result<Vec<Node<N, Fed<F>, K, M, T>>, OutOfMemory>
     requires plan { plan.now ≡ N.plan }
-    requires trades { inputs_in trades.now ≡ N.inputs }
+    requires ingress { (id_of ingress ≡ node.Ingress) × IsOpening N.plan ingress }
+    requires fits { F.fits feed ingress }
     requires tap { T.given tap ≡ [] }
     ensures { IfOk result (λ nodes. AreNodesOf plan.now (map (name_of id_of) nodes.items)) }
 {
-    let mut drafts = drafts_of(alloc, plan, trades, tap)?;
+    let mut drafts = drafts_of(alloc, plan, ingress, feed, tap)?;
     connect_all(alloc, plan, &mut drafts, links)?;
     finished(alloc, plan, drafts)
 }

@@ -1,11 +1,13 @@
 // Runs: over rings, over any links, and with a tap beside egress; with written histories, and with unwritten ones.
 ghost use mathlib.Core.List.{IsPrefix};
+ghost use Rattle.node_tasks.specs.Timely.{AreTimely};
 ghost use Rattle.pair_machine.specs.Output.{output};
 ghost use Rattle.partition_runner.specs.Job.{AreWorkers, IsJobOf};
 ghost use Rattle.partition_runner.specs.Ran.{IsLegalKept, IsLegalLeft, IsLegalRun, emitted_in};
-ghost use Rattle.std.specs.Prelude.{◌≡◌, [], IfOk, MatchResult, false};
+ghost use Rattle.std.specs.Prelude.{◌≡◌, ◌<◌, [], IfOk, MatchResult, false};
 ghost use Rattle.trade_text.specs.TradesView.{inputs_in};
 
+use crate::feed::{Beforehand, Feed};
 use crate::job::Job;
 use crate::names::FedNames;
 use crate::ran::{Left, Ran};
@@ -14,19 +16,48 @@ use crate::rings::Rings;
 use event_log::{Keeps, Log};
 use failure_script::Script;
 use linked_run::Gate;
+use plan_nodes::opening_state;
 use plan_reader::Plan;
 use run_node::{Draws, Links, NoTap, Offers, Tap};
 use std::alloc::Global;
 use std::marker::Brand;
 use std::thread::Threads;
 use trade_text::Trades;
-use tuple_edge::OutOfMemory;
+use tuple_edge::{NodeId, OutOfMemory};
 use unwritten::Log as Unwritten;
 
 /// A run that is ready, over rings, with a tap beside egress.
 #[derive(Drop)]
 pub struct Tapped<N: FedNames, T: Tap> {
-    ready: Ready<N, Unwritten, Rings, Offers<T>>,
+    ready: Ready<N, Beforehand<N>, Unwritten, Rings, Offers<T>>,
+}
+
+// Makes what all nodes of a run need whose inputs are those of trades, all of which come to ingress beforehand.
+fn ready_with<N: FedNames, K: Keeps + Send, M: Links, T: Draws + Send>(
+    alloc: Global,
+    plan: &Plan,
+    trades: &Trades,
+    threads: u32,
+    links: &mut M,
+    tap: T,
+) -> Result<Ready<N, Beforehand<N>, K, M, T>, OutOfMemory>
+    requires plan { plan.now ≡ N.plan }
+    requires trades { inputs_in trades.now ≡ N.inputs }
+    requires threads { 0 < threads }
+    requires tap { T.given tap ≡ [] }
+{
+    let ingress = opening_state(alloc, plan, trades, NodeId::Ingress)?;
+    let feed = Beforehand::nothing();
+    make_ready(alloc, plan, ingress, feed, threads, links, tap)
+}
+
+// The times of the inputs of a run are within the limits.
+fn times_of<N: FedNames>(trades: &Trades)
+    requires { inputs_in trades.now ≡ N.inputs }
+    ensures { AreTimely N.inputs }
+{
+    // This call's clause says so of the trades.
+    let _rows = trades.rows();
 }
 
 /// Makes the nodes of a plan as they open, the rings between them and the board for so many workers, with a
@@ -47,7 +78,7 @@ pub fn ready_tapped<N: FedNames, T: Tap + Send>(
 {
     // Whoever makes it ready says under which script it will run.
     let _orders = script.orders();
-    let ready = make_ready(alloc, plan, trades, threads, &mut Rings, Offers { tap })?;
+    let ready = ready_with(alloc, plan, trades, threads, &mut Rings, Offers { tap })?;
     Ok(Tapped { ready })
 }
 
@@ -55,18 +86,21 @@ pub fn ready_tapped<N: FedNames, T: Tap + Send>(
 fn run_named<N: FedNames, K: Keeps + Send, M: Links, T: Draws + Send, R: Threads + Sync, G: Gate>(
     rt: &R,
     plan: &Plan,
+    trades: &Trades,
     script: &Script,
     turns: u64,
     gate: &G,
     links: &mut M,
-    ready: Ready<N, K, M, T>,
+    ready: Ready<N, Beforehand<N>, K, M, T>,
 ) -> (Result<Left<K>, OutOfMemory>, T)
     requires plan { plan.now ≡ N.plan }
+    requires trades { inputs_in trades.now ≡ N.inputs }
     requires script { script.now ≡ N.script }
     requires holds { T.lets_go ≡ false }
     ensures run { IfOk result.0 (IsLegalKept K.kept N.plan N.inputs N.script) }
     ensures tap { MatchResult result.0 (λ left. IsPrefix (T.given result.1) (emitted_in left.nodes.items)) (λ _. IsPrefix (T.given result.1) (output N.plan N.inputs)) }
 {
+    times_of::<N>(trades);
     let Ended {
         parts,
         room,
@@ -76,8 +110,8 @@ fn run_named<N: FedNames, K: Keeps + Send, M: Links, T: Draws + Send, R: Threads
     if failed {
         return (Err(OutOfMemory), tap);
     }
-    let left = room.filled(parts);
-    (left, tap)
+    let (left, _feed) = room.filled(parts);
+    (Ok(left), tap)
 }
 
 /// Runs what is ready: each worker takes the nodes in turn, until each has done its turns, or egress is done,
@@ -103,10 +137,10 @@ pub fn run_tapped<R: Threads + Sync, G: Gate, N: FedNames, T: Tap + Send>(
     ensures run { IfOk result.0 (IsLegalLeft plan.now (inputs_in trades.now) script.now) }
     ensures tap { MatchResult result.0 (λ left. IsPrefix (T.given result.1) (emitted_in left.nodes.items)) (λ _. IsPrefix (T.given result.1) (output plan.now (inputs_in trades.now))) }
 {
-    // The trades are those of the names that it was made ready under.
-    let _rows = trades.rows();
     let Tapped { ready } = ready;
-    let (left, Offers { tap }) = run_named(rt, plan, script, turns, gate, &mut Rings, ready);
+    let (left, Offers { tap }) = run_named(
+        rt, plan, trades, script, turns, gate, &mut Rings, ready,
+    );
     (left, tap)
 }
 
@@ -121,7 +155,7 @@ fn run_with<N: FedNames, K: Keeps + Send, R: Threads + Sync, M: Links, G: Gate>(
     ensures { IfOk result (IsLegalKept K.kept N.plan N.inputs N.script) }
 {
     let tap = Offers { tap: NoTap };
-    let ready: Ready<N, K, M, Offers<NoTap>> = make_ready(
+    let ready: Ready<N, Beforehand<N>, K, M, Offers<NoTap>> = ready_with(
         alloc,
         job.plan,
         job.trades,
@@ -129,7 +163,9 @@ fn run_with<N: FedNames, K: Keeps + Send, R: Threads + Sync, M: Links, G: Gate>(
         links,
         tap,
     )?;
-    let (left, _tap) = run_named(rt, job.plan, job.script, job.turns, job.gate, links, ready);
+    let (left, _tap) = run_named(
+        rt, job.plan, job.trades, job.script, job.turns, job.gate, links, ready,
+    );
     left
 }
 

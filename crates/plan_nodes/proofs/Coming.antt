@@ -1,5 +1,5 @@
 -- Which inputs may be those of a run, from what came to its nodes.
-use Rattle.std.proofs.Common.{◌≡◌, ◌∙◌, ◌+◌, ◌++◌, ◌∷◌, Bool, List, [], Result, Ok, Err, true, false, length, length-append, ap, append-nil, arith, refl, subst, sym}
+use Rattle.std.proofs.Common.{◌≡◌, ◌∙◌, ◌+◌, ◌++◌, ◌∷◌, Bool, List, [], Result, Ok, Err, true, false, length, length-append, ap, append-nil, arith, pos, refl, subst, sym}
 use Rattle.std.specs.Prelude.{◌↔◌, IfOk, IsTrue}
 use mathlib.Core.List.{IsPrefix}
 use Rattle.tuple_edge.specs.Input.{Input}
@@ -33,6 +33,31 @@ same_list xs ys (y ∷ more) back on off =
     let longer : length xs + length (y ∷ more) ≡ length ys = sym (length-append xs (y ∷ more)) ∙ ap length on in
     let shorter : length ys + length back ≡ length xs = sym (length-append ys back) ∙ ap length off in
     absurd (omega (arith, longer, shorter))
+
+-- an input
+some_input : Input
+some_input = record { source = 0; row = record { time = pos 0; account = pos 0; symbol = pos 0; qty = pos 0; value = pos 0 } }
+
+-- what came can't be all, and be all with one more
+not_both : (came all : List Input) → came ≡ all → came ≡ all ++ some_input ∷ [] → ⊥
+not_both came all none one =
+    let few : length came ≡ length all = ap length none in
+    let more : length came ≡ length all + 1 = ap length one ∙ length-append all (some_input ∷ []) in
+    omega (arith, few, more)
+
+-- where the same may be the inputs, the same came, and it was said as well that they are all
+same_came : (was is : Bool) (old new : List Input) → ((inputs : List Input) → AreCome is new inputs ↔ AreCome was old inputs) → (is ≡ was) × (new ≡ old)
+same_came true true old new both = (refl, (both old).1 refl)
+same_came true false old new both = absurd (not_both old new ((both new).0 ([], append-nil new)) ((both (new ++ some_input ∷ [])).0 (some_input ∷ [], refl)))
+same_came false true old new both = absurd (not_both new old ((both old).1 ([], append-nil old)) ((both (old ++ some_input ∷ [])).1 (some_input ∷ [], refl)))
+same_came false false old new both =
+    let on : IsPrefix old new = (both new).0 ([], append-nil new) in
+    let off : IsPrefix new old = (both old).1 ([], append-nil old) in
+    (refl, same_list new old off.0 on.0 off.1 on.1)
+
+-- so what came to a node is the same where the same may be its inputs
+pub still_here : (old new : NodeState) → ((inputs : List Input) → Admits new inputs ↔ Admits old inputs) → (has_ended new ≡ has_ended old) × (inputs_in new ≡ inputs_in old)
+still_here old new both = same_came (has_ended old) (has_ended new) (inputs_in old) (inputs_in new) both
 
 -- where more may come, an input that came stands behind those before it
 pub one_more : (old new : IngressView) (input : Input) → old.ended ≡ false → new ≡ fed old input → (before : List Input) → HaveCome Admits (state.Ingress old) before

@@ -1,5 +1,5 @@
 -- A node's own part, of any of the four kinds: its name, the plans that it is of, the numbers that it stands for, and what it may do.
-use Rattle.std.specs.Prelude.{◌≡◌, ◌≤◌, ◌<◌, ◌-◌, ℕ, Bool, true, false, List, [], ◌++◌, Option, None, Some, Result, Ok, Err, OnErr, length, replicate}
+use Rattle.std.specs.Prelude.{◌≡◌, ◌≤◌, ◌<◌, ◌-◌, ◌&&◌, ℕ, Bool, true, false, List, [], ◌++◌, Option, None, Some, Result, Ok, Err, OnErr, length, replicate}
 use Rattle.tuple_edge.specs.Input.{Input}
 use Rattle.tuple_edge.specs.declared.event.Worked.{Worked}
 use Rattle.tuple_edge.specs.declared.event.Worked.TheVariants.{Did}
@@ -13,6 +13,7 @@ use Rattle.tuple_edge.specs.declared.memory.OutOfMemory.{OutOfMemory}
 use Rattle.merge_order.specs.MergeView.{item_of, least}
 use Rattle.flux_producer.specs.ProducerView.{ProducerView, buffer_at}
 use Rattle.plan_reader.specs.PlanView.{IsPlan, PlanView}
+use Rattle.pair_machine.specs.Controllers.{is_down}
 use Rattle.pair_machine.specs.Counts.{flow_of}
 use Rattle.pair_machine.specs.Machine.{does}
 use Rattle.pair_machine.specs.Messages.{Act, AsksBack, AsksStop, Dies, Makes, NoMoreRows, NotRunning, NothingDue, Refusal, Works}
@@ -21,7 +22,7 @@ use Rattle.pair_machine.specs.Receivers.{appended}
 use Rattle.ingress_egress.specs.EgressStands as egress
 use Rattle.ingress_egress.specs.EgressView.{EgressView, MayWork}
 use Rattle.ingress_egress.specs.IngressStands as ingress
-use Rattle.ingress_egress.specs.IngressView.{IngressView, contents_in as ingress_contents, producer_at}
+use Rattle.ingress_egress.specs.IngressView.{IngressView, contents_in as ingress_contents, ended_at as ingress_ended, producer_at}
 use Rattle.pair_control.specs.Admitted as control_admitted
 use Rattle.pair_control.specs.ControllerView.{ControllerView}
 use Rattle.pair_control.specs.StandsFor as control
@@ -94,6 +95,13 @@ has_ended (state.Egress e) = false
 abbrev pub Admits : NodeState → List Input → Type 0
 Admits s inputs = ingress.AreCome (has_ended s) (inputs_in s) inputs
 
+-- it, where no more inputs come
+abbrev pub ended_at : NodeState → NodeState
+ended_at (state.Ingress i) = state.Ingress (ingress_ended i)
+ended_at (state.Replica r) = state.Replica r
+ended_at (state.Control c) = state.Control c
+ended_at (state.Egress e) = state.Egress e
+
 -- it, with the room of its edges left aside
 abbrev pub contents_of : NodeState → NodeState
 contents_of (state.Ingress i) = state.Ingress (ingress_contents i)
@@ -107,6 +115,13 @@ has_merged_end (state.Ingress i) = false
 has_merged_end (state.Replica r) = false
 has_merged_end (state.Control c) = false
 has_merged_end (state.Egress e) = e.done
+
+-- whether it tells that its pair is lost for good: a controller does, once it holds both replicas down, since no partner is left of which either could be brought back
+abbrev pub tells_loss : NodeState → Bool
+tells_loss (state.Ingress i) = false
+tells_loss (state.Replica r) = false
+tells_loss (state.Control c) = is_down c.a.status && is_down c.b.status
+tells_loss (state.Egress e) = false
 
 -- each edge of a producer holds fewer items than this
 abbrev pub HoldsFew : ℕ → ProducerView → Type 0

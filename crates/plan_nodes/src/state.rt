@@ -4,7 +4,7 @@ ghost use Rattle.pair_machine.specs.Numbers.{Node};
 ghost use Rattle.pair_machine.specs.Scripts.{HasMerged};
 ghost use Rattle.plan_reader.specs.PlanView.{PlanView};
 ghost use Rattle.replica_node.specs.StandsFor as replica;
-ghost use Rattle.plan_nodes.specs.States.{Admits, HasActedBehind, IsIdle, IsOfPlan, MayDo, StandsFor, WantsRows, gone_of, has_merged_end, id_of, rows_of};
+ghost use Rattle.plan_nodes.specs.States.{Admits, HasActedBehind, IsIdle, IsOfPlan, MayDo, StandsFor, WantsRows, ended_at, gone_of, has_merged_end, id_of, rows_of, tells_loss};
 ghost use Rattle.tuple_edge.specs.Limits.{most_packets};
 ghost use Rattle.std.specs.Prelude.{◌≡◌, ◌≤◌, ◌+◌, IfSome, IsNone, List, Ok};
 ghost use Rattle.tuple_edge.specs.Input.{Input};
@@ -18,7 +18,9 @@ use node_tasks::{Acts, Steps, Task};
 use pair_control::PairControl;
 use plan_reader::Plan;
 use replica_node::{Mode, Replica};
-use tuple_edge::{Input, MOST_PACKETS, NodeId, OutOfMemory, Outbox, Packet, Row, Worked};
+use tuple_edge::{
+    Input, MOST_PACKETS, NodeId, OutOfMemory, Outbox, Packet, Row, Status, Which, Worked,
+};
 
 /// A node's own part: what it is, without its links and its history.
 #[derive(Drop)]
@@ -53,6 +55,32 @@ impl NodeState {
             NodeState::Replica(node) => replica_acts(node, task, rise, out),
             NodeState::Control(node) => control_acts(node, task, out),
             NodeState::Egress(node) => egress_acts(node, task, out),
+        }
+    }
+
+    /// No more inputs come to it: of ingress, those that came are all. It is no event of the machine.
+    pub fn end(&mut self)
+        ensures ended { self.new ≡ ended_at self.old }
+        ensures inputs { (inputs : List Input) → Admits self.new inputs → Admits self.old inputs }
+        // It stands for the same numbers, of each list of inputs that may be theirs now.
+        ensures stands { (plan : PlanView) (inputs : List Input) (x : Node) → Admits self.new inputs → StandsFor plan inputs self.old x → StandsFor plan inputs self.new x }
+        ensures of_plan { (plan : PlanView) → IsOfPlan plan self.old → IsOfPlan plan self.new }
+    {
+        match self {
+            NodeState::Ingress(node) => node.end(),
+            NodeState::Replica(_) | NodeState::Control(_) | NodeState::Egress(_) => {}
+        }
+    }
+
+    /// Whether it tells that its pair is lost for good: a controller does, once it holds both replicas down.
+    pub fn tells_loss(&self) -> bool
+        ensures { result ≡ tells_loss self.now }
+    {
+        match self {
+            NodeState::Control(node) => {
+                node.status(Which::A) == Status::Down && node.status(Which::B) == Status::Down
+            }
+            NodeState::Ingress(_) | NodeState::Replica(_) | NodeState::Egress(_) => false,
         }
     }
 }
@@ -138,6 +166,10 @@ impl Acts for NodeState {
             NodeState::Ingress(node) => ingress_feeds(node, input),
             NodeState::Replica(_) | NodeState::Control(_) | NodeState::Egress(_) => Ok(false),
         }
+    }
+
+    fn refill(&mut self, _most: usize) -> Result<(), OutOfMemory> {
+        Ok(())
     }
 
     fn merged(&self) -> Option<u64> {

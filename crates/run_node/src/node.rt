@@ -313,6 +313,15 @@ impl<N: RunNames, A: Acts, K: Keeps, M: Links, T: Draws> Node<N, A, K, M, T> {
         self.state.feed(input)
     }
 
+    // Takes inputs that come from outside, if it is ingress, while fewer than so many wait there. It is no event.
+    pub(crate) fn refill(&mut self, most: usize) -> Result<(), OutOfMemory>
+        ensures same { self.new ≡ record self.old { state = self.new.state } }
+        ensures name { name_of A.id self.new ≡ name_of A.id self.old }
+        ensures inputs { (inputs : List Input) → A.admits self.new.state inputs → A.admits self.old.state inputs }
+    {
+        self.state.refill(most)
+    }
+
     // Has its tap, if it has one, give on of the rows that it emitted. It is no event.
     pub(crate) fn offer(&mut self)
         ensures { name_of A.id self.new ≡ name_of A.id self.old }

@@ -14,8 +14,8 @@ use plan_reader::Plan;
 use tuple_edge::OutOfMemory;
 
 impl<N: RunNames, A: Acts, K: Keeps, M: Links, T: Draws> Node<N, A, K, M, T> {
-    /// One turn: it pushes what it can, obeys the script's orders that are due, takes packets, makes rows and does
-    /// work. Marks are reported where one of them rose enough, and where the turn came to nothing else. Then, also where
+    /// One turn: it pushes what it can, obeys the script's orders that are due, takes packets and inputs that come, makes rows and
+    /// does work. Marks are reported where one of them rose enough, and where the turn came to nothing else. Then, also where
     /// memory is wanting, it offers its tap the rows that it emitted. Whether it did anything.
     pub fn turn(&mut self, plan: &Plan, script: &Script) -> Result<bool, OutOfMemory>
         requires { script.now ≡ N.script }
@@ -28,7 +28,7 @@ impl<N: RunNames, A: Acts, K: Keeps, M: Links, T: Draws> Node<N, A, K, M, T> {
         result
     }
 
-    /// Whether egress has merged its end.
+    /// Whether the run is over at it.
     pub fn is_done(&self) -> bool
         ensures { result ≡ A.done self.now.state }
     {
@@ -43,6 +43,7 @@ impl<N: RunNames, A: Acts, K: Keeps, M: Links, T: Draws> Node<N, A, K, M, T> {
     {
         let fired = self.fire(script)?;
         let took = self.take(portion)? > 0;
+        self.refill(portion as usize)?;
         let made = self.make_some(portion, plan)?;
         let did = self.work_some(portion, script)?;
         if fired || took || made || did {

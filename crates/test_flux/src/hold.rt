@@ -1,5 +1,6 @@
 // A gate that may hold up a worker of a run.
 use drained_run::Gate;
+use std::thread::yield_now;
 use test_kit::Latch;
 
 /// Where it holds, it holds up the first turn of worker 0 until a turn of worker 1 was seen, or after very many looks.
@@ -35,5 +36,9 @@ impl Gate for Hold {
         if worker == 0 && number == 0 {
             self.other.wait();
         }
+    }
+
+    fn rest(&self) {
+        yield_now();
     }
 }

@@ -9,7 +9,7 @@ use std::sync::Wait;
 use std::sync::atomic::AtomicU64;
 use std::sync::atomic::Ordering::SeqCst;
 use std::test::Fail;
-use std::thread::Threads;
+use std::thread::{Threads, yield_now};
 use test_kit::{Latch, ONE, THREE};
 
 // What a wire and a gate tell each other.
@@ -79,6 +79,10 @@ impl<'a> Gate for Holds<'a> {
         if worker == 0 && number == self.hold {
             self.seen.row.wait();
         }
+    }
+
+    fn rest(&self) {
+        yield_now();
     }
 }
 

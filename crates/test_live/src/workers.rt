@@ -10,7 +10,7 @@ use std::sync::Wait;
 use std::sync::atomic::AtomicU64;
 use std::sync::atomic::Ordering::SeqCst;
 use std::test::Fail;
-use std::thread::Threads;
+use std::thread::{Threads, yield_now};
 use test_kit::{Latch, ONE};
 use trade_maker::make_trades;
 use tuple_edge::OutOfMemory;
@@ -66,6 +66,10 @@ impl Gate for Workers {
         if self.waits && worker == 0 && number == 0 {
             self.row.wait();
         }
+    }
+
+    fn rest(&self) {
+        yield_now();
     }
 }
 

@@ -4,7 +4,7 @@ use crate::fixture::{THREE_TRADES, goes_well, run};
 use partition_runner::{Gate, Rings};
 use std::alloc::Global;
 use std::test::Fail;
-use std::thread::Threads;
+use std::thread::{Threads, yield_now};
 use test_kit::{Latch, ONE, Story, told};
 use tuple_edge::OutOfMemory;
 
@@ -22,6 +22,10 @@ impl Gate for HoldsFirst {
         if worker == 0 && number == 0 {
             self.other.wait();
         }
+    }
+
+    fn rest(&self) {
+        yield_now();
     }
 }
 

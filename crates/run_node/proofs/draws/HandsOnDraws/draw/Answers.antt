@@ -23,7 +23,7 @@ loop-next-preserved g c =
       next = c.first-next-in-Some.ensures;
       rows = went.rows ∙ so_far.rows;
       stands = λ plan inputs x h. went.stands plan inputs x (so_far.stands plan inputs x h);
-      inputs = λ inputs h. so_far.inputs inputs (went.inputs inputs h);
+      inputs = λ inputs h. so_far.inputs inputs ((went.inputs inputs).0 h);
       id = went.id ∙ so_far.id;
       of_plan = λ plan h. went.of_plan plan (so_far.of_plan plan h);
     }

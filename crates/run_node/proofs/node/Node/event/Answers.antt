@@ -35,7 +35,7 @@ invariant_of-self-2 g c =
       unsent = c.send_event.ensures.unsent;
       gave = tap_later g.T.Draws.lets_go g.T.Draws.given g.A.Acts.rows g.A.Acts.gone n.tap n.state c.act.new.self c.act.ensures.rows c.act.ensures.gone c.self.invariant.gave;
       sound = λ inputs may timely.
-          let s = c.self.invariant.sound inputs (c.act.ensures.inputs inputs may) timely in
+          let s = c.self.invariant.sound inputs ((c.act.ensures.inputs inputs).0 may) timely in
           let allowed = subst (λ (v : NodeView _ _). (x : Node) → g.A.Acts.stands g.N.RunNames.plan inputs v.state x → IsAllowedAt g.N.RunNames.script (event_of (g.A.Acts.id v.state) c.args.task.now) x) (sym c.self.view_is) (c.requires.allowed inputs) in
           let sound = sound_after g.A.Acts.id g.A.Acts.of_plan g.A.Acts.stands g.N.RunNames.plan inputs g.N.RunNames.script n.state (links_in n.ins.items) n.outs.links n.clock n.fired (g.K.Keeps.kept n.history).entries s
           c.args.task.now c.act.new.self packets c_new (λ arrived fit. untaken arrived c.args.task.now c.requires.untaken) later after small fresh c.act.ensures.id (c.act.ensures.of_plan g.N.RunNames.plan s.named)
@@ -66,7 +66,7 @@ invariant_of-self-in_err-act g c =
       unsent = c.in_err-act.ensures.unsent;
       gave = tap_later g.T.Draws.lets_go g.T.Draws.given g.A.Acts.rows g.A.Acts.gone n.tap n.state c.act.new.self c.act.ensures.rows c.act.ensures.gone c.self.invariant.gave;
       sound = λ inputs may timely.
-          let s = c.self.invariant.sound inputs (c.act.ensures.inputs inputs may) timely in
+          let s = c.self.invariant.sound inputs ((c.act.ensures.inputs inputs).0 may) timely in
           let sound = s in
           let still = sound_still g.A.Acts.id g.A.Acts.of_plan g.A.Acts.stands g.N.RunNames.plan inputs g.N.RunNames.script n.state (links_in n.ins.items) n.outs.links n.clock n.fired (g.K.Keeps.kept n.history).entries sound
           c.act.new.self c.reserve_event.new.outs.links (g.K.Keeps.kept c.reserve_event.new.history).entries same c.reserve_event.ensures.history c.act.ensures.id (c.act.ensures.of_plan g.N.RunNames.plan sound.named) (λ x h. c.in_err-act.ensures.unchanged g.N.RunNames.plan inputs x h) in
@@ -83,7 +83,7 @@ invariant_of-self-in-Idle g c =
       unsent = idle.1;
       gave = tap_later g.T.Draws.lets_go g.T.Draws.given g.A.Acts.rows g.A.Acts.gone n.tap n.state c.act.new.self c.act.ensures.rows c.act.ensures.gone c.self.invariant.gave;
       sound = λ inputs may timely.
-          let s = c.self.invariant.sound inputs (c.act.ensures.inputs inputs may) timely in
+          let s = c.self.invariant.sound inputs ((c.act.ensures.inputs inputs).0 may) timely in
           let sound = s in
           let still = sound_still g.A.Acts.id g.A.Acts.of_plan g.A.Acts.stands g.N.RunNames.plan inputs g.N.RunNames.script n.state (links_in n.ins.items) n.outs.links n.clock n.fired (g.K.Keeps.kept n.history).entries sound
           c.act.new.self c.reserve_event.new.outs.links (g.K.Keeps.kept c.reserve_event.new.history).entries same c.reserve_event.ensures.history c.act.ensures.id (c.act.ensures.of_plan g.N.RunNames.plan sound.named) (λ x h. subst (λ st. g.A.Acts.stands g.N.RunNames.plan inputs st x) (sym idle.0) h) in

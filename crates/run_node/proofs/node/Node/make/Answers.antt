@@ -20,7 +20,7 @@ invariant_of-self-2 g c =
       unsent = c.self.invariant.unsent;
       gave = tap_later g.T.Draws.lets_go g.T.Draws.given g.A.Acts.rows g.A.Acts.gone n.tap n.state c.make.new.self c.make.ensures.rows c.make.ensures.gone c.self.invariant.gave;
       sound = λ inputs may timely.
-          let s = c.self.invariant.sound inputs (c.make.ensures.inputs inputs may) timely in
+          let s = c.self.invariant.sound inputs ((c.make.ensures.inputs inputs).0 may) timely in
           let sound = sound_after_makes g.A.Acts.id g.A.Acts.of_plan g.A.Acts.stands g.N.RunNames.plan inputs g.N.RunNames.script (links_in n.ins.items) n.fired
           (g.A.Acts.wants c.args.plan.now) count n.state c.make.new.self n.outs.links n.clock (g.K.Keeps.kept n.history).entries s small did.steps in
           subst (λ (l : List Stamped). IsSoundNode g.A.Acts.id g.A.Acts.of_plan g.A.Acts.stands g.N.RunNames.plan inputs g.N.RunNames.script c.make.new.self (links_in n.ins.items) n.outs.links (n.clock + count) n.fired l) (sym told) sound;
@@ -35,7 +35,7 @@ invariant_of-self-in_err-times g c =
       unsent = c.self.invariant.unsent;
       gave = tap_later g.T.Draws.lets_go g.T.Draws.given g.A.Acts.rows g.A.Acts.gone n.tap n.state c.make.new.self c.make.ensures.rows c.make.ensures.gone c.self.invariant.gave;
       sound = λ inputs may timely.
-          let s = c.self.invariant.sound inputs (c.make.ensures.inputs inputs may) timely in
+          let s = c.self.invariant.sound inputs ((c.make.ensures.inputs inputs).0 may) timely in
           let sound = s in
           sound_still g.A.Acts.id g.A.Acts.of_plan g.A.Acts.stands g.N.RunNames.plan inputs g.N.RunNames.script n.state (links_in n.ins.items) n.outs.links n.clock n.fired (g.K.Keeps.kept n.history).entries sound
           c.make.new.self n.outs.links (g.K.Keeps.kept c.reserve.new.self).entries refl told c.make.ensures.id (c.make.ensures.of_plan g.N.RunNames.plan sound.named) (λ x h. c.in_err-times.ensures.unchanged g.N.RunNames.plan inputs x h);

@@ -40,7 +40,7 @@ invariant_of-self-2 g c =
       unsent = c.send_event.ensures.unsent;
       gave = tap_later g.T.Draws.lets_go g.T.Draws.given g.A.Acts.rows g.A.Acts.gone n.tap n.state c.take.new.self c.take.ensures.acted.rows c.take.ensures.acted.gone c.self.invariant.gave;
       sound = λ inputs may timely.
-          let s = c.self.invariant.sound inputs (c.take.ensures.acted.inputs inputs may) timely in
+          let s = c.self.invariant.sound inputs ((c.take.ensures.acted.inputs inputs).0 may) timely in
           let named = s.named in
           let got = sound_received g.A.Acts.id g.A.Acts.of_plan g.A.Acts.stands g.N.RunNames.plan inputs g.N.RunNames.script n.state first n.outs.links n.clock n.fired (g.K.Keeps.kept n.history).entries s
           third (λ arrived fit. fit_before k first third arrived come fit) in
@@ -58,7 +58,7 @@ invariant_of-self-in_err-take g c =
       unsent = c.in_err-take.ensures.acted.unsent;
       gave = tap_later g.T.Draws.lets_go g.T.Draws.given g.A.Acts.rows g.A.Acts.gone n.tap n.state c.take.new.self c.take.ensures.acted.rows c.take.ensures.acted.gone c.self.invariant.gave;
       sound = λ inputs may timely.
-          let s = c.self.invariant.sound inputs (c.take.ensures.acted.inputs inputs may) timely in
+          let s = c.self.invariant.sound inputs ((c.take.ensures.acted.inputs inputs).0 may) timely in
           let sound = s in
           let still = sound_still g.A.Acts.id g.A.Acts.of_plan g.A.Acts.stands g.N.RunNames.plan inputs g.N.RunNames.script n.state (links_in n.ins.items) n.outs.links n.clock n.fired (g.K.Keeps.kept n.history).entries sound
           c.take.new.self c.reserve_event.new.outs.links (g.K.Keeps.kept c.reserve_event.new.history).entries c.reserve_event.ensures.links c.reserve_event.ensures.history c.take.ensures.acted.id (c.take.ensures.acted.of_plan g.N.RunNames.plan sound.named) (λ x h. c.in_err-take.ensures.acted.unchanged g.N.RunNames.plan inputs x h) in
@@ -74,7 +74,7 @@ invariant_of-self-in-Idle g c =
       unsent = idle.1;
       gave = tap_later g.T.Draws.lets_go g.T.Draws.given g.A.Acts.rows g.A.Acts.gone n.tap n.state c.take.new.self c.take.ensures.acted.rows c.take.ensures.acted.gone c.self.invariant.gave;
       sound = λ inputs may timely.
-          let s = c.self.invariant.sound inputs (c.take.ensures.acted.inputs inputs may) timely in
+          let s = c.self.invariant.sound inputs ((c.take.ensures.acted.inputs inputs).0 may) timely in
           let sound = s in
           let still = sound_still g.A.Acts.id g.A.Acts.of_plan g.A.Acts.stands g.N.RunNames.plan inputs g.N.RunNames.script n.state (links_in n.ins.items) n.outs.links n.clock n.fired (g.K.Keeps.kept n.history).entries sound
           c.take.new.self c.reserve_event.new.outs.links (g.K.Keeps.kept c.reserve_event.new.history).entries c.reserve_event.ensures.links c.reserve_event.ensures.history c.take.ensures.acted.id (c.take.ensures.acted.of_plan g.N.RunNames.plan sound.named) (λ x h. subst (λ st. g.A.Acts.stands g.N.RunNames.plan inputs st x) (sym idle.0) h) in

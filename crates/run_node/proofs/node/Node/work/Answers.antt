@@ -30,7 +30,7 @@ invariant_of-self-2 g c =
       unsent = c.send_steps.ensures.emptied;
       gave = tap_later g.T.Draws.lets_go g.T.Draws.given g.A.Acts.rows g.A.Acts.gone n.tap n.state c.work.new.self c.work.ensures.rows c.work.ensures.gone c.self.invariant.gave;
       sound = λ inputs may timely.
-          let s = c.self.invariant.sound inputs (c.work.ensures.inputs inputs may) timely in
+          let s = c.self.invariant.sound inputs ((c.work.ensures.inputs inputs).0 may) timely in
           let sound = sound_after_steps g.A.Acts.id g.A.Acts.of_plan g.A.Acts.stands g.N.RunNames.plan inputs g.N.RunNames.script (links_in n.ins.items) n.fired task.Work work_is_own sends n.state c.work.new.self n.outs.links n.clock (g.K.Keeps.kept n.history).entries s small did.steps in
           let counted = subst (λ k. IsSoundNode g.A.Acts.id g.A.Acts.of_plan g.A.Acts.stands g.N.RunNames.plan inputs g.N.RunNames.script c.work.new.self (links_in n.ins.items) (with_steps_sent n.clock sends n.outs.links) (n.clock + k) n.fired ((g.K.Keeps.kept n.history).entries ++ works_after (g.A.Acts.id n.state) n.clock k)) all sound in
           let at_links = subst (λ (l : List OutLink). IsSoundNode g.A.Acts.id g.A.Acts.of_plan g.A.Acts.stands g.N.RunNames.plan inputs g.N.RunNames.script c.work.new.self (links_in n.ins.items) l (n.clock + count) n.fired ((g.K.Keeps.kept n.history).entries ++ works_after (g.A.Acts.id n.state) n.clock count)) (sym sent) counted in
@@ -57,7 +57,7 @@ invariant_of-self-in_err-steps g c =
       unsent = c.in_err-steps.ensures.unsent;
       gave = tap_later g.T.Draws.lets_go g.T.Draws.given g.A.Acts.rows g.A.Acts.gone n.tap n.state c.work.new.self c.work.ensures.rows c.work.ensures.gone c.self.invariant.gave;
       sound = λ inputs may timely.
-          let s = c.self.invariant.sound inputs (c.work.ensures.inputs inputs may) timely in
+          let s = c.self.invariant.sound inputs ((c.work.ensures.inputs inputs).0 may) timely in
           let sound = s in
           let still = sound_still g.A.Acts.id g.A.Acts.of_plan g.A.Acts.stands g.N.RunNames.plan inputs g.N.RunNames.script n.state (links_in n.ins.items) n.outs.links n.clock n.fired (g.K.Keeps.kept n.history).entries sound
           c.work.new.self c.reserve_event.new.outs.links (g.K.Keeps.kept c.reserve_event.new.history).entries c.reserve_event.ensures.links c.reserve_event.ensures.history c.work.ensures.id (c.work.ensures.of_plan g.N.RunNames.plan sound.named) (λ x h. c.in_err-steps.ensures.unchanged g.N.RunNames.plan inputs x h) in
