@@ -21,10 +21,10 @@ use Rattle.core_drain.specs.Progress.{IsAfter, IsBlock, IsNext, IsNone, IsOver, 
 -- ---- what stays
 
 pub keeps_none : (core : CoreView) → IsCore core → Keeps core core
-keeps_none core is = record { plan = refl; inputs = refl; whole = refl; core = is }
+keeps_none core is = record { plan = refl; inputs = refl; whole = refl; gone = refl; core = is }
 
 pub keeps_on : (a b c : CoreView) → Keeps a b → Keeps b c → Keeps a c
-keeps_on a b c x y = record { plan = y.plan ∙ x.plan; inputs = y.inputs ∙ x.inputs; whole = y.whole ∙ x.whole; core = y.core }
+keeps_on a b c x y = record { plan = y.plan ∙ x.plan; inputs = y.inputs ∙ x.inputs; whole = y.whole ∙ x.whole; gone = y.gone ∙ x.gone; core = y.core }
 
 pub keeps_same : (old now new : CoreView) → new ≡ now → Keeps old now → Keeps old new
 keeps_same old now new same k = subst (Keeps old) (sym same) k

@@ -6,7 +6,7 @@ use Rattle.pair_machine.specs.Flow.{Flow}
 use Rattle.pair_machine.specs.Journal.{TakesNoMessage}
 use Rattle.pair_machine.specs.Machine.{State, step}
 use Rattle.pair_machine.specs.Messages.{NoMoreRows, NotHeld, NotRunning, NotSent, NothingDue, Refusal}
-use Rattle.flux_core.specs.CoreView.{CoreView, flow_in, inputs_of}
+use Rattle.flux_core.specs.CoreView.{CoreView, flow_in, gone_by, inputs_of}
 use Rattle.flux_core.specs.Refusals.{IsRefusal}
 use Rattle.flux_core.specs.Stands.{IsCore, StandsFor}
 use Rattle.flux_core.specs.Steps.{IsApplied}
@@ -46,5 +46,5 @@ next_applied old new before after e result free tells goes a listed = record {
   steps = λ s stands g. ((tells s stands).0 goes, a.steps s stands (inr (free, g)));
 }
 
-pub keeps_by : (old new : CoreView) → new.plan ≡ old.plan → inputs_of new ≡ inputs_of old → new.whole ≡ old.whole → IsCore new → Keeps old new
-keeps_by old new plan inputs whole core = record { plan = plan; inputs = inputs; whole = whole; core = core }
+pub keeps_by : (old new : CoreView) → new.plan ≡ old.plan → inputs_of new ≡ inputs_of old → new.whole ≡ old.whole → gone_by new ≡ gone_by old → IsCore new → Keeps old new
+keeps_by old new plan inputs whole gone core = record { plan = plan; inputs = inputs; whole = whole; gone = gone; core = core }

@@ -14,7 +14,7 @@ use Rattle.pair_machine.specs.Flow.{Flow}
 use Rattle.pair_machine.specs.Legal.{IsLegalFrom}
 use Rattle.pair_machine.specs.Machine.{State, egress_in, ingress_in, new_consumer, replica_in, step}
 use Rattle.pair_machine.specs.Numbers.{Consumer, Partition}
-use Rattle.flux_core.specs.CoreView.{CoreView, flow_in, inputs_of}
+use Rattle.flux_core.specs.CoreView.{CoreView, flow_in, gone_by, inputs_of}
 use Rattle.flux_core.specs.Stands.{IsCore, StandsFor}
 use Rattle.core_drain.specs.Drained.{IsEachServed}
 
@@ -62,6 +62,7 @@ pub record Keeps (old new : CoreView) : Type 0 where
   pub plan : new.plan ≡ old.plan
   pub inputs : inputs_of new ≡ inputs_of old
   pub whole : new.whole ≡ old.whole
+  pub gone : gone_by new ≡ gone_by old
   pub core : IsCore new
 
 -- ---- one event

@@ -11,11 +11,11 @@ ghost use Rattle.std.specs.Prelude.{◌≡◌, ◌≢◌, ◌↔◌, ◌++◌, �
 ghost use Rattle.tuple_edge.specs.declared.event.Event.{Event};
 
 use event_log::EventBlocks;
-use flux_core::{ApplyError, Core};
+use flux_core::{ApplyError, Core, CoreRows};
 use tuple_edge::{Event, NodeId, OutOfMemory};
 
 // Whether the merge of a node is ready.
-fn merges(core: &Core, node: NodeId) -> bool
+fn merges<R: CoreRows>(core: &Core<R>, node: NodeId) -> bool
     requires { IsTrue (has_node core.now.plan node) }
     ensures { (s : State) → StandsFor core.now s → IsTrue result ↔ MergeIsReady (flow_in core.now) node (s.nodes node) }
 {
@@ -32,7 +32,7 @@ fn merges(core: &Core, node: NodeId) -> bool
 }
 
 // Whether an event is one as the drain has them: work only where a merge is ready.
-fn drains(core: &Core, event: &Event) -> bool
+fn drains<R: CoreRows>(core: &Core<R>, event: &Event) -> bool
     requires { IsTrue (names_event core.now.plan event.now) }
     ensures { (s : State) → StandsFor core.now s → IsTrue result ↔ IsDrainEvent (flow_in core.now) s event.now }
 {
@@ -61,7 +61,11 @@ fn refusal(error: ApplyError) -> Result<(), OutOfMemory>
 
 // Applies an event and lists it, where it is one of the drain's and a step; else it says that it isn't. Its
 // room in the list is made first.
-fn apply_next(core: &mut Core, events: &mut EventBlocks, event: Event) -> Result<bool, OutOfMemory>
+fn apply_next<R: CoreRows>(
+    core: &mut Core<R>,
+    events: &mut EventBlocks,
+    event: Event,
+) -> Result<bool, OutOfMemory>
     requires named { IsTrue (names_event core.old.plan event) }
     requires free { TakesNoMessage event }
     ensures tried { IfOk result (λ did. IsTried did core.old core.new events.old.events events.new.events event) }
@@ -86,8 +90,8 @@ fn apply_next(core: &mut Core, events: &mut EventBlocks, event: Event) -> Result
 }
 
 // Applies an event as often as it is a step.
-pub(crate) fn repeat(
-    core: &mut Core,
+pub(crate) fn repeat<R: CoreRows>(
+    core: &mut Core<R>,
     events: &mut EventBlocks,
     event: Event,
 ) -> Result<(), OutOfMemory>

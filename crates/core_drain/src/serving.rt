@@ -9,7 +9,7 @@ ghost use Rattle.plan_reader.specs.Nodes.{has_pair};
 ghost use Rattle.std.specs.Option.{option_map};
 ghost use Rattle.std.specs.Prelude.{◌≡◌, ◌≤◌, ◌+◌, ℕ, IsTrue, length};
 
-use flux_core::Core;
+use flux_core::{Core, CoreRows};
 use replica_node::Mode;
 use tuple_edge::Which;
 
@@ -24,7 +24,7 @@ fn runs(mode: Mode) -> bool
 }
 
 // Whether a replica runs and its controller counts it.
-fn serves(core: &Core, stage: u32, part: u32, which: Which) -> bool
+fn serves<R: CoreRows>(core: &Core<R>, stage: u32, part: u32, which: Which) -> bool
     requires { IsTrue (has_pair core.now.plan stage part) }
     ensures { (s : State) → StandsFor core.now s → result ≡ is_serving (side_of s (partition stage part) which) }
 {
@@ -34,7 +34,7 @@ fn serves(core: &Core, stage: u32, part: u32, which: Which) -> bool
 }
 
 // The drainer of a pair: the first of its replicas that runs and is counted.
-pub(crate) fn drainer(core: &Core, stage: u32, part: u32) -> Which
+pub(crate) fn drainer<R: CoreRows>(core: &Core<R>, stage: u32, part: u32) -> Which
     requires { IsTrue (has_pair core.now.plan stage part) }
     ensures { (s : State) → StandsFor core.now s → result ≡ drainer s (partition stage part) }
 {
@@ -46,7 +46,7 @@ pub(crate) fn drainer(core: &Core, stage: u32, part: u32) -> Which
 }
 
 // Whether neither replica of a pair runs and is counted.
-fn is_lost(core: &Core, stage: u32, part: u32) -> bool
+fn is_lost<R: CoreRows>(core: &Core<R>, stage: u32, part: u32) -> bool
     requires { IsTrue (has_pair core.now.plan stage part) }
     ensures { (s : State) → StandsFor core.now s → result ≡ is_lost s (partition stage part) }
 {
@@ -56,7 +56,7 @@ fn is_lost(core: &Core, stage: u32, part: u32) -> bool
 }
 
 // The partition of the first lost pair of a stage.
-fn first_lost_of(core: &Core, stage: u32) -> Option<u32>
+fn first_lost_of<R: CoreRows>(core: &Core<R>, stage: u32) -> Option<u32>
     requires first { 1 ≤ stage }
     requires last { stage ≤ length core.now.plan.stages }
     ensures { (s : State) → StandsFor core.now s
@@ -72,7 +72,7 @@ fn first_lost_of(core: &Core, stage: u32) -> Option<u32>
 }
 
 /// The stage and the partition of the first lost pair, in the order of the nodes: no replica of it runs and is counted by its controller.
-pub fn first_lost(core: &Core) -> Option<(u32, u32)>
+pub fn first_lost<R: CoreRows>(core: &Core<R>) -> Option<(u32, u32)>
     ensures { (s : State) → StandsFor core.now s
         → option_map (λ (p : ℕ × ℕ). partition p.0 p.1) result ≡ first_lost s (pairs_up_to (flow_in core.now) (flow_in core.now).stages) }
 {

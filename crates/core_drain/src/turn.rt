@@ -8,12 +8,12 @@ ghost use Rattle.tuple_edge.specs.declared.node.NodeId.TheVariants as node;
 use crate::next::repeat;
 use crate::serving::drainer;
 use event_log::EventBlocks;
-use flux_core::Core;
+use flux_core::{Core, CoreRows};
 use tuple_edge::{Event, NodeId, OutOfMemory};
 
 // A consumer after stage 1 takes all that is left of each source, from the source's drainer.
-fn pull_from_each(
-    core: &mut Core,
+fn pull_from_each<R: CoreRows>(
+    core: &mut Core<R>,
     events: &mut EventBlocks,
     to: NodeId,
     stage: u32,
@@ -42,8 +42,8 @@ fn pull_from_each(
 }
 
 // A consumer takes all that is left. From ingress that is as long as any of its sources has more.
-fn pull_all(
-    core: &mut Core,
+fn pull_all<R: CoreRows>(
+    core: &mut Core<R>,
     events: &mut EventBlocks,
     to: NodeId,
     stage: u32,
@@ -66,8 +66,8 @@ fn pull_all(
 }
 
 // A consumer takes all that is left, and then merges all that is left.
-fn drain_into(
-    core: &mut Core,
+fn drain_into<R: CoreRows>(
+    core: &mut Core<R>,
     events: &mut EventBlocks,
     to: NodeId,
     stage: u32,
@@ -87,8 +87,8 @@ fn drain_into(
 }
 
 // The drainer of a pair does so.
-fn drain_pair(
-    core: &mut Core,
+fn drain_pair<R: CoreRows>(
+    core: &mut Core<R>,
     events: &mut EventBlocks,
     stage: u32,
     part: u32,
@@ -106,7 +106,11 @@ fn drain_pair(
 }
 
 // Each pair of a stage drains.
-fn drain_stage(core: &mut Core, events: &mut EventBlocks, stage: u32) -> Result<(), OutOfMemory>
+fn drain_stage<R: CoreRows>(
+    core: &mut Core<R>,
+    events: &mut EventBlocks,
+    stage: u32,
+) -> Result<(), OutOfMemory>
     requires first { 1 ≤ stage }
     requires last { stage ≤ length core.old.plan.stages }
     ensures done { OnOk result ((b : Start) → MayBegin b → IsAfter b core.old events.old.events (done_before b stage 0)
@@ -124,7 +128,11 @@ fn drain_stage(core: &mut Core, events: &mut EventBlocks, stage: u32) -> Result<
 }
 
 // All stages do.
-fn drain_stages(core: &mut Core, events: &mut EventBlocks, stages: u32) -> Result<(), OutOfMemory>
+fn drain_stages<R: CoreRows>(
+    core: &mut Core<R>,
+    events: &mut EventBlocks,
+    stages: u32,
+) -> Result<(), OutOfMemory>
     requires all { stages ≡ length core.old.plan.stages }
     ensures done { OnOk result ((b : Start) → MayBegin b → IsAfter b core.old events.old.events (done_before b 1 0)
         → IsAfter b core.new events.new.events (done_before b (stages + 1) 0)) }
@@ -140,7 +148,10 @@ fn drain_stages(core: &mut Core, events: &mut EventBlocks, stages: u32) -> Resul
 }
 
 // Ingress makes all, each pair drains, stage by stage, and then egress does.
-pub(crate) fn drain_all(core: &mut Core, events: &mut EventBlocks) -> Result<(), OutOfMemory>
+pub(crate) fn drain_all<R: CoreRows>(
+    core: &mut Core<R>,
+    events: &mut EventBlocks,
+) -> Result<(), OutOfMemory>
     ensures done { OnOk result ((b : Start) → MayBegin b → IsAfter b core.old events.old.events []
         → IsAfter b core.new events.new.events (drain_events (flow_at b) b.state)) }
     ensures within { OnErr result ((b : Start) → MayBegin b → IsAfter b core.old events.old.events []

@@ -1,5 +1,5 @@
 -- The merged events and the drain of what the threads left are how a run ends.
-use Rattle.std.proofs.Common.{◌≡◌, ◌∙◌, ◌≤◌, ◌++◌, false, List, [], inl, refl, sym, ap, subst}
+use Rattle.std.proofs.Common.{◌≡◌, ◌∙◌, ◌≤◌, ◌++◌, false, List, [], inl, map, refl, sym, ap, subst}
 use Rattle.std.proofs.lemmas.List.{append-nil}
 use Rattle.tuple_edge.specs.Input.{Input}
 use Rattle.tuple_edge.specs.declared.event.Drained.{Drained}
@@ -13,7 +13,7 @@ use Rattle.pair_machine.specs.CountLaws.{output_first}
 use Rattle.pair_machine.specs.Counts.{flow_of}
 use Rattle.pair_machine.specs.Drain.{IsFirstLost, drain, pairs_up_to, partition}
 use Rattle.pair_machine.specs.Legal.{IsLegal}
-use Rattle.pair_machine.specs.Lists.{Among}
+use Rattle.pair_machine.specs.Lists.{Among, Each}
 use Rattle.pair_machine.specs.Machine.{State, egress_in}
 use Rattle.pair_machine.specs.Messages.{Message}
 use Rattle.pair_machine.specs.Numbers.{Node, Partition}
@@ -28,14 +28,14 @@ use Rattle.pair_machine.proofs.Legal.{at_the_end}
 use Rattle.pair_machine.proofs.Lists.{among_last}
 use Rattle.pair_machine.proofs.MachineLaws.{plan_owed, plan_safe}
 use Rattle.ingress_egress.specs.EgressView.{IsFrontOf}
-use Rattle.plan_nodes.specs.States.{AllCame, StandsFor as NodeStands, id_of}
-use Rattle.plan_nodes.specs.NodeOrder.{nodes_before_egress}
+use Rattle.plan_nodes.specs.States.{AllCame, StandsFor as NodeStands, gone_of, id_of}
+use Rattle.plan_nodes.specs.NodeOrder.{nodes_before_egress, nodes_of}
 use Rattle.plan_nodes.specs.declared.state.NodeState.{NodeState}
-use Rattle.flux_core.specs.CoreView.{CoreView, HoldsAll, emitted_by, inputs_at, inputs_of, standing, station}
+use Rattle.flux_core.specs.CoreView.{CoreView, HasItsInputs, emitted_by, gone_by, inputs_at, inputs_of, standing, station}
 use Rattle.flux_core.specs.Opening.{bare_core}
 use Rattle.flux_core.specs.Stands.{IsGiven}
 use Rattle.flux_core.proofs.Contents.{inputs_contents}
-use Rattle.flux_core.proofs.Opened.{all_held}
+use Rattle.flux_core.proofs.Opened.{have_come, none_gone_by}
 use Rattle.core_drain.specs.Drained.{IsDrained, IsDrainedFrom, IsLost, IsWhole}
 use Rattle.drained_run.specs.Ended.{EndsSo, IsLostAt, IsRun, rows_at}
 use Rattle.drained_run.specs.Ended as ended
@@ -114,29 +114,33 @@ module _ (plan : PlanView) (script : List Order) (ran : Ran) (limits : IsPlan pl
   ends drained.Whole h = whole h
   ends (drained.Lost stage part) h = lost (partition stage part) h
 
+-- where nodes handed no row on, egress of a core of them didn't
+pub none_gone : (plan : PlanView) (nodes : List NodeState) → map id_of nodes ≡ nodes_of plan → Each (λ s. gone_of s ≡ []) nodes → gone_by (bare_core plan nodes) ≡ []
+none_gone plan nodes named held = none_gone_by plan false nodes held (subst (Among node.Egress) (sym named) (among_last node.Egress (nodes_before_egress plan)))
+
 -- ---- of the run's own inputs
 
 -- ingress has the inputs of the run
-own_inputs : (plan : PlanView) (inputs : List Input) (script : List Order) (ran : Ran) → IsLegalRan plan inputs script ran → inputs_of (bare_core plan ran.nodes) ≡ inputs
-own_inputs plan inputs script ran run =
+pub own_inputs : (plan : PlanView) (inputs : List Input) (script : List Order) (ran : Ran) → IsLegalRan plan inputs script ran → Each AllCame ran.nodes → inputs_of (bare_core plan ran.nodes) ≡ inputs
+own_inputs plan inputs script ran run came =
     let r = reaches plan inputs script ran run in
     let Stands : NodeState → Type 0 = λ s. NodeStands plan inputs s (r.reached.nodes (id_of s)) in
-    let f = find (λ s. AllCame s × Stands s) node.Ingress ran.nodes (subst (Among node.Ingress) (sym run.nodes_are) (inl refl)) (both AllCame Stands ran.nodes run.came r.stand) in
+    let f = find (λ s. AllCame s × Stands s) node.Ingress ran.nodes (subst (Among node.Ingress) (sym run.nodes_are) (inl refl)) (both AllCame Stands ran.nodes came r.stand) in
     ap (λ o. inputs_at (standing o).content) f.there ∙ (inputs_contents f.one ∙ inputs_stand plan inputs f.one (r.reached.nodes (id_of f.one)) f.named f.holds.0 f.holds.1)
 
-own_run : (plan : PlanView) (inputs : List Input) (script : List Order) (ran : Ran) → IsLegalRan plan inputs script ran → IsLegalRan plan (inputs_of (bare_core plan ran.nodes)) script ran
-own_run plan inputs script ran run = subst (λ (I : List Input). IsLegalRan plan I script ran) (sym (own_inputs plan inputs script ran run)) run
+own_run : (plan : PlanView) (inputs : List Input) (script : List Order) (ran : Ran) → IsLegalRan plan inputs script ran → Each AllCame ran.nodes → IsLegalRan plan (inputs_of (bare_core plan ran.nodes)) script ran
+own_run plan inputs script ran run came = subst (λ (I : List Input). IsLegalRan plan I script ran) (sym (own_inputs plan inputs script ran run came)) run
 
-module _ (plan : PlanView) (inputs : List Input) (script : List Order) (ran : Ran) (limits : IsPlan plan) (run : IsLegalRan plan inputs script ran) where
+module _ (plan : PlanView) (inputs : List Input) (script : List Order) (ran : Ran) (limits : IsPlan plan) (run : IsLegalRan plan inputs script ran) (came : Each AllCame ran.nodes) where
   abbrev bare_nodes : CoreView
   bare_nodes = bare_core plan ran.nodes
 
   pub given : IsGiven bare_nodes
-  given = given_here plan script ran limits (own_run plan inputs script ran run)
+  given = given_here plan script ran limits (own_run plan inputs script ran run came)
 
-  -- no more inputs come to the nodes, and they handed no row on
-  pub all : HoldsAll bare_nodes
-  all = all_held plan false ran.nodes run.came run.held (subst (Among node.Ingress) (sym run.nodes_are) (inl refl)) (subst (Among node.Egress) (sym run.nodes_are) (among_last node.Egress (nodes_before_egress plan)))
+  -- no more inputs come to the nodes
+  pub all_came : HasItsInputs bare_nodes
+  all_came = have_come plan false ran.nodes came (subst (Among node.Ingress) (sym run.nodes_are) (inl refl))
 
   -- where the drain's events were listed apart
   pub run_ends : (old core : CoreView) (before after : List Event) (d : Drained) → old ≡ bare_nodes → before ≡ [] → core.plan ≡ old.plan → inputs_of core ≡ inputs_of old
@@ -145,5 +149,5 @@ module _ (plan : PlanView) (inputs : List Input) (script : List Order) (ran : Ra
       let plan_is : core.plan ≡ plan = same_plan ∙ ap (λ (c : CoreView). c.plan) is in
       let inputs_are : inputs_of core ≡ inputs_of bare_nodes = same_inputs ∙ ap (λ (c : CoreView). inputs_of c) is in
       let drained_so : IsDrained bare_nodes core (events_of ran) (events_of ran ++ after) d = behind bare_nodes core (events_of ran) after d (subst (λ c. IsDrained c core [] after d) is (subst (λ es. IsDrained old core es after d) none h)) in
-      subst (λ (I : List Input). EndsSo plan I script (events_of ran ++ after) (emitted_by core) d) (own_inputs plan inputs script ran run)
-      (ends plan script ran limits (own_run plan inputs script ran run) core (events_of ran ++ after) plan_is inputs_are d drained_so)
+      subst (λ (I : List Input). EndsSo plan I script (events_of ran ++ after) (emitted_by core) d) (own_inputs plan inputs script ran run came)
+      (ends plan script ran limits (own_run plan inputs script ran run came) core (events_of ran ++ after) plan_is inputs_are d drained_so)

@@ -10,14 +10,14 @@ use Rattle.tuple_edge.specs.declared.node.NodeId.TheVariants as node
 use Rattle.tuple_edge.specs.declared.row.Row.{Row}
 use Rattle.plan_reader.specs.PlanView.{IsPlan, PlanView}
 use Rattle.pair_machine.specs.CountLaws.{output_first}
-use Rattle.pair_machine.specs.Lists.{Among}
+use Rattle.pair_machine.specs.Lists.{Among, Each}
 use Rattle.pair_machine.specs.Machine.{egress_in}
 use Rattle.pair_machine.specs.Output.{output}
 use Rattle.pair_machine.specs.declared.order.Order.{Order}
 use Rattle.pair_machine.proofs.CountLaws.{in_order}
 use Rattle.pair_machine.proofs.Lists.{among_last}
 use Rattle.plan_nodes.specs.NodeOrder.{nodes_before_egress}
-use Rattle.plan_nodes.specs.States.{StandsFor as NodeStands, id_of}
+use Rattle.plan_nodes.specs.States.{AllCame, StandsFor as NodeStands, id_of}
 use Rattle.flux_core.specs.CoreView.{CoreView, emitted_by, inputs_of, rows_at, standing}
 use Rattle.flux_core.specs.Opening.{bare_core}
 use Rattle.partition_runner.specs.Ran.{emitted_in}
@@ -44,9 +44,9 @@ module _ (plan : PlanView) (inputs : List Input) (script : List Order) (ran : Ra
       ∙ (ap (λ o. rows_at (standing o).content) f.there ∙ (same_rows f.one ∙ rows_stand plan inputs f.one (r.reached.nodes (id_of f.one)) f.named f.holds)) in
       subst (λ (l : List Row). IsPrefix l (output plan inputs)) (sym emitted) (take_prefix (output_first plan inputs count) (output plan inputs) (sym ((in_order plan inputs).front count)))
 
-  pub goes_on : (limits : IsPlan plan) (run : IsLegalRan plan inputs script ran) (old core : CoreView) (before after : List Event) (d : Drained) → old ≡ bare_core plan ran.nodes
+  pub goes_on : (limits : IsPlan plan) (run : IsLegalRan plan inputs script ran) → Each AllCame ran.nodes → (old core : CoreView) (before after : List Event) (d : Drained) → old ≡ bare_core plan ran.nodes
       → before ≡ [] → core.plan ≡ old.plan → inputs_of core ≡ inputs_of old → IsDrained old core before after d → IsPrefix (emitted_in ran.nodes) (emitted_by core)
-  goes_on limits run old core before after d bare none same_plan same_inputs h = go d h (run_ends plan inputs script ran limits run old core before after d bare none same_plan same_inputs h)
+  goes_on limits run came old core before after d bare none same_plan same_inputs h = go d h (run_ends plan inputs script ran limits run came old core before after d bare none same_plan same_inputs h)
     where
       go : (d : Drained) → IsDrained old core before after d → EndsSo plan inputs script (events_of ran ++ after) (emitted_by core) d → IsPrefix (emitted_in ran.nodes) (emitted_by core)
       go drained.Whole h ends = subst (λ (l : List Row). IsPrefix (emitted_in ran.nodes) l) (sym ends.output) (run_front run)

@@ -10,7 +10,7 @@ use Rattle.pair_machine.proofs.PlanNodes.{nodes_named}
 use Rattle.pair_machine.proofs.StepTurns.{at_there}
 use Rattle.plan_nodes.specs.NodeOrder.{nodes_of}
 use Rattle.flux_core.specs.Acts.{IsRefusedSo}
-use Rattle.flux_core.specs.CoreView.{CoreView, StationView, core_of, flow_in, inputs_of, standing}
+use Rattle.flux_core.specs.CoreView.{CoreView, StationView, core_of, flow_in, gone_by, inputs_of, standing}
 use Rattle.flux_core.specs.Refusals.{IsRefusal}
 use Rattle.flux_core.specs.Stands.{IsCore, IsKnown, StandsFor}
 use Rattle.flux_core.specs.Steps.{ActedAt, IsApplied, IsTaskOf, MayApply}
@@ -53,6 +53,7 @@ pub record Outcome (r : Result (Unit {0}) ApplyError) (old new : CoreView) (e : 
   pub applied : OnOk r (IsApplied old new e)
   pub refused : IfErr r (λ x. (s : State) → StandsFor old s → IsRefusal (step (flow_in old) s e) x)
   pub unchanged : OnErr r (new ≡ old)
+  pub gone : gone_by new ≡ gone_by old
 
 -- the node at the place of an event's node was asked what the event asks
 outcome_at : (old : CoreView) (news : List StationView) (e : Event) (t : Asked) (place : ℕ) (r : Result (Unit {0}) ApplyError) → IsCore old → names_event old.plan e ≡ true → MayApply old e → IsTaskOf old e t
@@ -61,7 +62,7 @@ outcome_at : (old : CoreView) (news : List StationView) (e : Event) (t : Asked) 
     → Outcome r old (core_of old.plan old.whole news) e
 outcome_at old news e t place (Ok u) is named may task at did denied same =
     let z = applied old (core_of old.plan old.whole news) t e is named may task (changed old is (at_node e) t news place at did) in
-    record { core = z.0; applied = z.1; refused = tt; unchanged = tt }
+    record { core = z.0; applied = z.1; refused = tt; unchanged = tt; gone = z.1.gone }
 outcome_at old news e t place (Err x) is named may task at did denied same =
     let p = placed old is (at_node e) place at in
     let as_was : core_of old.plan old.whole news ≡ old = ap (core_of old.plan old.whole) same in
@@ -70,6 +71,7 @@ outcome_at old news e t place (Err x) is named may task at did denied same =
       applied = tt;
       refused = λ s stands. refused_there old t e x p.at is named task (ap standing p.under) p.named (denied p.at p.there old.plan) s stands;
       unchanged = as_was;
+      gone = ap gone_by as_was;
     }
 
 -- the same of the value that the fields make

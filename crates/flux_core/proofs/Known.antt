@@ -32,7 +32,7 @@ use Rattle.flux_core.specs.declared.asked.Asked.{Asked}
 use Rattle.flux_core.specs.declared.error.ApplyError.{ApplyError}
 use Rattle.flux_core.specs.declared.error.ApplyError.TheVariants as error
 use Rattle.flux_core.proofs.KeepsOwed.{keeps_drainable}
-use Rattle.flux_core.proofs.Placing.{all_same, inputs_same as inputs_kept}
+use Rattle.flux_core.proofs.Placing.{gone_same, inputs_same as inputs_kept, still_came}
 use Rattle.flux_core.proofs.Steps.{goes_on}
 use Rattle.flux_core.proofs.There.{there}
 use Rattle.flux_core.proofs.Changes.{HasChanged}
@@ -85,9 +85,9 @@ applied old new t e core named may task h =
         times = subst AreTimely (sym inputs) core.times;
         names = h.names ∙ core.names ∙ ap nodes_of (sym h.plan);
         known = subst (λ w. IsKnown w new) (sym h.whole) (known_on old new e core.plan is_there goes h.plan inputs old.whole core.known may);
-        all = all_same (at_node e) t old new h core.all;
+        came = still_came (at_node e) t old new h core.came;
       },
-      record { steps = goes; others = h.others; plan = h.plan; inputs = inputs; whole = h.whole },
+      record { steps = goes; others = h.others; plan = h.plan; inputs = inputs; whole = h.whole; gone = gone_same (at_node e) t old new h },
     )
 
 -- ---- refusals
@@ -115,7 +115,7 @@ came_where (state.Egress e) h = tt
 came_there : (core : CoreView) → IsCore core → (n : NodeId) (at : StationView) → station core n ≡ standing (Some at) → id_of at.node ≡ n → AllCame at.node
 came_there core is n at here name = came_where at.node (λ ingress.
     let same : node.Ingress ≡ n = sym ingress ∙ name in
-    sym (ap (λ (k : Standing). ended_at k.content) (ap (station core) same ∙ here)) ∙ is.all.ended)
+    sym (ap (λ (k : Standing). ended_at k.content) (ap (station core) same ∙ here)) ∙ is.came)
 
 -- what the node refuses
 pub refused_there : (core : CoreView) (t : Asked) (e : Event) (x : ApplyError) (at : StationView) → IsCore core → names_event core.plan e ≡ true → IsTaskOf core e t

@@ -20,7 +20,7 @@ use Rattle.plan_nodes.specs.States.{AllCame, StandsFor as NodeStandsFor, content
 use Rattle.plan_nodes.specs.declared.state.NodeState.{NodeState}
 use Rattle.plan_nodes.specs.declared.state.NodeState.TheVariants as state
 use Rattle.plan_nodes.proofs.NodeOrder.{all_there}
-use Rattle.flux_core.specs.CoreView.{CoreView, HoldsAll, StationView, core_of, ended_at, flow_in, found, gone_at, inputs_at, inputs_of, names_of, standing, station}
+use Rattle.flux_core.specs.CoreView.{CoreView, HasItsInputs, StationView, core_of, ended_at, flow_in, found, gone_at, gone_by, inputs_at, inputs_of, names_of, standing, station}
 use Rattle.flux_core.specs.Opening.{AreOpen, OpensSo, bare_core, new_station}
 use Rattle.flux_core.specs.Stands.{IsCore, IsGiven, StandsFor, StationStands}
 use Rattle.flux_core.proofs.Contents.{content_in, ended_contents, gone_contents, id_contents}
@@ -75,16 +75,17 @@ came_first (state.Replica v) name came = let z : ⊥ = cc name in absurd z
 came_first (state.Control c) name came = let z : ⊥ = cc name in absurd z
 came_first (state.Egress x) name came = let z : ⊥ = cc name in absurd z
 
--- where no more inputs come to any node, and none handed a row on, a core of them has all
-pub all_held : (plan : PlanView) (whole : Bool) (nodes : List NodeState) → Each AllCame nodes → Each (λ s. gone_of s ≡ []) nodes → Among node.Ingress (map id_of nodes) → Among node.Egress (map id_of nodes)
-    → HoldsAll (core_of plan whole (map new_station nodes))
-all_held plan whole nodes came gone first last =
+-- where no more inputs come to any node, a core of them has all
+pub have_come : (plan : PlanView) (whole : Bool) (nodes : List NodeState) → Each AllCame nodes → Among node.Ingress (map id_of nodes) → HasItsInputs (core_of plan whole (map new_station nodes))
+have_come plan whole nodes came first =
     let i = one_of AllCame node.Ingress nodes came first in
+    ap (λ o. ended_at (standing o).content) i.there ∙ (ended_contents i.one ∙ came_first i.one i.name i.fits)
+
+-- where none handed a row on, egress of a core of them didn't
+pub none_gone_by : (plan : PlanView) (whole : Bool) (nodes : List NodeState) → Each (λ s. gone_of s ≡ []) nodes → Among node.Egress (map id_of nodes) → gone_by (core_of plan whole (map new_station nodes)) ≡ []
+none_gone_by plan whole nodes gone last =
     let e = one_of (λ s. gone_of s ≡ []) node.Egress nodes gone last in
-    record {
-      ended = ap (λ o. ended_at (standing o).content) i.there ∙ (ended_contents i.one ∙ came_first i.one i.name i.fits);
-      rows = ap (λ o. gone_at (standing o).content) e.there ∙ (gone_contents e.one ∙ e.fits);
-    }
+    ap (λ o. gone_at (standing o).content) e.there ∙ (gone_contents e.one ∙ e.fits)
 
 -- ---- nodes that open
 
@@ -144,6 +145,7 @@ pub record IsOpened (core : CoreView) (given : PlanView) (all : List Input) : Ty
   pub opens : StandsFor core opening
   pub plan : core.plan ≡ given
   pub inputs : inputs_of core ≡ all
+  pub gone : gone_by core ≡ []
 
 opened_bare : (plan : PlanView) (inputs : List Input) (nodes : List NodeState) (d : NodeState) → IsPlan plan → AreTimely (inputs_in (slice_index_or nodes 0 d)) → map id_of nodes ≡ nodes_of plan → AreOpen plan inputs nodes
     → IsOpened (Bare plan true nodes) plan inputs
@@ -159,24 +161,25 @@ opened_bare plan inputs nodes d limits times names fresh = record {
       sound = plan_opens_sound plan (inputs_of (Bare plan true nodes)) limits;
       stands = opens;
     };
-    all = all;
+    came = ended;
   };
   opens = opens;
   plan = refl;
   inputs = came;
+  gone = none_gone_by plan true nodes (none_gone plan inputs nodes fresh) (among node.Egress (tt, tt));
 }
   where
     among : (n : NodeId) → HasNode (flow_in (Bare plan true nodes)) n → Among n (map id_of nodes)
     among n has = subst (Among n) (sym names) (all_there plan n ((nodes_named plan (inputs_of (Bare plan true nodes)) n).named has))
 
-    all : HoldsAll (Bare plan true nodes)
-    all = all_held plan true nodes (all_came plan inputs nodes fresh) (none_gone plan inputs nodes fresh) (among node.Ingress (tt, tt)) (among node.Egress (tt, tt))
+    ended : HasItsInputs (Bare plan true nodes)
+    ended = have_come plan true nodes (all_came plan inputs nodes fresh) (among node.Ingress (tt, tt))
 
     came : inputs_of (Bare plan true nodes) ≡ inputs
     came =
         let i = ingress_there plan inputs (station (Bare plan true nodes) node.Ingress).content (new_node node.Ingress) (open_at plan inputs node.Ingress nodes fresh (among node.Ingress (tt, tt))).content in
-        let ended : i.0.ended ≡ true = sym (ap ended_at i.1) ∙ all.ended in
-        ap inputs_at i.1 ∙ subst (λ b. AreCome b i.0.inputs inputs) ended i.2.inputs
+        let told : i.0.ended ≡ true = sym (ap ended_at i.1) ∙ ended in
+        ap inputs_at i.1 ∙ subst (λ b. AreCome b i.0.inputs inputs) told i.2.inputs
 
     opens : StandsFor (Bare plan true nodes) opening
     opens = subst (λ I. (n : NodeId) → HasNode (flow_in (Bare plan true nodes)) n → StationStands plan I n (station (Bare plan true nodes) n) opening) (sym came) (λ n has. open_at plan inputs n nodes fresh (among n has))
@@ -200,9 +203,9 @@ pub record IsBare (core : CoreView) (bare : CoreView) : Type 0 where
   pub same : core ≡ bare
 
 pub bared : (plan copy : PlanView) (nodes : List NodeState) (d : NodeState) (stations : List StationView) → stations ≡ map new_station nodes → copy ≡ plan → IsPlan plan → d ≡ slice_index_or nodes 0 d
-    → AreTimely (inputs_in d) → map id_of nodes ≡ nodes_of plan → IsGiven (bare_core plan nodes) → HoldsAll (bare_core plan nodes) → IsBare (core_of copy false stations) (bare_core plan nodes)
-bared plan copy nodes d stations made same limits first times names given all =
+    → AreTimely (inputs_in d) → map id_of nodes ≡ nodes_of plan → IsGiven (bare_core plan nodes) → HasItsInputs (bare_core plan nodes) → IsBare (core_of copy false stations) (bare_core plan nodes)
+bared plan copy nodes d stations made same limits first times names given came =
     let as_bare : core_of copy false stations ≡ bare_core plan nodes = λ j. core_of (same j) false (made j) in
     let timely : AreTimely (inputs_in (slice_index_or nodes 0 d)) = subst (λ s. AreTimely (inputs_in s)) first times in
-    let is : IsCore (bare_core plan nodes) = record { plan = limits; times = subst AreTimely (sym (first_inputs plan nodes d names)) timely; names = names_new nodes ∙ names; known = given; all = all } in
+    let is : IsCore (bare_core plan nodes) = record { plan = limits; times = subst AreTimely (sym (first_inputs plan nodes d names)) timely; names = names_new nodes ∙ names; known = given; came = came } in
     record { is = subst IsCore (sym as_bare) is; same = as_bare }

@@ -10,7 +10,7 @@ use Rattle.plan_nodes.specs.NodeOrder.{nodes_of}
 use Rattle.plan_nodes.specs.States.{id_of}
 use Rattle.plan_nodes.specs.declared.state.NodeState.{NodeState}
 use Rattle.plan_nodes.proofs.NodeOrder.{Apart, differs, nodes_apart}
-use Rattle.flux_core.specs.CoreView.{CoreView, HoldsAll, Standing, StationView, core_of, ended_at, found, gone_at, inputs_at, inputs_of, names_of, standing, station}
+use Rattle.flux_core.specs.CoreView.{CoreView, HasItsInputs, Standing, StationView, core_of, ended_at, found, gone_at, gone_by, inputs_at, inputs_of, names_of, standing, station}
 use Rattle.flux_core.specs.Stands.{IsCore}
 use Rattle.flux_core.specs.Steps.{ActedAt}
 use Rattle.flux_core.specs.declared.asked.Asked.{Asked}
@@ -126,9 +126,10 @@ stays_at {X} f m n t old new h kept = go (is_node m n) refl
 pub inputs_same : (n : NodeId) (t : Asked) (old new : CoreView) → HasChanged n t old new → inputs_of new ≡ inputs_of old
 inputs_same n t old new h = stays_at inputs_at node.Ingress n t old new h h.acted.inputs
 
--- it still has all
-pub all_same : (n : NodeId) (t : Asked) (old new : CoreView) → HasChanged n t old new → HoldsAll old → HoldsAll new
-all_same n t old new h all = record {
-  ended = stays_at ended_at node.Ingress n t old new h h.acted.ended ∙ all.ended;
-  rows = stays_at gone_at node.Egress n t old new h h.acted.gone ∙ all.rows;
-}
+-- it still has all inputs
+pub still_came : (n : NodeId) (t : Asked) (old new : CoreView) → HasChanged n t old new → HasItsInputs old → HasItsInputs new
+still_came n t old new h came = stays_at ended_at node.Ingress n t old new h h.acted.ended ∙ came
+
+-- no row was handed on
+pub gone_same : (n : NodeId) (t : Asked) (old new : CoreView) → HasChanged n t old new → gone_by new ≡ gone_by old
+gone_same n t old new h = stays_at gone_at node.Egress n t old new h h.acted.gone

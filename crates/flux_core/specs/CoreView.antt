@@ -98,10 +98,17 @@ flow_in core = flow_of core.plan (inputs_of core)
 abbrev pub emitted_by : CoreView → List Row
 emitted_by core = rows_at (station core node.Egress).content
 
--- a core has all its inputs and all its rows: no more inputs come to ingress, and egress handed no row on
-pub record HoldsAll (core : CoreView) : Type 0 where
-  pub ended : ended_at (station core node.Ingress).content ≡ true
-  pub rows : gone_at (station core node.Egress).content ≡ []
+-- the first of these rows, which it handed on
+abbrev pub gone_by : CoreView → List Row
+gone_by core = gone_at (station core node.Egress).content
+
+-- a core has all its inputs: no more come to ingress
+abbrev pub HasItsInputs : CoreView → Type 0
+HasItsInputs core = ended_at (station core node.Ingress).content ≡ true
+
+-- a core that is to have all rows that egress emitted has them: egress handed none on
+abbrev pub HasItsRows : (all : Bool) → CoreView → Type 0
+HasItsRows all core = all ≡ true → gone_by core ≡ []
 
 -- ---- the room of edges left aside
 

@@ -18,7 +18,7 @@ use Rattle.plan_nodes.specs.NodeOrder.{nodes_of}
 use Rattle.plan_nodes.specs.States as nodes
 use Rattle.plan_nodes.specs.States.{id_of}
 use Rattle.plan_nodes.specs.declared.state.NodeState.{NodeState}
-use Rattle.flux_core.specs.CoreView.{CoreView, HoldsAll, Log, Standing, flow_in, inputs_of, names_of, station}
+use Rattle.flux_core.specs.CoreView.{CoreView, HasItsInputs, Log, Standing, flow_in, inputs_of, names_of, station}
 use Rattle.flux_core.specs.Sent.{bodies_to}
 
 module _ (plan : PlanView) (inputs : List Input) where
@@ -61,10 +61,10 @@ abbrev pub IsKnown : Bool → CoreView → Type 0
 IsKnown true core = IsReached core
 IsKnown false core = IsGiven core
 
--- its stations are the plan's nodes in their order, and it has all its inputs and all its rows
+-- its stations are the plan's nodes in their order, and it has all its inputs
 pub record IsCore (core : CoreView) : Type 0 where
   pub plan : IsPlan core.plan
   pub times : AreTimely (inputs_of core)
   pub names : names_of core.stations ≡ nodes_of core.plan
   pub known : IsKnown core.whole core
-  pub all : HoldsAll core
+  pub came : HasItsInputs core

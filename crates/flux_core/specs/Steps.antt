@@ -11,7 +11,7 @@ use Rattle.pair_machine.specs.Sound.{IsSound}
 use Rattle.plan_reader.specs.PlanView.{PlanView}
 use Rattle.plan_nodes.specs.States.{gone_of, has_ended, id_of, inputs_in}
 use Rattle.flux_core.specs.Acts.{ActsSo, IsActOf}
-use Rattle.flux_core.specs.CoreView.{CoreView, Log, StationView, flow_in, inputs_of, station}
+use Rattle.flux_core.specs.CoreView.{CoreView, Log, StationView, flow_in, gone_by, inputs_of, station}
 use Rattle.flux_core.specs.Stands.{StandsFor}
 use Rattle.flux_core.specs.declared.asked.Asked.{Asked}
 
@@ -56,10 +56,12 @@ GoesOn old new e = (s : State) → StandsFor old s → MayStep (flow_in old) s e
 abbrev pub MayApply : CoreView → Event → Type 0
 MayApply core e = (core.whole ≡ true) ⊎ (TakesNoMessage e ⊎ HasSoundState core)
 
--- An event was applied: it is the machine's step, from whatever state the core stood for, and every node but the event's own is as it was.
+-- An event was applied: it is the machine's step, from whatever state the core stood for, and every node but the event's own is as it was. No row
+-- was handed on.
 pub record IsApplied (old new : CoreView) (e : Event) : Type 0 where
   pub steps : GoesOn old new e
   pub others : (m : NodeId) → m ≢ at_node e → station new m ≡ station old m
   pub plan : new.plan ≡ old.plan
   pub inputs : inputs_of new ≡ inputs_of old
   pub whole : new.whole ≡ old.whole
+  pub gone : gone_by new ≡ gone_by old

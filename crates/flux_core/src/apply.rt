@@ -1,6 +1,6 @@
 // One event, and any list of events.
 ghost use Rattle.flux_core.specs.Acts.{IsTimelyTask};
-ghost use Rattle.flux_core.specs.CoreView.{flow_in, inputs_of};
+ghost use Rattle.flux_core.specs.CoreView.{flow_in, gone_by, inputs_of};
 ghost use Rattle.flux_core.specs.Follows.{AreNamed, IsFollowed, IsStopped, events_of};
 ghost use Rattle.flux_core.specs.Promises.{EmitsAFront, HoldsWhatIsOwed, MergesInOrder};
 ghost use Rattle.flux_core.specs.Refusals.{IsRefusal};
@@ -14,6 +14,7 @@ ghost use Rattle.tuple_edge.specs.declared.event.Event.TheVariants as event;
 use crate::asked::Asked;
 use crate::error::ApplyError;
 use crate::nodes::Core;
+use crate::rows::CoreRows;
 use crate::station::{act_at, taken_at};
 use node_tasks::Task;
 use run_journal::Lined;
@@ -28,7 +29,7 @@ pub struct Stopped {
     pub error: ApplyError,
 }
 
-impl Core {
+impl<R: CoreRows> Core<R> {
     /// Applies an event of the plan. A core made of nodes alone, whose state need not be sound, may be given
     /// any event that takes no packet; one that takes a packet only where its state is sound. After a refusal,
     /// and where memory is wanting, all is as it was.
@@ -41,6 +42,7 @@ impl Core {
         ensures plan { self.new.plan ≡ self.old.plan }
         ensures inputs { inputs_of self.new ≡ inputs_of self.old }
         ensures whole { self.new.whole ≡ self.old.whole }
+        ensures gone { gone_by self.new ≡ gone_by self.old }
         ensures core { IsCore self.new }
         ensures emitted { EmitsAFront self.new }
         ensures merged { MergesInOrder self.new }
@@ -49,33 +51,6 @@ impl Core {
         self.known();
         let task = self.task_of(&event)?;
         self.act(&event, &task)
-    }
-
-    /// Applies events of the plan one after another, up to the first one that is no step: those before it stay
-    /// applied, and it and those after it are not. Failures and lost pairs are events as all others.
-    pub fn follow(&mut self, events: &[Lined]) -> Result<(), Stopped>
-        requires named { AreNamed self.old.plan events.now }
-        requires whole { self.old.whole ≡ true }
-        ensures followed { OnOk result (IsFollowed self.old self.new (events_of events.now)) }
-        ensures stopped { IfErr result (IsStopped self.old self.new events.now) }
-        ensures plan { self.new.plan ≡ self.old.plan }
-        ensures inputs { inputs_of self.new ≡ inputs_of self.old }
-        ensures whole { self.new.whole ≡ self.old.whole }
-        ensures core { IsCore self.new }
-        ensures emitted { EmitsAFront self.new }
-        ensures merged { MergesInOrder self.new }
-        ensures owed { HoldsWhatIsOwed self.new }
-    {
-        self.known();
-        for lined in events {
-            if let Err(error) = self.apply(lined.event) {
-                return Err(Stopped {
-                    line: lined.line,
-                    error,
-                });
-            }
-        }
-        Ok(())
     }
 
     // What an event asks of its node.
@@ -122,5 +97,34 @@ impl Core {
     {
         let place = self.place_of(event.node());
         act_at(&mut self.stations, place, task)
+    }
+}
+
+impl Core {
+    /// Applies events of the plan one after another, up to the first one that is no step: those before it stay
+    /// applied, and it and those after it are not. Failures and lost pairs are events as all others.
+    pub fn follow(&mut self, events: &[Lined]) -> Result<(), Stopped>
+        requires named { AreNamed self.old.plan events.now }
+        requires whole { self.old.whole ≡ true }
+        ensures followed { OnOk result (IsFollowed self.old self.new (events_of events.now)) }
+        ensures stopped { IfErr result (IsStopped self.old self.new events.now) }
+        ensures plan { self.new.plan ≡ self.old.plan }
+        ensures inputs { inputs_of self.new ≡ inputs_of self.old }
+        ensures whole { self.new.whole ≡ self.old.whole }
+        ensures core { IsCore self.new }
+        ensures emitted { EmitsAFront self.new }
+        ensures merged { MergesInOrder self.new }
+        ensures owed { HoldsWhatIsOwed self.new }
+    {
+        self.known();
+        for lined in events {
+            if let Err(error) = self.apply(lined.event) {
+                return Err(Stopped {
+                    line: lined.line,
+                    error,
+                });
+            }
+        }
+        Ok(())
     }
 }

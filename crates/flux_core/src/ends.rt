@@ -17,6 +17,7 @@ use crate::asked::Asked;
 use crate::error::ApplyError;
 use crate::nodes::Core;
 use crate::pulls::{is_ahead, pull_between};
+use crate::rows::CoreRows;
 use flux_consumer::Consumer;
 use ingress_egress::Ingress;
 use tuple_edge::NodeId;
@@ -51,7 +52,7 @@ fn part_of(node: NodeId) -> u32
     }
 }
 
-impl Core {
+impl<R: CoreRows> Core<R> {
     // The source of the edge between two nodes from which the next item is pulled.
     fn source_of(
         &self,

@@ -15,6 +15,7 @@ mod nodes;
 mod opening;
 mod places;
 mod pulls;
+mod rows;
 mod sent;
 mod station;
 
@@ -23,6 +24,7 @@ pub use apply::Stopped;
 pub use asked::Asked;
 pub use error::ApplyError;
 pub use nodes::Core;
+pub use rows::{AllRows, CoreRows, HeldRows};
 #[doc(hidden)]
 pub use sent::Sent;
 #[doc(hidden)]

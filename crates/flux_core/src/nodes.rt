@@ -1,5 +1,5 @@
 // The core: all nodes of a plan, and all that they ever sent.
-ghost use Rattle.flux_core.specs.CoreView.{emitted_by, found, ingress_contents, inputs_of, replica_contents, station};
+ghost use Rattle.flux_core.specs.CoreView.{emitted_by, found, gone_by, ingress_contents, inputs_of, replica_contents, station};
 ghost use Rattle.flux_core.specs.Stands.{IsCore};
 ghost use Rattle.ingress_egress.specs.EgressView.{IsFrontOf};
 ghost use Rattle.pair_machine.specs.Output.{output};
@@ -7,42 +7,44 @@ ghost use Rattle.plan_nodes.specs.NodeOrder.{nodes_of};
 ghost use Rattle.plan_nodes.specs.States.{id_of};
 ghost use Rattle.plan_nodes.specs.declared.state.NodeState.TheVariants as state;
 ghost use Rattle.plan_reader.specs.Nodes.{has_node, has_pair};
-ghost use Rattle.std.specs.Prelude.{◌≡◌, ◌≤◌, ◌<◌, IsTrue, Some, length, slice_get};
+ghost use Rattle.std.specs.Prelude.{◌≡◌, ◌≤◌, ◌<◌, ◌++◌, [], IsTrue, Some, length, slice_get};
 ghost use Rattle.tuple_edge.specs.declared.node.NodeId.TheVariants as node;
 
 use crate::places::place_of;
+use crate::rows::{AllRows, CoreRows};
 use crate::station::Station;
 use ingress_egress::{Egress, Ingress};
 use pair_control::PairControl;
 use plan_nodes::NodeState;
 use plan_reader::Plan;
 use replica_node::Replica;
-use std::marker::Model;
+use std::marker::{Model, PhantomData};
 use tuple_edge::{NodeId, Outbox, Row, Which};
 
 /// All nodes of a plan, and every packet that any of them ever sent.
 ///
 /// Contracts see the nodes in the plan's order, each with what it sent, and leave the room of edges aside. A core
-/// always stands for a state of the machine of pairs.
+/// always stands for a state of the machine of pairs. Its type says which of the rows that egress emitted it has.
 #[derive(Drop)]
-pub struct Core {
+pub struct Core<R: CoreRows = AllRows> {
     pub(crate) plan: Plan,
     pub(crate) whole: bool,
     pub(crate) stations: Vec<Station>,
+    pub(crate) rows: PhantomData<R>,
 }
 
-impl Model for Core {
-    ghost use Rattle.flux_core.specs.CoreView.{CoreView, core_of};
+impl<R: CoreRows> Model for Core<R> {
+    ghost use Rattle.flux_core.specs.CoreView.{CoreView, HasItsRows, core_of};
     ghost use Rattle.flux_core.specs.Stands.{IsCore};
 
     ghost Value = { CoreView };
 
     ghost view = { λ c. core_of c.plan c.whole c.stations.items };
 
-    ghost invariant = { λ c. IsCore (core_of c.plan c.whole c.stations.items) };
+    ghost invariant = { λ c. IsCore (core_of c.plan c.whole c.stations.items) × HasItsRows R.all (core_of c.plan c.whole c.stations.items) };
 }
 
-impl Core {
+impl<R: CoreRows> Core<R> {
     /// The plan.
     pub fn plan(&self) -> &Plan
         ensures { result.now ≡ self.now.plan }
@@ -128,12 +130,30 @@ impl Core {
         &self.station(node).sent.log
     }
 
+    /// The rows that egress emitted and didn't hand on, in order.
+    pub fn held(&self) -> &[Row]
+        ensures { gone_by self.now ++ result.now ≡ emitted_by self.now }
+    {
+        self.egress().held()
+    }
+}
+
+impl Core {
+    // Egress handed no row on.
+    fn all_rows(&self)
+        ensures { gone_by self.now ≡ [] }
+    {
+        // To look into it is all that this takes.
+        let _rows = &self.rows;
+    }
+
     /// The rows that egress has emitted: a front of the plan's output for the inputs, whatever happened.
     pub fn emitted(&self) -> &[Row]
         ensures value { result.now ≡ emitted_by self.now }
         ensures front { IsFrontOf result.now (output self.now.plan (inputs_of self.now)) }
     {
         self.known();
-        self.egress().emitted()
+        self.all_rows();
+        self.held()
     }
 }

@@ -1,5 +1,5 @@
 // How a core is made: one station after another.
-ghost use Rattle.flux_core.specs.CoreView.{HoldsAll, inputs_of};
+ghost use Rattle.flux_core.specs.CoreView.{HasItsInputs, HasItsRows, inputs_of};
 ghost use Rattle.flux_core.specs.Opening.{AreOpen, bare_core, new_station};
 ghost use Rattle.flux_core.specs.Stands.{IsGiven, StandsFor};
 ghost use Rattle.pair_machine.specs.Machine.{opening};
@@ -11,11 +11,13 @@ ghost use Rattle.std.specs.Prelude.{◌≡◌, true, IfOk, map};
 ghost use Rattle.trade_text.specs.TradesView.{inputs_in};
 
 use crate::nodes::Core;
+use crate::rows::CoreRows;
 use crate::sent::Sent;
 use crate::station::Station;
 use plan_nodes::{NodeState, nodes_of, opening_state};
 use plan_reader::Plan;
 use std::alloc::Global;
+use std::marker::PhantomData;
 use trade_text::Trades;
 use tuple_edge::OutOfMemory;
 
@@ -80,15 +82,19 @@ impl Core {
             plan: copy_of(alloc, plan)?,
             whole: true,
             stations,
+            rows: PhantomData,
         })
     }
+}
 
-    /// A core of these nodes, which are the plan's in their order, with no packet sent. All inputs came to their ingress,
-    /// and their egress holds each row that it emitted.
-    pub fn of(alloc: Global, plan: &Plan, nodes: Vec<NodeState>) -> Result<Core, OutOfMemory>
+impl<R: CoreRows> Core<R> {
+    /// A core of these nodes, which are the plan's in their order, with no packet sent. All inputs came to their ingress; and
+    /// their egress holds each row that it emitted, where the core is to have them all.
+    pub fn of(alloc: Global, plan: &Plan, nodes: Vec<NodeState>) -> Result<Core<R>, OutOfMemory>
         requires names { map id_of nodes.items ≡ nodes_of plan.now }
         requires given { IsGiven (bare_core plan.now nodes.items) }
-        requires all { HoldsAll (bare_core plan.now nodes.items) }
+        requires came { HasItsInputs (bare_core plan.now nodes.items) }
+        requires rows { HasItsRows R.all (bare_core plan.now nodes.items) }
         ensures { IfOk result (λ core. core ≡ bare_core plan.now nodes.items) }
     {
         times_of(&nodes[0]);
@@ -97,6 +103,7 @@ impl Core {
             plan: copy_of(alloc, plan)?,
             whole: false,
             stations,
+            rows: PhantomData,
         })
     }
 }

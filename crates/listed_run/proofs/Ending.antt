@@ -33,7 +33,7 @@ module _ (plan : PlanView) (inputs : List Input) (script : List Order) (ran : Ra
       → result.lines.items ≡ lined_from first_line all → result.rows.items ≡ emitted_by core → result.drained ≡ how → IsListed plan inputs script result
   listed old core before after events all how result is none same_plan same_inputs drained merged joined lines rows ended =
       let ends : EndsSo plan inputs script (merged_events (named_histories ran.histories.items) ++ after) (emitted_by core) how =
-      run_ends plan inputs script (ran_of ran) limits (legal_ran plan inputs script ran run) old core before after how is none same_plan same_inputs drained in
+      run_ends plan inputs script (ran_of ran) limits (legal_ran plan inputs script ran run) run.came old core before after how is none same_plan same_inputs drained in
       let whole : merged_events (named_histories ran.histories.items) ++ after ≡ all =
       ap (λ es. es ++ after) (sym (same_events ran.histories.items run.distinct) ∙ sym merged) ∙ sym joined in
       let lined : events_of result.lines.items ≡ all = ap events_of lines ∙ events_lined first_line all in

@@ -6,4 +6,4 @@ use Rattle.flux_core.specs.Stands.{StandsFor}
 use Rattle.core_drain.proofs.serving.first_lost.Given as goal
 
 abbrev pub invariant-loop-before : goal.invariant-loop-before
-invariant-loop-before l = (s : State) → StandsFor l.core s → first_lost s (pairs_up_to (flow_in l.core) l.before) ≡ None
+invariant-loop-before g l = (s : State) → StandsFor l.core s → first_lost s (pairs_up_to (flow_in l.core) l.before) ≡ None

@@ -5,4 +5,4 @@ use Rattle.flux_core.specs.Stands.{StandsFor}
 use Rattle.core_drain.proofs.serving.first_lost_of.Given as goal
 
 abbrev pub invariant-loop-part : goal.invariant-loop-part
-invariant-loop-part l = (s : State) → StandsFor l.core s → first_lost s (parts_below l.stage l.part) ≡ None
+invariant-loop-part g l = (s : State) → StandsFor l.core s → first_lost s (parts_below l.stage l.part) ≡ None

@@ -8,16 +8,16 @@ use Rattle.core_drain.proofs.Blocks.{last_turn}
 use Rattle.core_drain.proofs.turn.drain_all.Goals as goal
 
 pub returns-in_err-repeat-clause-within : goal.returns-in_err-repeat-clause-within
-returns-in_err-repeat-clause-within c = on_err c.from_residual.result (λ b m a. (let z = makes_next b m in c.in_err-repeat.ensures.within b [] z.count m a z.block))
+returns-in_err-repeat-clause-within g c = on_err c.from_residual.result (λ b m a. (let z = makes_next b m in c.in_err-repeat.ensures.within b [] z.count m a z.block))
 
 pub returns-in_err-drain_stages-clause-within : goal.returns-in_err-drain_stages-clause-within
-returns-in_err-drain_stages-clause-within c = on_err c.from_residual-in_err-drain_stages.result (λ b m a.
+returns-in_err-drain_stages-clause-within g c = on_err c.from_residual-in_err-drain_stages.result (λ b m a.
     (let z = makes_next b m in
     let x = listed_on b c.repeat.new.core c.repeat.new.events.events _ (done_before b 1 0) z.listed (c.in_ok-repeat.ensures.done b [] z.count m a z.block) in
     c.in_err-drain_stages.ensures.within b m x))
 
 pub returns-clause-done : goal.returns-clause-done
-returns-clause-done c = on_ok_map c.drain_into.result (λ done b m a.
+returns-clause-done g c = on_ok_map c.drain_into.result (λ done b m a.
     (let z = makes_next b m in
     let x = listed_on b c.repeat.new.core c.repeat.new.events.events _ (done_before b 1 0) z.listed (c.in_ok-repeat.ensures.done b [] z.count m a z.block) in
     let y = c.in_ok-drain_stages.ensures.done b m x in
@@ -26,7 +26,7 @@ returns-clause-done c = on_ok_map c.drain_into.result (λ done b m a.
     listed_on b c.drain_into.new.core c.drain_into.new.events.events (before_turn b node.Egress ++ turn_of b node.Egress) (drain_events (flow_at b) b.state) (last_turn b m) (done b m tt w))) c.drain_into.ensures.done
 
 pub returns-clause-within : goal.returns-clause-within
-returns-clause-within c = on_err_map c.drain_into.result (λ within b m a.
+returns-clause-within g c = on_err_map c.drain_into.result (λ within b m a.
     (let z = makes_next b m in
     let x = listed_on b c.repeat.new.core c.repeat.new.events.events _ (done_before b 1 0) z.listed (c.in_ok-repeat.ensures.done b [] z.count m a z.block) in
     let y = c.in_ok-drain_stages.ensures.done b m x in

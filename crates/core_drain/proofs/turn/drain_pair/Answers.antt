@@ -7,7 +7,7 @@ use Rattle.core_drain.proofs.Turns.{drainer_at, listed_on, pair_at, pair_listed}
 use Rattle.core_drain.proofs.turn.drain_pair.Goals as goal
 
 pub returns-clause-done : goal.returns-clause-done
-returns-clause-done c = on_ok_map c.drain_into.result (λ done b m a.
+returns-clause-done g c = on_ok_map c.drain_into.result (λ done b m a.
     (let p = partition c.args.stage c.args.part in
     let drains = drainer_at b m c.args.core.now c.args.events.now.events (done_before b c.args.stage c.args.part) a p c.drainer-which.result c.drainer-which.ensures in
     let to = node.Replica c.args.stage c.args.part c.drainer-which.result in
@@ -15,7 +15,7 @@ returns-clause-done c = on_ok_map c.drain_into.result (λ done b m a.
     (done b m (pair_at b c.args.core.now.plan a.plan c.args.stage c.args.part c.requires.there, drains) a))) c.drain_into.ensures.done
 
 pub returns-clause-within : goal.returns-clause-within
-returns-clause-within c = on_err_map c.drain_into.result (λ within b m a.
+returns-clause-within g c = on_err_map c.drain_into.result (λ within b m a.
     (let p = partition c.args.stage c.args.part in
     let drains = drainer_at b m c.args.core.now c.args.events.now.events (done_before b c.args.stage c.args.part) a p c.drainer-which.result c.drainer-which.ensures in
     within b m (pair_at b c.args.core.now.plan a.plan c.args.stage c.args.part c.requires.there, drains) a)) c.drain_into.ensures.within

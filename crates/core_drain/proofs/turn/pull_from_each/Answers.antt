@@ -6,33 +6,33 @@ use Rattle.core_drain.proofs.Blocks.{pulls_up_to}
 use Rattle.core_drain.proofs.turn.pull_from_each.Goals as goal
 
 pub loop-part-init : goal.loop-part-init
-loop-part-init c = record {
+loop-part-init g c = record {
   keeps = keeps_none c.args.core.now c.known.ensures;
   after = λ b m h a. listed_on b c.args.core.now c.args.events.now.events (before_turn b c.args.to) (before_turn b c.args.to ++ pulls_up_to b c.args.to 0) (pulls_begin b m c.args.to h) a;
 }
 
 pub drainer-requires : goal.drainer-requires
-drainer-requires c = loop_pair c.args.core.now.plan c.loop-part.core.plan c.plan.result.now c.args.to c.args.stage c.loop-part.part c.sources-sources.result c.loop-part.invariant.keeps.plan
+drainer-requires g c = loop_pair c.args.core.now.plan c.loop-part.core.plan c.plan.result.now c.args.to c.args.stage c.loop-part.part c.sources-sources.result c.loop-part.invariant.keeps.plan
     c.requires.there c.requires.consumes c.requires.stage c.requires.later c.plan.ensures c.sources-sources.ensures c.loop-part-test.true
 
 pub repeat-requires-clause-named : goal.repeat-requires-clause-named
-repeat-requires-clause-named c =
+repeat-requires-clause-named g c =
     let pair = loop_pair c.args.core.now.plan c.loop-part.core.plan c.plan.result.now c.args.to c.args.stage c.loop-part.part c.sources-sources.result c.loop-part.invariant.keeps.plan
     c.requires.there c.requires.consumes c.requires.stage c.requires.later c.plan.ensures c.sources-sources.ensures c.loop-part-test.true in
     loop_edge c.args.core.now.plan c.loop-part.core.plan c.args.to c.args.stage c.loop-part.part c.drainer.result c.loop-part.invariant.keeps.plan c.requires.there c.requires.consumes c.requires.stage c.requires.later pair
 
 pub returns-in_err-repeat-clause-within : goal.returns-in_err-repeat-clause-within
-returns-in_err-repeat-clause-within c = on_err c.from_residual.result (λ b m h a.
+returns-in_err-repeat-clause-within g c = on_err c.from_residual.result (λ b m h a.
     (let x = c.loop-part.invariant.after b m h a in
     let z = pull_at b m c.args.to h c.args.core.now.plan a.plan c.args.stage c.requires.stage c.loop-part.core c.loop-part.events.events c.plan.result.now c.loop-part.part c.sources-sources.result c.drainer.result
     c.requires.later c.plan.ensures c.sources-sources.ensures c.loop-part-test.true x c.drainer.ensures in
     c.in_err-repeat.ensures.within b (before_turn b c.args.to ++ pulls_up_to b c.args.to c.loop-part.part) z.count m x z.block))
 
 pub returns-in_err-repeat-clause-keeps : goal.returns-in_err-repeat-clause-keeps
-returns-in_err-repeat-clause-keeps c = keeps_on c.args.core.now c.loop-part.core c.repeat.new.core c.loop-part.invariant.keeps c.repeat.ensures.keeps
+returns-in_err-repeat-clause-keeps g c = keeps_on c.args.core.now c.loop-part.core c.repeat.new.core c.loop-part.invariant.keeps c.repeat.ensures.keeps
 
 pub loop-part-preserved : goal.loop-part-preserved
-loop-part-preserved c = record {
+loop-part-preserved g c = record {
   keeps = keeps_on c.args.core.now c.loop-part.core c.repeat.new.core c.loop-part.invariant.keeps c.repeat.ensures.keeps;
   after = λ b m h a.
       (let x = c.loop-part.invariant.after b m h a in
@@ -43,7 +43,7 @@ loop-part-preserved c = record {
 }
 
 pub returns-clause-done : goal.returns-clause-done
-returns-clause-done c = λ b m h a.
+returns-clause-done g c = λ b m h a.
     (let x = c.loop-part.invariant.after b m h a in
     let sources = turn_sources b m c.args.to h c.args.core.now.plan a.plan c.args.stage c.requires.stage c.plan.result.now c.sources-sources.result c.plan.ensures c.sources-sources.ensures in
     let all : c.loop-part.part ≡ c.sources-sources.result = omega (arith, c.loop-part-test.false, c.loop-part.auto.part-end) in
@@ -52,4 +52,4 @@ returns-clause-done c = λ b m h a.
     (pulls_end b m c.args.to h c.args.stage c.loop-part.part at c.requires.later (all ∙ sources)) x)
 
 pub returns-clause-keeps : goal.returns-clause-keeps
-returns-clause-keeps c = c.loop-part.invariant.keeps
+returns-clause-keeps g c = c.loop-part.invariant.keeps

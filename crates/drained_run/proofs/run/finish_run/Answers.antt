@@ -2,33 +2,36 @@
 use Rattle.std.proofs.Common.{ap}
 use Rattle.event_log.specs.Blocks.{BlocksView}
 use Rattle.trade_text.specs.TradesView.{inputs_in}
-use Rattle.drained_run.proofs.Ending.{all, given, run_ends}
+use Rattle.drained_run.proofs.Ending.{all_came, given, none_gone, run_ends}
 use Rattle.drained_run.proofs.Fronts.{goes_on, run_front}
 use Rattle.drained_run.proofs.Joined.{legal_ran, mergeable, ran_of}
 use Rattle.drained_run.proofs.run.finish_run.Goals as goal
 
 pub of-requires-clause-names : goal.of-requires-clause-names
-of-requires-clause-names g c = c.requires.nodes_are
+of-requires-clause-names g c κs within = c.requires.nodes_are
 
 pub of-requires-clause-given : goal.of-requires-clause-given
-of-requires-clause-given g c =
+of-requires-clause-given g c κs within =
     given c.args.job.now.plan.now (inputs_in c.args.job.now.trades.now) c.args.job.now.script.now (ran_of g.K.Keeps.kept c.args.left) c.stages-stages.ensures.limits
-    (legal_ran g.K.Keeps.kept c.args.job.now.plan.now (inputs_in c.args.job.now.trades.now) c.args.job.now.script.now c.args.left c.requires)
+    (legal_ran g.K.Keeps.kept c.args.job.now.plan.now (inputs_in c.args.job.now.trades.now) c.args.job.now.script.now c.args.left c.requires) c.requires.came
 
-pub of-requires-clause-all : goal.of-requires-clause-all
-of-requires-clause-all g c =
-    all c.args.job.now.plan.now (inputs_in c.args.job.now.trades.now) c.args.job.now.script.now (ran_of g.K.Keeps.kept c.args.left) c.stages-stages.ensures.limits
-    (legal_ran g.K.Keeps.kept c.args.job.now.plan.now (inputs_in c.args.job.now.trades.now) c.args.job.now.script.now c.args.left c.requires)
+pub of-requires-clause-rows : goal.of-requires-clause-rows
+of-requires-clause-rows g c κs within = λ _. none_gone c.args.job.now.plan.now c.args.left.nodes.items c.requires.nodes_are c.requires.held
+
+pub of-requires-clause-came : goal.of-requires-clause-came
+of-requires-clause-came g c κs within =
+    all_came c.args.job.now.plan.now (inputs_in c.args.job.now.trades.now) c.args.job.now.script.now (ran_of g.K.Keeps.kept c.args.left) c.stages-stages.ensures.limits
+    (legal_ran g.K.Keeps.kept c.args.job.now.plan.now (inputs_in c.args.job.now.trades.now) c.args.job.now.script.now c.args.left c.requires) c.requires.came
 
 pub returns-clause-ended : goal.returns-clause-ended
 returns-clause-ended g c = run_ends c.args.job.now.plan.now (inputs_in c.args.job.now.trades.now) c.args.job.now.script.now (ran_of g.K.Keeps.kept c.args.left) c.stages-stages.ensures.limits
-    (legal_ran g.K.Keeps.kept c.args.job.now.plan.now (inputs_in c.args.job.now.trades.now) c.args.job.now.script.now c.args.left c.requires)
+    (legal_ran g.K.Keeps.kept c.args.job.now.plan.now (inputs_in c.args.job.now.trades.now) c.args.job.now.script.now c.args.left c.requires) c.requires.came
     c.in_ok-core.core c.drain.new.core c.new-events.result.events c.drain.new.events.events c.in_ok-drained.drained
     c.in_ok-core.ensures (ap (λ (b : BlocksView). b.events) c.new-events.ensures) c.drain.ensures.plan c.drain.ensures.inputs c.in_ok-drained.ensures.drained
 
 pub returns-clause-goes_on : goal.returns-clause-goes_on
 returns-clause-goes_on g c = goes_on c.args.job.now.plan.now (inputs_in c.args.job.now.trades.now) c.args.job.now.script.now (ran_of g.K.Keeps.kept c.args.left) c.stages-stages.ensures.limits
-    (legal_ran g.K.Keeps.kept c.args.job.now.plan.now (inputs_in c.args.job.now.trades.now) c.args.job.now.script.now c.args.left c.requires)
+    (legal_ran g.K.Keeps.kept c.args.job.now.plan.now (inputs_in c.args.job.now.trades.now) c.args.job.now.script.now c.args.left c.requires) c.requires.came
     c.in_ok-core.core c.drain.new.core c.new-events.result.events c.drain.new.events.events c.in_ok-drained.drained
     c.in_ok-core.ensures (ap (λ (b : BlocksView). b.events) c.new-events.ensures) c.drain.ensures.plan c.drain.ensures.inputs c.in_ok-drained.ensures.drained
 

@@ -5,7 +5,7 @@ use Rattle.trade_text.specs.TradesView.{inputs_in}
 use Rattle.pair_machine.specs.Joint.{logged_events}
 use Rattle.run_journal.specs.Logs.{log_of_histories}
 use Rattle.run_journal.specs.Text.{lined_from}
-use Rattle.drained_run.proofs.Ending.{all, given}
+use Rattle.drained_run.proofs.Ending.{all_came, given, none_gone}
 use Rattle.listed_run.specs.Listed.{first_line}
 use Rattle.listed_run.proofs.Ending.{listed}
 use Rattle.listed_run.proofs.Ran.{legal_ran, mergeable, ran_of}
@@ -15,17 +15,20 @@ pub merge-requires : goal.merge-requires
 merge-requires g c = rw c.deref.ensures.value (mergeable c.args.job.now.plan.now (inputs_in c.args.job.now.trades.now) c.args.job.now.script.now c.args.ran c.requires)
 
 pub of-requires-clause-names : goal.of-requires-clause-names
-of-requires-clause-names g c = c.requires.nodes_are
+of-requires-clause-names g c κs within = c.requires.nodes_are
 
 pub of-requires-clause-given : goal.of-requires-clause-given
-of-requires-clause-given g c =
+of-requires-clause-given g c κs within =
     given c.args.job.now.plan.now (inputs_in c.args.job.now.trades.now) c.args.job.now.script.now (ran_of c.args.ran) c.stages-stages.ensures.limits
-    (legal_ran c.args.job.now.plan.now (inputs_in c.args.job.now.trades.now) c.args.job.now.script.now c.args.ran c.requires)
+    (legal_ran c.args.job.now.plan.now (inputs_in c.args.job.now.trades.now) c.args.job.now.script.now c.args.ran c.requires) c.requires.came
 
-pub of-requires-clause-all : goal.of-requires-clause-all
-of-requires-clause-all g c =
-    all c.args.job.now.plan.now (inputs_in c.args.job.now.trades.now) c.args.job.now.script.now (ran_of c.args.ran) c.stages-stages.ensures.limits
-    (legal_ran c.args.job.now.plan.now (inputs_in c.args.job.now.trades.now) c.args.job.now.script.now c.args.ran c.requires)
+pub of-requires-clause-rows : goal.of-requires-clause-rows
+of-requires-clause-rows g c κs within = λ _. none_gone c.args.job.now.plan.now c.args.ran.nodes.items c.requires.nodes_are c.requires.held
+
+pub of-requires-clause-came : goal.of-requires-clause-came
+of-requires-clause-came g c κs within =
+    all_came c.args.job.now.plan.now (inputs_in c.args.job.now.trades.now) c.args.job.now.script.now (ran_of c.args.ran) c.stages-stages.ensures.limits
+    (legal_ran c.args.job.now.plan.now (inputs_in c.args.job.now.trades.now) c.args.job.now.script.now c.args.ran c.requires) c.requires.came
 
 pub returns : goal.returns
 returns g c =

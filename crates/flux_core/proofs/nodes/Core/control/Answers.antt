@@ -8,7 +8,7 @@ use Rattle.flux_core.proofs.Placed.{controller_edges}
 use Rattle.flux_core.proofs.nodes.Core.control.Goals as goal
 
 pub returns-clause-edges : goal.returns-clause-edges
-returns-clause-edges c =
+returns-clause-edges g c =
     let n = node.Control c.args.stage c.args.part in
     controller_edges c.args.self.now c.known.ensures c.args.stage c.args.part c.in-Control.control c.requires
     (subst (λ (s : NodeState). Some (contents_of s) ≡ (station c.args.self.now n).content) c.in-Control.is

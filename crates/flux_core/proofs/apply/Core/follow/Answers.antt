@@ -3,7 +3,7 @@ use Rattle.flux_core.specs.CoreView.{CoreView, inputs_of}
 use Rattle.flux_core.proofs.Following.{along_at, along_next, along_none, stopped}
 use Rattle.flux_core.proofs.Placed.{emitted_front}
 use Rattle.flux_core.proofs.Promised.{holds_what_is_owed, merges_in_order}
-use Rattle.flux_core.proofs.nodes.Core.follow.Goals as goal
+use Rattle.flux_core.proofs.apply.Core.follow.Goals as goal
 
 pub loop-lined-init : goal.loop-lined-init
 loop-lined-init c = record { along = along_none c.args.self.now c.args.events.now; core = c.known.ensures }

@@ -1,7 +1,7 @@
 use Rattle.std.proofs.Common.{drop}
 use Rattle.flux_core.proofs.Following.{Along}
 use Rattle.flux_core.specs.Stands.{IsCore}
-use Rattle.flux_core.proofs.nodes.Core.follow.Given as goal
+use Rattle.flux_core.proofs.apply.Core.follow.Given as goal
 
 abbrev pub invariant-loop-lined : goal.invariant-loop-lined
 invariant-loop-lined l = record {
