@@ -102,6 +102,16 @@ module _ (plan : PlanView) (script : List Order) (bytes : List ℕ) (came : Came
   AnswersSo old new streamed.WriteFault = Rose old.faults new.faults × ((all : Came) → MayCome ended came all → TakesPart old.taken new.taken (whole_text plan all))
   AnswersSo old new streamed.OutOfMemory = Unit {0}
 
+-- the run is over without a fault of the source or of the wire and without a lost pair: the input is done or has a fault of its own, or no memory was to be had
+abbrev pub IsUnhurt : Streamed → Type 0
+IsUnhurt streamed.Done = Unit {0}
+IsUnhurt (streamed.Refused fault) = Unit {0}
+IsUnhurt (streamed.TooLong number) = Unit {0}
+IsUnhurt streamed.ReadFault = ⊥
+IsUnhurt (streamed.Lost stage part) = ⊥
+IsUnhurt streamed.WriteFault = ⊥
+IsUnhurt streamed.OutOfMemory = Unit {0}
+
 -- The source gave these bytes, of which this came into the run. Whatever comes behind the bytes, what came is the first that they say; and the run was told that no
 -- more comes only where that was all. Whatever the answer, what was put is a front of the text of the output over all that may come then, and so it was offered: each
 -- put was given what the one before it left, or the next lines. No count of faults fell.

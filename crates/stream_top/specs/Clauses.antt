@@ -27,6 +27,10 @@ pub record Outside : Type 0 where
   pub old : SinkTold
   pub new : SinkTold
 
+-- what a call changes, by what is told before it and behind it
+abbrev pub outside : (before after : FilesTold) → (was is : SourceTold) → (old new : SinkTold) → Outside
+outside before after was is old new = record { before = before; after = after; was = was; is = is; old = old; new = new }
+
 -- ---- what the words come to
 
 -- no status is one at which a file may have been saved
