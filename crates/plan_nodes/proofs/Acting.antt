@@ -1,6 +1,6 @@
 -- What comes of a task, from what the calls of the four kinds of nodes say.
 use Rattle.std.proofs.Common.{◌≡◌, ◌∙◌, ◌≤◌, ◌+◌, ℕ, Bool, List, [], ◌++◌, None, Result, Ok, Err, length, drop, refl, sym, ap, subst, arith, append-nil}
-use Rattle.std.specs.Prelude.{IfOk, OnErr}
+use Rattle.std.specs.Prelude.{◌↔◌, IfOk, OnErr}
 use Rattle.std.proofs.lemmas.List.{drop_at, length-append, take-append-drop}
 use mathlib.Core.List.{IsPrefix}
 use Rattle.tuple_edge.specs.Input.{Input}
@@ -47,8 +47,10 @@ abbrev pub came_of : NodeState → Bool × List Input
 came_of s = (has_ended s, inputs_in s)
 
 -- where what came is the same, the same may be the inputs
-pub admits_by : (old new : NodeState) → came_of new ≡ came_of old → (inputs : List Input) → Admits new inputs → Admits old inputs
-admits_by old new same inputs may = subst (λ (came : Bool × List Input). ingress.AreCome came.0 came.1 inputs) same may
+pub admits_by : (old new : NodeState) → came_of new ≡ came_of old → (inputs : List Input) → Admits new inputs ↔ Admits old inputs
+admits_by old new same inputs =
+    let of : Bool × List Input → Type 0 = λ came. ingress.AreCome came.0 came.1 inputs in
+    (subst of same, subst of (sym same))
 
 module _ (old new : NodeState) (t : Task) (packets : List (NodeId × Body)) where
   -- it was done

@@ -1,6 +1,6 @@
 -- Pieces of work one after another, and makes, as the loops over them do them: one more at the end, and an end that lacked memory.
 use Rattle.std.proofs.Common.{◌≡◌, ◌∙◌, ◌≤◌, ◌+◌, ◌*◌, ◌++◌, ◌∷◌, [], ℕ, zero, suc, List, Ok, Err, length, drop, take, refl, ap, subst, sym, arith, add-one, append-nil, append_assoc}
-use Rattle.std.specs.Prelude.{replicate}
+use Rattle.std.specs.Prelude.{◌↔◌, replicate}
 use Rattle.std.proofs.lemmas.List.{drop-append-le, length-append, length-drop, take-append-le, take_all}
 use mathlib.Core.List.{IsPrefix}
 use Rattle.tuple_edge.specs.Input.{Input}
@@ -40,6 +40,10 @@ pieces_more (suc count) each xs ys whole one =
 abbrev Does : Task → NodeState → NodeState → List (NodeId × Body) → Type 0
 Does = DoesTask id_of IsOfPlan StandsFor
 
+-- what may be the inputs is the same over two ends of what stays
+pub both_ways : (Old Mid New : List Input → Type 0) → ((inputs : List Input) → Mid inputs ↔ Old inputs) → ((inputs : List Input) → New inputs ↔ Mid inputs) → (inputs : List Input) → New inputs ↔ Old inputs
+both_ways Old Mid New before after inputs = (λ may. (before inputs).0 ((after inputs).0 may), λ may. (after inputs).1 ((before inputs).1 may))
+
 -- A node did so many pieces of work, each of which sent so many of these packets.
 pub record HasRun (old new : NodeState) (count each : ℕ) (packets : List (NodeId × Body)) : Type 0 where
   pub steps : StepByStep (Does task.Work) old new (pieces count each packets)
@@ -49,7 +53,7 @@ pub record HasRun (old new : NodeState) (count each : ℕ) (packets : List (Node
   pub of_plan : (plan : PlanView) → IsOfPlan plan old → IsOfPlan plan new
   pub rows : IsPrefix (rows_of old) (rows_of new)
   pub gone : gone_of new ≡ gone_of old
-  pub came : (inputs : List Input) → Admits new inputs → Admits old inputs
+  pub came : (inputs : List Input) → Admits new inputs ↔ Admits old inputs
 
 prefix_on : (xs ys zs : List Row) → IsPrefix xs ys → IsPrefix ys zs → IsPrefix xs zs
 prefix_on xs ys zs front more = (front.0 ++ more.0, sym (append_assoc xs front.0 more.0) ∙ ap (λ l. l ++ more.0) front.1 ∙ more.1)
@@ -66,7 +70,7 @@ run_begins old each packets none =
       of_plan = λ plan of. of;
       rows = ([], append-nil (rows_of old));
       gone = refl;
-      came = λ inputs may. may;
+      came = λ inputs. (λ may. may, λ may. may);
     }
 
 does_task : (t : Task) (old new : NodeState) (packets : List (NodeId × Body)) → HasDone old new t (Ok Did) packets → Does t old new packets
@@ -92,7 +96,7 @@ run_more old mid new count each before after run many fits work =
       of_plan = λ plan of. work.done.acted.of_plan plan (run.of_plan plan of);
       rows = prefix_on (rows_of old) (rows_of mid) (rows_of new) run.rows work.done.acted.rows;
       gone = work.done.acted.gone ∙ run.gone;
-      came = λ inputs may. run.came inputs (work.done.acted.inputs inputs may);
+      came = both_ways (Admits old) (Admits mid) (Admits new) run.came work.done.acted.inputs;
     }
 
 -- ---- an end
@@ -137,7 +141,7 @@ run_failed old mid new e (suc count) each before after run some work =
       of_plan = λ plan of. work.done.acted.of_plan plan (run.of_plan plan of);
       rows = prefix_on (rows_of old) (rows_of mid) (rows_of new) run.rows work.done.acted.rows;
       gone = work.done.acted.gone ∙ run.gone;
-      came = λ inputs may. run.came inputs (work.done.acted.inputs inputs may);
+      came = both_ways (Admits old) (Admits mid) (Admits new) run.came work.done.acted.inputs;
     })
 
 -- ---- makes

@@ -23,7 +23,7 @@ pub(crate) fn ingress_makes(
     ensures most { IfOk result (λ count. count ≤ most) }
     ensures unchanged { OnErr result (StandsLike (state.Ingress node.old) (state.Ingress node.new)) }
     ensures of_plan { (plan : PlanView) → IsOfPlan plan (state.Ingress node.old) → IsOfPlan plan (state.Ingress node.new) }
-    ensures inputs { (inputs : List Input) → Admits (state.Ingress node.new) inputs → Admits (state.Ingress node.old) inputs }
+    ensures inputs { (inputs : List Input) → Admits (state.Ingress node.new) inputs ↔ Admits (state.Ingress node.old) inputs }
 {
     for done in 0..most {
         if !holds_few(node, plan.hold()) {

@@ -1,11 +1,11 @@
 use Rattle.std.proofs.Common.{◌≡◌, ◌≤◌, [], Ok, Err, arith, refl, subst, sym}
 use Rattle.tuple_edge.specs.declared.event.Worked.TheVariants.{Did}
 use Rattle.node_tasks.specs.declared.task.Task.TheVariants as task
-use Rattle.plan_nodes.specs.States.{EachHoldsFew, HasDone, HasMade, StandsFor}
+use Rattle.plan_nodes.specs.States.{Admits, EachHoldsFew, HasDone, HasMade, StandsFor}
 use Rattle.plan_nodes.specs.declared.state.NodeState.{NodeState}
 use Rattle.plan_nodes.specs.declared.state.NodeState.TheVariants as state
 use Rattle.plan_nodes.proofs.Acting.{ingress_made_so}
-use Rattle.plan_nodes.proofs.Stepping.{make_failed, make_more}
+use Rattle.plan_nodes.proofs.Stepping.{both_ways, make_failed, make_more}
 use Rattle.plan_nodes.proofs.making.ingress_makes.Goals as goal
 
 pub loop-done-preserved : goal.loop-done-preserved
@@ -16,7 +16,7 @@ loop-done-preserved c =
     let act = subst (λ r. HasDone (state.Ingress c.loop-done.node) (state.Ingress c.make.new.self) task.Make r []) did (ingress_made_so c.loop-done.node c.make.new.self c.make.result e.made e.unchanged e.of_plan e.course) in
     let wanted = subst (λ h. EachHoldsFew h c.loop-done.node) c.hold.ensures.value (c.if-not-holds_few.ensures.0 refl) in record {
       made = make_more c.args.plan.now (state.Ingress c.args.node.now) (state.Ingress c.loop-done.node) (state.Ingress c.make.new.self) c.loop-done.done was.made wanted act;
-      came = λ inputs may. was.came inputs (act.acted.inputs inputs may);
+      came = both_ways (Admits (state.Ingress c.args.node.now)) (Admits (state.Ingress c.loop-done.node)) (Admits (state.Ingress c.make.new.self)) was.came act.acted.inputs;
       of_plan = λ plan of. c.make.ensures.of_plan plan (was.of_plan plan of);
     }
 
@@ -39,16 +39,19 @@ returns-else-done-eq0-clause-made c =
     make_failed c.args.plan.now (state.Ingress c.args.node.now) (state.Ingress c.loop-done.node) (state.Ingress c.make.new.self) c.in-Err.lack c.loop-done.done c.loop-done.invariant.made some act
 
 pub returns-then-done-eq0-clause-inputs : goal.returns-then-done-eq0-clause-inputs
-returns-then-done-eq0-clause-inputs c = λ inputs may.
+returns-then-done-eq0-clause-inputs c =
     let e = c.make.ensures in
-    c.loop-done.invariant.came inputs ((ingress_made_so c.loop-done.node c.make.new.self c.make.result e.made e.unchanged e.of_plan e.course).acted.inputs inputs may)
+    both_ways (Admits (state.Ingress c.args.node.now)) (Admits (state.Ingress c.loop-done.node)) (Admits (state.Ingress c.make.new.self)) c.loop-done.invariant.came
+    (ingress_made_so c.loop-done.node c.make.new.self c.make.result e.made e.unchanged e.of_plan e.course).acted.inputs
 
 pub returns-else-done-eq0-clause-inputs : goal.returns-else-done-eq0-clause-inputs
-returns-else-done-eq0-clause-inputs c = λ inputs may.
+returns-else-done-eq0-clause-inputs c =
     let e = c.make.ensures in
-    c.loop-done.invariant.came inputs ((ingress_made_so c.loop-done.node c.make.new.self c.make.result e.made e.unchanged e.of_plan e.course).acted.inputs inputs may)
+    both_ways (Admits (state.Ingress c.args.node.now)) (Admits (state.Ingress c.loop-done.node)) (Admits (state.Ingress c.make.new.self)) c.loop-done.invariant.came
+    (ingress_made_so c.loop-done.node c.make.new.self c.make.result e.made e.unchanged e.of_plan e.course).acted.inputs
 
 pub returns-in-Ok-Idle-clause-inputs : goal.returns-in-Ok-Idle-clause-inputs
-returns-in-Ok-Idle-clause-inputs c = λ inputs may.
+returns-in-Ok-Idle-clause-inputs c =
     let e = c.make.ensures in
-    c.loop-done.invariant.came inputs ((ingress_made_so c.loop-done.node c.make.new.self c.make.result e.made e.unchanged e.of_plan e.course).acted.inputs inputs may)
+    both_ways (Admits (state.Ingress c.args.node.now)) (Admits (state.Ingress c.loop-done.node)) (Admits (state.Ingress c.make.new.self)) c.loop-done.invariant.came
+    (ingress_made_so c.loop-done.node c.make.new.self c.make.result e.made e.unchanged e.of_plan e.course).acted.inputs

@@ -1,8 +1,8 @@
 use Rattle.std.proofs.Common.{◌≡◌, ◌≤◌, ◌+◌, ◌∙◌, Ok, Err, arith, length, subst, sym}
 use Rattle.tuple_edge.specs.Limits.{most_packets}
 use Rattle.tuple_edge.specs.declared.event.Worked.TheVariants.{Did}
-use Rattle.plan_nodes.specs.States.{HasWorkedOnce}
-use Rattle.plan_nodes.proofs.Stepping.{run_failed, run_more}
+use Rattle.plan_nodes.specs.States.{Admits, HasWorkedOnce}
+use Rattle.plan_nodes.proofs.Stepping.{both_ways, run_failed, run_more}
 use Rattle.plan_nodes.proofs.state.NodeStateActs.work.Goals as goal
 
 pub loop-count-preserved : goal.loop-count-preserved
@@ -44,7 +44,7 @@ pub returns-clause-inputs : goal.returns-clause-inputs
 returns-clause-inputs c = c.loop-count.invariant.run.came
 
 pub returns-in-Ok-Idle-clause-inputs : goal.returns-in-Ok-Idle-clause-inputs
-returns-in-Ok-Idle-clause-inputs c = λ inputs may. c.loop-count.invariant.run.came inputs (c.work_once.ensures.done.acted.inputs inputs may)
+returns-in-Ok-Idle-clause-inputs c = both_ways (Admits c.args.self.now) (Admits c.loop-count.self) (Admits c.work_once.new.self) c.loop-count.invariant.run.came c.work_once.ensures.done.acted.inputs
 
 pub returns-else-count-eq0-clause-inputs : goal.returns-else-count-eq0-clause-inputs
-returns-else-count-eq0-clause-inputs c = λ inputs may. c.loop-count.invariant.run.came inputs (c.work_once.ensures.done.acted.inputs inputs may)
+returns-else-count-eq0-clause-inputs c = both_ways (Admits c.args.self.now) (Admits c.loop-count.self) (Admits c.work_once.new.self) c.loop-count.invariant.run.came c.work_once.ensures.done.acted.inputs
