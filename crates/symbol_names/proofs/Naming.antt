@@ -1,7 +1,6 @@
 -- Rows under names that go on from those that are known.
-use Rattle.std.proofs.Common.{ℕ, ℤ, zero, suc, pos, negsuc, ◌≡◌, ◌+◌, ◌≤◌, ◌<◌, ◌≤ℤ◌, List, [], ◌∷◌, ◌++◌, codes, length, map, Option, Some, None, option_map, slice_get, unwrap_or, refl, sym, ap, subst, ◌∙◌, arith}
+use Rattle.std.proofs.Common.{ℕ, ℤ, zero, suc, pos, negsuc, ◌≡◌, ◌+◌, ◌≤◌, ◌≤ℤ◌, List, [], ◌∷◌, ◌++◌, codes, length, map, Option, option_map, slice_get, unwrap_or, refl, ap, ◌∙◌, arith}
 use Rattle.std.proofs.lemmas.Int.{ints}
-use Rattle.std.proofs.lemmas.List.{length-map, map_push}
 use Rattle.std.proofs.lemmas.List.Elements.{All-head, All-tail}
 use Rattle.std.proofs.lemmas.Option.{slice_get-map}
 use Rattle.std.specs.List.{All, flat_map}
@@ -9,7 +8,7 @@ use mathlib.Core.List.{IsPrefix}
 use Rattle.tuple_edge.specs.declared.row.Row.{Row}
 use Rattle.trade_text.specs.Symbols.{symbol_at}
 use Rattle.trade_text.specs.Text.{row_line}
-use Rattle.symbol_names.specs.Names.{IsKnown, IsUnknownAt, name_of, names_of}
+use Rattle.symbol_names.specs.Names.{IsKnown, name_of}
 use Rattle.symbol_names.specs.declared.symbol_name.SymbolName.{SymbolName}
 
 -- a place within a list holds the same where the list goes on

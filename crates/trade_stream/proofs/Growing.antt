@@ -16,12 +16,11 @@ use Rattle.trade_text.specs.Trades.{symbol_in, trade_in}
 use Rattle.trade_text.specs.declared.error.Field.{Field}
 use Rattle.trade_text.specs.declared.error.Field.TheVariants as field
 use Rattle.trade_text.specs.declared.error.ReadError.TheVariants as error
-use Rattle.trade_text.specs.declared.fields.Fault.TheVariants as fault
 use Rattle.trade_text.specs.declared.trade_file.TradeForm.{TradeForm}
 
 -- ---- readings in steps
 
-err_not_ok : {A E : Type 0} {e : E} {x : A} → Err {A} {E} e ≡ Ok x → ⊥
+err_not_ok : {A E : Type 0} {e : E} {x : A} → ◌≡◌ {A = Result A E} (Err e) (Ok x) → ⊥
 err_not_ok e = cc
 
 -- a step that came to a value
@@ -44,18 +43,22 @@ grows_at None known name next is = go (nat_lt (length known) 4096) is
     go true is = let same : (length known + 1, known ++ name ∷ []) ≡ next = cc in inr (name, ap (λ (p : ℕ × List (List ℕ)). p.1) (sym same))
     go false is = cc
 
-grows_by : (number : ℕ) (known : List (List ℕ)) (name : List ℕ) (at : Option (ℕ × List (List ℕ))) (next : ℕ × List (List ℕ)) → numbered known name ≡ at → located number field.Symbol (ok_or at fault.Range) ≡ Ok next
-    → Grows known next.1
-grows_by number known name None next is read = absurd (err_not_ok read)
-grows_by number known name (Some found) next is read =
+-- why a field is refused
+abbrev FaultOf : {A E : Type 0} → (List ℕ → Result A E) → Type 0
+FaultOf {A} {E} reading = E
+
+grows_by : (number : ℕ) (known : List (List ℕ)) (name : List ℕ) (why : FaultOf symbol_of) (at : Option (ℕ × List (List ℕ))) (next : ℕ × List (List ℕ)) → numbered known name ≡ at
+    → located number field.Symbol (ok_or at why) ≡ Ok next → Grows known next.1
+grows_by number known name why None next is read = absurd (err_not_ok read)
+grows_by number known name why (Some found) next is read =
     let same : found ≡ next = cc in
     grows_at (position (bytes_eq name) known) known name next (is ∙ ap Some same)
 
 grows_in : (number : ℕ) (known : List (List ℕ)) (text : List ℕ) (next : ℕ × List (List ℕ)) → symbol_in number known text ≡ Ok next → Grows known next.1
 unfolding symbol_in
 grows_in number known text next is =
-    let a = came (located number field.Symbol (symbol_of text)) (λ name. located number field.Symbol (ok_or (numbered known name) fault.Range)) next is in
-    grows_by number known a.0 (numbered known a.0) next refl a.2
+    let a = came (located number field.Symbol (symbol_of text)) _ next is in
+    grows_by number known a.0 _ (numbered known a.0) next refl a.2
 
 -- ---- trades
 

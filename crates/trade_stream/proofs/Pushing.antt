@@ -1,13 +1,13 @@
 -- A byte more of trades that are parsed from bytes that are pushed.
-use Rattle.std.proofs.Common.{ℕ, zero, suc, ◌≡◌, ◌+◌, ◌≤◌, ◌==◌, ◌&&◌, Bool, true, false, List, [], ◌∷◌, ◌++◌, if◌then◌else◌, length, take, Option, Some, None, Ok, Err, get_or, Result, refl, sym, ap, subst, ◌∙◌, arith}
+use Rattle.std.proofs.Common.{ℕ, zero, suc, ◌≡◌, ◌+◌, ◌≤◌, ◌<◌, ◌==◌, ◌&&◌, Bool, true, false, List, [], ◌∷◌, ◌++◌, if◌then◌else◌, length, take, Option, Some, None, Ok, Err, get_or, Result, OnOk, inl, inr, ◌⊎◌, refl, sym, ap, subst, ◌∙◌, arith}
 use Rattle.std.proofs.lemmas.Bool.{false≢true}
 use Rattle.std.proofs.lemmas.Bool.Decides.{nat_tests}
-use Rattle.csv.specs.Machine.{Read as Found, ends_at_end, field_after, fields_after, is_end, next_record, step}
-use Rattle.csv.specs.Reading.{default_config, records, strip_bom}
+use Rattle.csv.specs.Machine.{Read as Found, ends_at_end, next_record, step}
+use Rattle.csv.specs.Reading.{default_config, strip_bom}
 use Rattle.csv.specs.Records.{fields_of}
 use Rattle.csv.specs.declared.parser.State.{State}
 use Rattle.csv.specs.declared.parser.State.TheVariants as state
-use Rattle.trade_stream.specs.Pushed.{AtFront, AtRecord, IsReady, IsUnmarked, TellsLast, TellsOn, front_text, has_header, is_front, is_of_mark, mark_bytes, next_behind, Standing, at_start, standing_after, standing_in, standing_of, standing_on, stands_behind, stands_by, told_behind, told_by_header, told_by_trade, told_found, told_in}
+use Rattle.trade_stream.specs.Pushed.{AtFront, AtRecord, IsReady, IsUnmarked, LeavesFront, TellsLast, TakesMark, TellsOn, Took, front_text, has_header, is_front, is_of_mark, mark_bytes, next_behind, at_start, standing_after, standing_in, standing_of, standing_on, stands_behind, stands_by, told_behind, told_by_header, told_by_trade, told_found, told_in}
 use Rattle.trade_text.specs.Records.{records_left, starts_with_mark}
 use Rattle.trade_text.specs.StreamRecords.{TakesByte, TakesEnd}
 use Rattle.trade_text.specs.RecordStates.{state_of}
@@ -18,6 +18,8 @@ use Rattle.trade_text.specs.declared.error.StreamError.TheVariants as stream
 use Rattle.tuple_edge.specs.declared.row.Row.{Row}
 use Rattle.trade_stream.specs.declared.parsing.Parsing.{Parsing}
 use Rattle.trade_text.specs.declared.record_parser.RecordParser.{RecordParser}
+use Rattle.trade_text.specs.declared.record_state.RecordState.{RecordState}
+use Rattle.trade_text.specs.declared.record_state.RecordState.TheVariants as record_state
 use Rattle.trade_stream.specs.declared.stage.Stage.{Stage}
 use Rattle.trade_stream.specs.declared.stage.Stage.TheVariants as stage
 use Rattle.trade_text.specs.declared.trade_file.TradeForm.{TradeForm}
@@ -174,6 +176,59 @@ module _ (old new : Parsing) (byte : ℕ) (ready : IsReady old) (next : is_of_ma
       let told : told_behind old (byte ∷ rest) ≡ no_more (Some error.Header) [] = ap (λ s. told_in s old (byte ∷ rest)) marked ∙ ap told_of_text (whole two) in
       (ap (λ (t : Told). t.rows) told, ap (λ (t : Told). t.fault) told)
 
+module _ (old : Parsing) (byte : ℕ) (ready : IsReady old) (next : is_of_mark old byte ≡ true) where
+  -- a byte of a mark that isn't whole yet
+  pub takes_front : old.bytes + 1 < 3 → Took old (byte ∷ []) (record old { bytes = old.bytes + 1 })
+  takes_front some = record {
+    ready = record {
+      partial = ready.partial;
+      known = ready.known;
+      within = omega (arith, some);
+      front = λ front. let at = ready.front front in record { few = omega (arith, some); state = at.state; field = at.field; fields = at.fields };
+      new = ready.new;
+      first = ready.first;
+    };
+    told = λ rest. (mark_goes_on old (record old { bytes = old.bytes + 1 }) byte ready next rest refl refl).0;
+    standing = λ rest. (mark_goes_on old (record old { bytes = old.bytes + 1 }) byte ready next rest refl refl).1;
+    form = refl;
+  }
+
+  -- the last byte of the first mark
+  pub drops_mark : (old.stage ≡ stage.Start) ⊎ ((old.stage ≡ stage.Header) ⊎ (old.stage ≡ stage.Trades)) → 3 ≤ old.bytes + 1 → Took old (byte ∷ []) (record old { stage = stage.Marked; bytes = 0 })
+  drops_mark is all = record {
+    ready = record {
+      partial = ready.partial;
+      known = ready.known;
+      within = omega arith;
+      front = λ _. record { few = omega arith; state = at.state; field = at.field; fields = at.fields };
+      new = λ _. ready.new (ap has_header start);
+      first = λ _. ready.first (ap has_header start);
+    };
+    told = λ rest. (mark_dropped old marked byte ready next rest start two refl refl).0;
+    standing = λ rest. (mark_dropped old marked byte ready next rest start two refl refl).1;
+    form = refl;
+  }
+    where
+      marked : Parsing
+      marked = record old { stage = stage.Marked; bytes = 0 }
+
+      front : is_front old.stage ≡ true
+      front = (both_hold (is_front old.stage) (byte == get_or mark_bytes old.bytes 0) next).0
+
+      at : AtFront old
+      at = ready.front front
+
+      two : old.bytes ≡ 2
+      two = omega (arith, at.few, all)
+
+      start_of : (old.stage ≡ stage.Start) ⊎ ((old.stage ≡ stage.Header) ⊎ (old.stage ≡ stage.Trades)) → old.stage ≡ stage.Start
+      start_of (inl is) = is
+      start_of (inr (inl is)) = absurd (false≢true (ap is_front (sym is) ∙ front))
+      start_of (inr (inr is)) = absurd (false≢true (ap is_front (sym is) ∙ front))
+
+      start : old.stage ≡ stage.Start
+      start = start_of is
+
 -- the front of a mark becomes that of the header
 module _ (old new : Parsing) (front : AtFront old) (state_is : state_of new.record.state ≡ after_front old.bytes) (field_is : new.record.field.items ≡ take old.bytes mark_bytes) (fields_are : fields_of new.fields ≡ []) where
   next_is : (rest : List ℕ) → next_record default_config state.StartRecord [] [] (front_text old rest) ≡ next_behind new rest
@@ -200,6 +255,49 @@ module _ (old new : Parsing) (front : AtFront old) (state_is : state_of new.reco
       )
       go stage.Header is at = absurd (false≢true at)
       go stage.Trades is at = absurd (false≢true at)
+
+pub fronts : (s : Stage) → (s ≡ stage.Start) ⊎ (s ≡ stage.Marked) → is_front s ≡ true
+fronts s (inl is) = ap is_front is
+fronts s (inr is) = ap is_front is
+
+no_header : (s : Stage) → is_front s ≡ true → has_header s ≡ false
+no_header stage.Start front = refl
+no_header stage.Marked front = refl
+no_header stage.Header front = refl
+no_header stage.Trades front = absurd (false≢true front)
+
+-- where a record stands that begins with the front of a mark
+begun_at : (count : ℕ) (old new : RecordState) → count ≤ 2 → old ≡ record_state.StartRecord → (take count mark_bytes ≡ [] → new ≡ old) → (0 < length (take count mark_bytes) → new ≡ record_state.InField)
+    → state_of new ≡ after_front count
+begun_at zero old new few start nothing some = ap state_of (nothing refl ∙ start)
+begun_at (suc zero) old new few start nothing some = ap state_of (some (omega arith))
+begun_at (suc (suc zero)) old new few start nothing some = ap state_of (some (omega arith))
+begun_at (suc (suc (suc n))) old new few start nothing some = absurd (omega (arith, few))
+
+pub leaves_front : (old : Parsing) (begun : RecordParser) → IsReady old → is_front old.stage ≡ true → begun.field.items ≡ take old.bytes mark_bytes
+    → (take old.bytes mark_bytes ≡ [] → begun.state ≡ old.record.state) → (0 < length (take old.bytes mark_bytes) → begun.state ≡ record_state.InField)
+    → LeavesFront old (record old { stage = stage.Header; «record» = begun })
+leaves_front old begun ready front field_is nothing some = record {
+  ready = record { partial = ready.partial; known = ready.known; within = ready.within; front = λ none. absurd (false≢true none); new = λ _. ready.new none; first = λ _. ready.first none };
+  left = refl;
+  told = λ rest unmarked. (front_left old new at state_is field_is at.fields front refl (ready.first none) refl rest unmarked).0;
+  standing = λ rest unmarked. (front_left old new at state_is field_is at.fields front refl (ready.first none) refl rest unmarked).1;
+  form = refl;
+  number = refl;
+  bytes = refl;
+}
+  where
+    new : Parsing
+    new = record old { stage = stage.Header; «record» = begun }
+
+    none : has_header old.stage ≡ false
+    none = no_header old.stage front
+
+    at : AtFront old
+    at = ready.front front
+
+    state_is : state_of begun.state ≡ after_front old.bytes
+    state_is = begun_at old.bytes old.record.state begun.state at.few at.state nothing some
 
 -- ---- one byte
 
@@ -335,3 +433,81 @@ pub tells_last : (result : Result (Option Row) StreamError) (before told : Told)
 tells_last (Ok None) before told symbols first tells = first ∙ tells
 tells_last (Ok (Some row)) before told symbols first tells = first ∙ tells
 tells_last (Err e) before told symbols first tells = subst (IsFaultOf e) (sym first) tells
+
+-- a byte that ends no record
+pub pushes_on : (old same left new : Parsing) (byte : ℕ) → TakesMark false old byte same → LeavesFront same left → TakesByte left.record (fields_of left.fields) byte false new.record (fields_of new.fields)
+    → new.stage ≡ left.stage → new.number ≡ left.number → new.bytes ≡ left.bytes + 1 → new.form ≡ left.form → (rest : List ℕ)
+    → (told_behind old (byte ∷ rest) ≡ told_behind new rest) × (standing_on old (byte ∷ rest) ≡ standing_on new rest)
+pushes_on old same left new byte mark leaves t stage_is number_is bytes_is form_is rest =
+    let l = subst (λ (p : Parsing). LeavesFront p left) mark.0 leaves in
+    let on = pushed_on left new byte l.left t stage_is number_is bytes_is form_is rest in
+    (l.told (byte ∷ rest) (mark.1 rest) ∙ on.0, l.standing (byte ∷ rest) (mark.1 rest) ∙ on.1)
+
+-- what is told at the start of the next record, if a call got there
+at_next : (result : Result (Option Row) StreamError) (told : Told) (ended new : Parsing) (rest : List ℕ) → OnOk result (AtRecord ended new)
+    → TellsOn result told (told_by_trade new.number new.form (next_record default_config (state_of ended.record.state) [] [] rest)) → TellsOn result told (told_behind new rest)
+at_next (Ok row) told ended new rest at tells = subst (TellsOn (Ok row) told) (sym (at_record ended new at rest).0) tells
+at_next (Err e) told ended new rest at tells = tells
+
+module _ (old same left ended new : Parsing) (byte : ℕ) (result : Result (Option Row) StreamError) (mark : TakesMark false old byte same) (leaves : LeavesFront same left)
+    (t : TakesByte left.record (fields_of left.fields) byte true ended.record (fields_of ended.fields)) (stage_is : ended.stage ≡ left.stage) (number_is : ended.number ≡ left.number) (form_is : ended.form ≡ left.form) where
+  l : LeavesFront old left
+  l = subst (λ (p : Parsing). LeavesFront p left) mark.0 leaves
+
+  before_is : (rest : List ℕ) → told_behind old (byte ∷ rest) ≡ told_found ended.stage ended.number ended.form (Some (fields_of ended.fields, state_of ended.record.state, rest))
+  before_is rest = l.told (byte ∷ rest) (mark.1 rest) ∙ (pushed_ends left byte ended l.left t rest).0 ∙ rw (stage_is, number_is, form_is) refl
+
+  -- a byte that ends a record, which was taken
+  pub pushes_end : OnOk result (AtRecord ended new)
+      → ((s : State) (text : List ℕ) → ends_at_end s ≡ false
+      → TellsOn result (told_found ended.stage ended.number ended.form (Some (fields_of ended.fields, s, text))) (told_by_trade new.number new.form (next_record default_config s [] [] text)))
+      → (rest : List ℕ) → TellsOn result (told_behind old (byte ∷ rest)) (told_behind new rest)
+  pushes_end at tells rest =
+      subst (λ (told : Told). TellsOn result told (told_behind new rest)) (sym (before_is rest))
+      (at_next result _ ended new rest at (tells (state_of ended.record.state) rest (ends_between left (fields_of left.fields) (fields_of ended.fields) byte ended t)))
+
+  stands_next : AtRecord ended new → new.number ≡ ended.number + 1 → (rest : List ℕ) → standing_on old (byte ∷ rest) ≡ standing_on new rest
+  stands_next at more rest =
+      l.standing (byte ∷ rest) (mark.1 rest) ∙ (pushed_ends left byte ended l.left t rest).1
+      ∙ ap (λ n. stands_behind (record { state = state_of ended.record.state; number = n; bytes = 0 }) rest) (ap (λ n. n + 1) (sym number_is) ∙ sym more) ∙ sym (at_record ended new at rest).1
+
+  pub stands_end : OnOk result (AtRecord ended new) → OnOk result (new.number ≡ ended.number + 1) → OnOk result ((rest : List ℕ) → standing_on old (byte ∷ rest) ≡ standing_on new rest)
+  stands_end at more = go result at more
+    where
+      go : (result : Result (Option Row) StreamError) → OnOk result (AtRecord ended new) → OnOk result (new.number ≡ ended.number + 1) → OnOk result ((rest : List ℕ) → standing_on old (byte ∷ rest) ≡ standing_on new rest)
+      go (Ok row) at more = stands_next at more
+      go (Err e) at more = tt
+
+-- ---- what the end tells
+
+module _ (old left ended : Parsing) (ready : IsReady old) (leaves : LeavesFront old left) where
+  by_found : told_behind old [] ≡ told_found left.stage left.number left.form (next_behind left [])
+  by_found = leaves.told [] (ends_unmarked old ready) ∙ in_found left.stage left [] leaves.left
+
+  -- the end of a record
+  pub ends_record : (new : Parsing) (result : Result (Option Row) StreamError) → TakesEnd left.record (fields_of left.fields) true ended.record (fields_of ended.fields)
+      → ended.stage ≡ left.stage → ended.number ≡ left.number → ended.form ≡ left.form
+      → ((s : State) (text : List ℕ) → ends_at_end s ≡ false
+      → TellsOn result (told_found ended.stage ended.number ended.form (Some (fields_of ended.fields, s, text))) (told_by_trade new.number new.form (next_record default_config s [] [] text)))
+      → TellsLast result (told_behind old []) new.form.symbols
+  ends_record new result t stage_is number_is form_is tells =
+      tells_last result (told_behind old []) _ new.form.symbols
+      (by_found ∙ ap (told_found left.stage left.number left.form) (found_last left ended t) ∙ rw (stage_is, number_is, form_is) refl)
+      (subst (λ next. TellsOn result (told_found ended.stage ended.number ended.form (Some (fields_of ended.fields, state.StartRecord, []))) (told_by_trade new.number new.form next)) no_record (tells state.StartRecord [] refl))
+
+  none_by : ends_at_end (state_of left.record.state) ≡ false → told_behind old [] ≡ told_found left.stage left.number left.form None
+  none_by between = by_found ∙ ap (told_found left.stage left.number left.form) (found_none left between)
+
+  -- the end behind the last trade
+  pub ends_trades : ends_at_end (state_of left.record.state) ≡ false → left.stage ≡ stage.Trades → told_behind old [] ≡ no_more None left.form.symbols
+  ends_trades between is = none_by between ∙ ap (λ s. told_found s left.number left.form None) is
+
+  -- the end before a header
+  pub ends_early : ends_at_end (state_of left.record.state) ≡ false → (left.stage ≡ stage.Start) ⊎ ((left.stage ≡ stage.Marked) ⊎ (left.stage ≡ stage.Header))
+      → ((told_behind old []).rows ≡ []) × ((told_behind old []).fault ≡ Some error.Header)
+  ends_early between is = let told = none_by between ∙ early is in (ap (λ (t : Told). t.rows) told, ap (λ (t : Told). t.fault) told)
+    where
+      early : (left.stage ≡ stage.Start) ⊎ ((left.stage ≡ stage.Marked) ⊎ (left.stage ≡ stage.Header)) → told_found left.stage left.number left.form None ≡ no_more (Some error.Header) []
+      early (inl is) = ap (λ s. told_found s left.number left.form None) is
+      early (inr (inl is)) = ap (λ s. told_found s left.number left.form None) is
+      early (inr (inr is)) = ap (λ s. told_found s left.number left.form None) is

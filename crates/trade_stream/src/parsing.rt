@@ -80,12 +80,14 @@ impl Parsing {
         if self.bytes < 3 {
             return Ok(true);
         }
-        if self.stage == Stage::Marked {
-            return Err(StreamError::Refused(ReadError::Header));
+        match self.stage {
+            Stage::Marked => Err(StreamError::Refused(ReadError::Header)),
+            Stage::Start | Stage::Header | Stage::Trades => {
+                self.stage = Stage::Marked;
+                self.bytes = 0;
+                Ok(true)
+            }
         }
-        self.stage = Stage::Marked;
-        self.bytes = 0;
-        Ok(true)
     }
 
     // What came of a mark, where no whole one comes, is the front of the header.
