@@ -10,8 +10,7 @@ use Rattle.plan_reader.specs.PlanView.{IsPlan, PlanView}
 use Rattle.pair_machine.specs.Counts.{flow_of}
 use Rattle.pair_machine.specs.Drain.{IsDrainable}
 use Rattle.pair_machine.specs.Flow.{Flow}
-use Rattle.pair_machine.specs.Joint.{AreDistinct, AreRising, IsLog, Logged}
-use Rattle.pair_machine.specs.Lists.{Among, Each}
+use Rattle.pair_machine.specs.Lists.{Among}
 use Rattle.pair_machine.specs.Machine.{State}
 use Rattle.pair_machine.specs.Sound.{IsSound}
 use Rattle.pair_machine.specs.declared.order.Order.{Order}
@@ -21,7 +20,6 @@ use Rattle.pair_machine.proofs.PlanNodes.{nodes_named}
 use Rattle.pair_machine.proofs.SoundKept.{opening_sound, sound_run}
 use Rattle.pair_machine.proofs.StepTurns.{HoldsOnOk}
 use Rattle.journal_writer.specs.Merged.{AreAscending, AreMergeable, Named, merged, merged_events}
-use Rattle.plan_nodes.specs.NodeOrder.{nodes_of}
 use Rattle.plan_nodes.specs.States.{StandsFor as NodeStands, id_of}
 use Rattle.plan_nodes.specs.declared.state.NodeState.{NodeState}
 use Rattle.plan_nodes.proofs.NodeOrder.{all_there}
@@ -30,9 +28,9 @@ use Rattle.flux_core.specs.Opening.{bare_core}
 use Rattle.flux_core.specs.Stands.{IsGiven, StandsFor, StationStands}
 use Rattle.flux_core.proofs.Contents.{id_contents, stands_in}
 use Rattle.partition_runner.specs.Parts.{named_kept}
-use Rattle.partition_runner.specs.Ran.{IsLegalKept, IsLegalWith, ReachesNodes, history_among}
+use Rattle.partition_runner.specs.Ran.{IsLegalCourse, IsLegalKept, ReachesNodes}
 use Rattle.partition_runner.specs.declared.ran.Left.{Left}
-use Rattle.partition_runner.proofs.Kept.{legal_kept}
+use Rattle.partition_runner.proofs.Kept.{course_kept}
 use Rattle.drained_run.proofs.Ascending.{nodes_ascend}
 use Rattle.drained_run.proofs.Logs.{is_log}
 use Rattle.drained_run.proofs.Nodes.{find}
@@ -45,16 +43,8 @@ pub record Ran : Type 0 where
   pub logs : List Named
 
 -- what a run promises of that, whether more inputs may come or not, and whether its rows were handed on or not
-pub record IsLegalRan (plan : PlanView) (inputs : List Input) (script : List Order) (ran : Ran) : Type 0 where
-  pub histories : map (λ (l : Named). l.0) ran.logs ≡ nodes_of plan
-  pub distinct : AreDistinct (map (λ (l : Named). l.0) ran.logs)
-  pub rising : Each (λ (l : Named). AreRising l.1) ran.logs
-  pub nodes_are : map id_of ran.nodes ≡ nodes_of plan
-  pub joint : (log : List Logged) → IsLog (history_among (λ (l : Named). l.0) (λ (l : Named). l.1) ran.logs) log → ReachesNodes plan inputs script ran.nodes log
-
-pub of_run : (plan : PlanView) (inputs : List Input) (script : List Order) (ran : Ran) → IsLegalWith plan inputs script (λ (l : Named). l.0) (λ (l : Named). l.1) ran.nodes ran.logs → IsLegalRan plan inputs script ran
-of_run plan inputs script ran run =
-    record { histories = run.histories; distinct = run.distinct; rising = run.rising; nodes_are = run.nodes_are; joint = run.joint }
+abbrev pub IsLegalRan : PlanView → List Input → List Order → Ran → Type 0
+IsLegalRan plan inputs script ran = IsLegalCourse plan inputs script (λ (l : Named). l.0) (λ (l : Named). l.1) ran.nodes ran.logs
 
 abbrev pub ran_of : {K : Type 0} → (K → LogView) → Left K → Ran
 ran_of kept left = record { nodes = left.nodes.items; logs = named_kept kept left.logs.items }
@@ -63,11 +53,14 @@ named_same : {K : Type 0} (kept : K → LogView) (logs : List K) → map {B = No
 named_same kept [] = refl
 named_same kept (l ∷ logs) = ap (λ ls. ((kept l).node, (kept l).entries) ∷ ls) (named_same kept logs)
 
+pub course_ran : {K : Type 0} (kept : K → LogView) (plan : PlanView) (inputs : List Input) (script : List Order) (left : Left K)
+    → IsLegalCourse plan inputs script (λ (l : K). (kept l).node) (λ (l : K). (kept l).entries) left.nodes.items left.logs.items → IsLegalRan plan inputs script (ran_of kept left)
+course_ran {K} kept plan inputs script left course =
+    course_kept (λ (l : Named). l.0) (λ (l : Named). l.1) (λ (l : K). (kept l).node) (λ (l : K). (kept l).entries) plan inputs script left.nodes.items (named_kept kept left.logs.items) left.logs.items
+    (named_same kept left.logs.items) course
+
 pub legal_ran : {K : Type 0} (kept : K → LogView) (plan : PlanView) (inputs : List Input) (script : List Order) (left : Left K) → IsLegalKept kept plan inputs script left → IsLegalRan plan inputs script (ran_of kept left)
-legal_ran {K} kept plan inputs script left run =
-    of_run plan inputs script (ran_of kept left)
-    (legal_kept (λ (l : Named). l.0) (λ (l : Named). l.1) (λ (l : K). (kept l).node) (λ (l : K). (kept l).entries) plan inputs script left.nodes.items (named_kept kept left.logs.items) left.logs.items
-    (named_same kept left.logs.items) run)
+legal_ran kept plan inputs script left run = course_ran kept plan inputs script left run.course
 
 -- ---- one log
 

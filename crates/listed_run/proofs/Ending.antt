@@ -35,7 +35,7 @@ module _ (plan : PlanView) (inputs : List Input) (script : List Order) (ran : Ra
       let ends : EndsSo plan inputs script (merged_events (named_histories ran.histories.items) ++ after) (emitted_by core) how =
       run_ends plan inputs script (ran_of ran) limits (legal_ran plan inputs script ran run) run.came old core before after how is none same_plan same_inputs drained in
       let whole : merged_events (named_histories ran.histories.items) ++ after ≡ all =
-      ap (λ es. es ++ after) (sym (same_events ran.histories.items run.distinct) ∙ sym merged) ∙ sym joined in
+      ap (λ es. es ++ after) (sym (same_events ran.histories.items run.course.distinct) ∙ sym merged) ∙ sym joined in
       let lined : events_of result.lines.items ≡ all = ap events_of lines ∙ events_lined first_line all in
       let own : EndsSo plan inputs script all result.rows.items result.drained =
       subst (λ (x : List Row × Drained). EndsSo plan inputs script all x.0 x.1) (λ j. (sym rows j, sym ended j)) (subst (λ es. EndsSo plan inputs script es (emitted_by core) how) whole ends) in

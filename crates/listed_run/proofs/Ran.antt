@@ -16,9 +16,9 @@ use Rattle.run_journal.specs.Logs.{AreMergeable, log_of_histories, nodes_of}
 use Rattle.journal_writer.specs.Merged.{Named, merged, merged_events}
 use Rattle.partition_runner.specs.Ran.{IsLegalRun}
 use Rattle.partition_runner.specs.declared.ran.Ran as ran
-use Rattle.partition_runner.proofs.Kept.{legal_kept}
+use Rattle.partition_runner.proofs.Kept.{course_kept}
 use Rattle.drained_run.proofs.Joined as joined
-use Rattle.drained_run.proofs.Joined.{IsLegalRan, of_run}
+use Rattle.drained_run.proofs.Joined.{IsLegalRan}
 
 -- ---- histories of nodes that differ
 
@@ -63,9 +63,8 @@ named_same (h ∷ hs) = ap (λ ls. (h.node, h.entries.items) ∷ ls) (named_same
 
 pub legal_ran : (plan : PlanView) (inputs : List Input) (script : List Order) (r : ran.Ran) → IsLegalRun plan inputs script r → IsLegalRan plan inputs script (ran_of r)
 legal_ran plan inputs script r run =
-    of_run plan inputs script (ran_of r)
-    (legal_kept (λ (l : Named). l.0) (λ (l : Named). l.1) (λ (h : History). h.node) (λ (h : History). h.entries.items) plan inputs script r.nodes.items (named_histories r.histories.items) r.histories.items
-    (named_same r.histories.items) run)
+    course_kept (λ (l : Named). l.0) (λ (l : Named). l.1) (λ (h : History). h.node) (λ (h : History). h.entries.items) plan inputs script r.nodes.items (named_histories r.histories.items) r.histories.items
+    (named_same r.histories.items) run.course
 
 pub mergeable : (plan : PlanView) (inputs : List Input) (script : List Order) (r : ran.Ran) → IsLegalRun plan inputs script r → AreMergeable r.histories.items
-mergeable plan inputs script r run = record { distinct = run.distinct; rising = run.rising }
+mergeable plan inputs script r run = record { distinct = run.course.distinct; rising = run.course.rising }

@@ -12,7 +12,7 @@ use Rattle.pair_machine.specs.Lists.{Each}
 use Rattle.pair_machine.specs.Numbers.{is_node}
 use Rattle.pair_machine.specs.declared.order.Order.{Order}
 use Rattle.plan_nodes.specs.declared.state.NodeState.{NodeState}
-use Rattle.partition_runner.specs.Ran.{IsLegalLeft, IsLegalRun, IsLegalWith, IsToldOf, history_among}
+use Rattle.partition_runner.specs.Ran.{IsLegalCourse, IsLegalLeft, IsLegalRun, IsLegalWith, IsToldOf, history_among}
 use Rattle.partition_runner.specs.declared.ran.Left.{Left}
 use Rattle.partition_runner.specs.declared.ran.Ran.{Ran}
 
@@ -48,19 +48,22 @@ module _ {H K : Type 0} (node_in : H → NodeId) (entries_in : H → List Stampe
       let rest : AreSame hs ks = cc e in
       λ i. if is_node (first i).0 n then (first i).1 else same_history hs ks n rest i
 
-  pub legal_kept : (plan : PlanView) (inputs : List Input) (script : List Order) (nodes : List NodeState) (hs : List H) (ks : List K) → AreSame hs ks
-      → IsLegalWith plan inputs script node_of entries_of nodes ks → IsLegalWith plan inputs script node_in entries_in nodes hs
-  legal_kept plan inputs script nodes hs ks e legal =
+  pub course_kept : (plan : PlanView) (inputs : List Input) (script : List Order) (nodes : List NodeState) (hs : List H) (ks : List K) → AreSame hs ks
+      → IsLegalCourse plan inputs script node_of entries_of nodes ks → IsLegalCourse plan inputs script node_in entries_in nodes hs
+  course_kept plan inputs script nodes hs ks e legal =
       let named = same_nodes hs ks e in
       record {
         histories = named ∙ legal.histories;
         distinct = subst AreDistinct (sym named) legal.distinct;
         rising = same_rising hs ks e legal.rising;
         nodes_are = legal.nodes_are;
-        came = legal.came;
-        held = legal.held;
         joint = λ log l. legal.joint log (record { in_order = l.in_order; whole = λ n. l.whole n ∙ same_history hs ks n e });
       }
+
+  pub legal_kept : (plan : PlanView) (inputs : List Input) (script : List Order) (nodes : List NodeState) (hs : List H) (ks : List K) → AreSame hs ks
+      → IsLegalWith plan inputs script node_of entries_of nodes ks → IsLegalWith plan inputs script node_in entries_in nodes hs
+  legal_kept plan inputs script nodes hs ks e legal =
+      record { course = course_kept plan inputs script nodes hs ks e legal.course; came = legal.came; held = legal.held }
 
 pub legal_told : (plan : PlanView) (inputs : List Input) (script : List Order) (left : Left LogView) (ran : Ran) → IsLegalLeft plan inputs script left → IsToldOf left ran → IsLegalRun plan inputs script ran
 legal_told plan inputs script left ran legal told =

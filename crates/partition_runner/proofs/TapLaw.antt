@@ -31,7 +31,7 @@ use Rattle.partition_runner.specs.Parts.{IsLeftOf, nodes_in}
 use Rattle.partition_runner.specs.Ran.{emitted_in}
 use Rattle.partition_runner.specs.declared.ran.Left.{Left}
 
-prefix_more : (xs ys zs : List Row) → IsPrefix xs ys → IsPrefix ys zs → IsPrefix xs zs
+pub prefix_more : (xs ys zs : List Row) → IsPrefix xs ys → IsPrefix ys zs → IsPrefix xs zs
 prefix_more xs ys zs a b = (a.0 ++ b.0, sym (append_assoc xs a.0 b.0) ∙ (ap (λ l. l ++ b.0) a.1 ∙ b.1))
 
 -- what begins nothing begins everything

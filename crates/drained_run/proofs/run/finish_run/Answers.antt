@@ -8,18 +8,18 @@ use Rattle.drained_run.proofs.Joined.{legal_ran, mergeable, ran_of}
 use Rattle.drained_run.proofs.run.finish_run.Goals as goal
 
 pub of-requires-clause-names : goal.of-requires-clause-names
-of-requires-clause-names g c κs within = c.requires.nodes_are
+of-requires-clause-names g c = c.requires.course.nodes_are
 
 pub of-requires-clause-given : goal.of-requires-clause-given
-of-requires-clause-given g c κs within =
+of-requires-clause-given g c =
     given c.args.job.now.plan.now (inputs_in c.args.job.now.trades.now) c.args.job.now.script.now (ran_of g.K.Keeps.kept c.args.left) c.stages-stages.ensures.limits
     (legal_ran g.K.Keeps.kept c.args.job.now.plan.now (inputs_in c.args.job.now.trades.now) c.args.job.now.script.now c.args.left c.requires) c.requires.came
 
 pub of-requires-clause-rows : goal.of-requires-clause-rows
-of-requires-clause-rows g c κs within = λ _. none_gone c.args.job.now.plan.now c.args.left.nodes.items c.requires.nodes_are c.requires.held
+of-requires-clause-rows g c = λ _. none_gone c.args.job.now.plan.now c.args.left.nodes.items c.requires.course.nodes_are c.requires.held
 
 pub of-requires-clause-came : goal.of-requires-clause-came
-of-requires-clause-came g c κs within =
+of-requires-clause-came g c =
     all_came c.args.job.now.plan.now (inputs_in c.args.job.now.trades.now) c.args.job.now.script.now (ran_of g.K.Keeps.kept c.args.left) c.stages-stages.ensures.limits
     (legal_ran g.K.Keeps.kept c.args.job.now.plan.now (inputs_in c.args.job.now.trades.now) c.args.job.now.script.now c.args.left c.requires) c.requires.came
 

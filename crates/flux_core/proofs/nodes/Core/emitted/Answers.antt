@@ -1,4 +1,4 @@
-use Rattle.std.proofs.Common.{◌≡◌, ◌∙◌, ◌++◌, List, [], ap, subst, sym}
+use Rattle.std.proofs.Common.{◌≡◌, ◌∙◌, ◌++◌, List, ap, subst, sym}
 use Rattle.tuple_edge.specs.declared.row.Row.{Row}
 use Rattle.ingress_egress.specs.EgressView.{IsFrontOf}
 use Rattle.pair_machine.specs.Output.{output}
