@@ -1,6 +1,6 @@
 // The one call that does what the words of the program ask for.
 ghost use Rattle.flux_top.specs.Outcome.{texts};
-ghost use Rattle.std.specs.Prelude.{◌≡◌, ◌≢◌, [], None, false};
+ghost use Rattle.std.specs.Prelude.{◌≡◌, [], None, false};
 ghost use Rattle.stream_feed.specs.declared.answer.Streamed.TheVariants as streamed;
 ghost use Rattle.stream_reader.specs.Parts.{view_of};
 ghost use Rattle.stream_top.specs.Clauses.{FallsShort, IsComplete, Refused, SaysAt, SaysLost, StaysAt, Streams, Unread, Untouched, outside};

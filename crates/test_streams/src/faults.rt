@@ -93,7 +93,7 @@ fn unread_at<R: Threads + Wait + Sync + Clock>(
     let came = came_to(rt, alloc, &call)?;
     Ok(came.status == 4
         && came.text.as_slice() == text.as_slice()
-        && came.says.as_slice() == b"flux_stream: -: cannot read\n")
+        && came.says.as_slice() == "flux_stream: -: cannot read\n".as_bytes())
 }
 
 fn first_not_unread<R: Threads + Wait + Sync + Clock>(
@@ -126,7 +126,7 @@ fn broken_at<R: Threads + Wait + Sync + Clock>(
     let whole = came.text.len() == text.len();
     let so = match came.status {
         0 => whole && number > 2,
-        5 => !whole && came.says.as_slice() == b"flux_stream: cannot write\n",
+        5 => !whole && came.says.as_slice() == "flux_stream: cannot write\n".as_bytes(),
         _ => false,
     };
     Ok(so && text.as_slice().starts_with(came.text.as_slice()))

@@ -69,7 +69,7 @@ fn writes_so<R: Threads + Wait + Sync + Clock>(
     let came = came_to(rt, alloc, &call)?;
     let all = came.status == 0 && came.text.as_slice() == text.as_slice();
     let front = came.status == 6
-        && came.says.as_slice() == b"flux_stream: pair 1.0 is lost\n"
+        && came.says.as_slice() == "flux_stream: pair 1.0 is lost\n".as_bytes()
         && text.as_slice().starts_with(came.text.as_slice());
     Ok(all || front && !safe)
 }
