@@ -147,13 +147,12 @@ fn run<R: Threads + Sync, F: Files, S: Sink, G: Gate>(
     ensures wants { StopsAtWant (F.told files.old).wants (F.told files.new).wants (IsWant result) }
     ensures quiet { IfErr result (λ stop. IsQuiet out.old out.new stop) }
 {
-    match read_words(alloc, words) {
-        Err(_) => Err(Stop::OutOfMemory),
-        Ok(None) => Err(Stop::Usage),
-        Ok(Some(command)) => match answered(rt, alloc, files, command, gate) {
-            Ok(outcome) => finish(alloc, NAME, files, out, &outcome),
-            Err(stop) => Err(stop),
-        },
+    match read_words(alloc, words)? {
+        None => Err(Stop::Usage),
+        Some(command) => {
+            let outcome = answered(rt, alloc, files, command, gate)?;
+            finish(alloc, NAME, files, out, &outcome)
+        }
     }
 }
 
@@ -177,7 +176,7 @@ fn answered<'a, R: Threads + Sync, F: Files, G: Gate>(
 }
 
 // What a command comes to.
-#[tactic(auto, using(crate::proofs::Endings::text_ends, crate::proofs::Courses::reads_none, crate::proofs::Courses::reads_stopped, crate::proofs::Courses::reads_then))]
+#[tactic(auto, using(crate::proofs::Endings::text_ends, crate::proofs::Courses::reads_none, crate::proofs::Courses::reads_passed, crate::proofs::Courses::reads_then))]
 fn outcome_of<'a, R: Threads + Sync, F: Files, G: Gate>(
     rt: &R,
     alloc: Global,
@@ -191,22 +190,22 @@ fn outcome_of<'a, R: Threads + Sync, F: Files, G: Gate>(
     ensures reads { OnlyReads (F.told files.old) (F.told files.new) result }
 {
     match command {
-        Command::Eval { plan, trades, cash } => match eval_text(alloc, files, plan, trades, cash) {
-            Ok(text) => Ok(alone(text)),
-            Err(stop) => Err(stop),
-        },
-        Command::Make { start, count } => match made_text(alloc, start, count) {
-            Ok(text) => Ok(alone(text)),
-            Err(stop) => Err(stop),
-        },
+        Command::Eval { plan, trades, cash } => {
+            let text = eval_text(alloc, files, plan, trades, cash)?;
+            Ok(alone(text))
+        }
+        Command::Make { start, count } => {
+            let text = made_text(alloc, start, count)?;
+            Ok(alone(text))
+        }
         Command::Move {
             plan,
             trades,
             moves,
-        } => match move_text(rt, alloc, files, plan, trades, moves) {
-            Ok(text) => Ok(alone(text)),
-            Err(stop) => Err(stop),
-        },
+        } => {
+            let text = move_text(rt, alloc, files, plan, trades, moves)?;
+            Ok(alone(text))
+        }
         Command::Run {
             plan,
             trades,
@@ -223,18 +222,18 @@ fn outcome_of<'a, R: Threads + Sync, F: Files, G: Gate>(
             trades,
             events,
             cash,
-        } => match replay_text(alloc, files, plan, trades, events, cash) {
-            Ok(text) => Ok(alone(text)),
-            Err(stop) => Err(stop),
-        },
+        } => {
+            let text = replay_text(alloc, files, plan, trades, events, cash)?;
+            Ok(alone(text))
+        }
         Command::Trio {
             plan,
             trades,
             events,
-        } => match text_of_trio(alloc, files, plan, trades, events) {
-            Ok(text) => Ok(alone(text)),
-            Err(stop) => Err(stop),
-        },
+        } => {
+            let text = text_of_trio(alloc, files, plan, trades, events)?;
+            Ok(alone(text))
+        }
     }
 }
 

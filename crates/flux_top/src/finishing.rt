@@ -32,13 +32,9 @@ pub fn finish<F: Files, S: Sink>(
     ensures wants { StopsAtWant (F.told files.old).wants (F.told files.new).wants (IsWant result) }
     ensures quiet { IfErr result (λ stop. IsQuiet out.old out.new stop) }
 {
-    match said_of(alloc, name, outcome.drained) {
-        Err(_) => Err(Stop::OutOfMemory),
-        Ok(lost) => match save(files, outcome) {
-            Ok(()) => written(out, name, outcome, lost),
-            Err(stop) => Err(stop),
-        },
-    }
+    let lost = said_of(alloc, name, outcome.drained)?;
+    save(files, outcome)?;
+    written(out, name, outcome, lost)
 }
 
 // Why a command stops whose run lost a pair.

@@ -35,7 +35,7 @@ empty_list [] e = refl
 empty_list (x ∷ xs) e = absurd (omega arith)
 
 module _ {A T : Type 0} (id : A → NodeId) where
-  ids_same : (vs : List (NodeView A T)) → ids_in id (parts_of id vs) ≡ ids_of (map (name_of id) vs)
+  pub ids_same : (vs : List (NodeView A T)) → ids_in id (parts_of id vs) ≡ ids_of (map (name_of id) vs)
   ids_same [] = refl
   ids_same (v ∷ vs) = ap (λ l. id v.state ∷ l) (ids_same vs)
 

@@ -93,7 +93,7 @@ fn look<N: RunNames, A: Acts + Send, K: Keeps + Send, M: Links, T: Draws + Send>
 
 /// The turns of one worker: in turn number k it tries the place of its own number and k. It ends after
 /// its turns, or where the halt word is set. Once it found nothing to do at any place it rests after each
-/// idle turn, since another thread may have to run before there is.
+/// idle turn, since another thread may have to run before there is, and it ends where it isn't to go on then.
 pub(crate) fn work<
     N: RunNames,
     A: Acts + Send,
@@ -123,8 +123,9 @@ pub(crate) fn work<
             Turned::Did => counts.idle = 0,
             Turned::Idle => {
                 counts.idle = counts.idle.saturating_add(1);
-                if counts.idle >= nodes as u64 {
-                    shared.gate.rest();
+                if counts.idle >= nodes as u64 && !shared.gate.rest() {
+                    board.halt(seat);
+                    return;
                 }
                 if look(board, seat, counts.idle) {
                     return;

@@ -29,7 +29,7 @@ pub(crate) fn tried_at<F: Files, I: Input>(
     }
 }
 
-// What was read, where a refusal is a fault and no reason to stop.
+// What was read, where a refusal is a fault and no reason to stop. Every other stop goes on; `?` would hand on a refusal too.
 fn tried<T>(read: Result<T, Stop>) -> Result<Result<T, String>, Stop>
     ensures { IsTried read result }
 {

@@ -50,10 +50,8 @@ fn handed_out<F: Files, S: Sink>(
     ensures wants { StopsAtWant (F.told files.old).wants (F.told files.new).wants (IsWant result) }
     ensures quiet { IfErr result (λ stop. IsQuiet out.old out.new stop) }
 {
-    match finish(alloc, NAME, files, out, outcome) {
-        Ok(()) => Ok(ending),
-        Err(stop) => Err(stop),
-    }
+    finish(alloc, NAME, files, out, outcome)?;
+    Ok(ending)
 }
 
 /// Saves the file of an answer, if it has one, and then writes its text.

@@ -38,7 +38,8 @@ impl Gate for Hold {
         }
     }
 
-    fn rest(&self) {
+    fn rest(&self) -> bool {
         yield_now();
+        true
     }
 }

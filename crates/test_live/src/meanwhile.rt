@@ -81,8 +81,9 @@ impl<'a> Gate for Holds<'a> {
         }
     }
 
-    fn rest(&self) {
+    fn rest(&self) -> bool {
         yield_now();
+        true
     }
 }
 

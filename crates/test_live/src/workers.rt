@@ -68,8 +68,9 @@ impl Gate for Workers {
         }
     }
 
-    fn rest(&self) {
+    fn rest(&self) -> bool {
         yield_now();
+        true
     }
 }
 

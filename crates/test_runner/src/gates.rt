@@ -24,8 +24,9 @@ impl Gate for HoldsFirst {
         }
     }
 
-    fn rest(&self) {
+    fn rest(&self) -> bool {
         yield_now();
+        true
     }
 }
 

@@ -160,10 +160,7 @@ fn explained<'a>(
         all: wanted.all,
         check: wanted.check,
     };
-    match answered(alloc, plan, &question, wanted.number) {
-        Ok(answer) => Ok(answer),
-        Err(stop) => Err(stop),
-    }
+    answered(alloc, plan, &question, wanted.number)
 }
 
 // The answer without movements.

@@ -4,23 +4,23 @@ use Rattle.flux_top.specs.Outcome.{course_of}
 use Rattle.flux_top.proofs.Endings.{asked_of, finished_keeps, finished_stops, finished_whole}
 use Rattle.flux_top.proofs.command.run.Goals as goal
 
-pub returns-in-Ok-clause-done : goal.returns-in-Ok-clause-done
-returns-in-Ok-clause-done g c =
+pub returns-in-Some-clause-done : goal.returns-in-Some-clause-done
+returns-in-Some-clause-done g c =
     let words = map string_bytes c.args.words.now in
-    let request = request_of c.in-Ok-Some.command in
-    finished_whole (g.F.Files.told c.args.files.now) (g.F.Files.told c.answered.new.files) (g.F.Files.told c.finish.new.files) words c.in-Ok.outcome c.in-Ok.ensures.reads.contents (course_of request)
-    (g.S.Sink.told c.args.out.now) (g.S.Sink.told c.finish.new.out) c.finish.result (asked_of words request (sym c.in-Ok-Some.ensures.form ∙ ap (option_map request_of) c.in-Ok-Some.field-0-is)) c.in-Ok.ensures.comes c.finish.ensures.whole c.finish.ensures.finished
+    let request = request_of c.in-Some.command in
+    finished_whole (g.F.Files.told c.args.files.now) (g.F.Files.told c.answered.new.files) (g.F.Files.told c.finish.new.files) words c.in_ok-outcome-in-Some.outcome c.in_ok-outcome-in-Some.ensures.reads.contents (course_of request)
+    (g.S.Sink.told c.args.out.now) (g.S.Sink.told c.finish.new.out) c.finish.result (asked_of words request (sym c.in-Some.ensures.form ∙ ap (option_map request_of) c.in-Some.field-0-is)) c.in_ok-outcome-in-Some.ensures.comes c.finish.ensures.whole c.finish.ensures.finished
 
-pub returns-in-Ok-clause-stops : goal.returns-in-Ok-clause-stops
-returns-in-Ok-clause-stops g c =
+pub returns-in-Some-clause-stops : goal.returns-in-Some-clause-stops
+returns-in-Some-clause-stops g c =
     let words = map string_bytes c.args.words.now in
-    let request = request_of c.in-Ok-Some.command in
-    finished_stops (g.F.Files.told c.args.files.now) (g.F.Files.told c.answered.new.files) (g.F.Files.told c.finish.new.files) words c.in-Ok.outcome c.in-Ok.ensures.reads.contents (course_of request)
-    (g.S.Sink.told c.args.out.now) (g.S.Sink.told c.finish.new.out) c.finish.result (asked_of words request (sym c.in-Ok-Some.ensures.form ∙ ap (option_map request_of) c.in-Ok-Some.field-0-is)) c.in-Ok.ensures.comes c.in-Ok.ensures.reads.saves c.finish.ensures.stops
+    let request = request_of c.in-Some.command in
+    finished_stops (g.F.Files.told c.args.files.now) (g.F.Files.told c.answered.new.files) (g.F.Files.told c.finish.new.files) words c.in_ok-outcome-in-Some.outcome c.in_ok-outcome-in-Some.ensures.reads.contents (course_of request)
+    (g.S.Sink.told c.args.out.now) (g.S.Sink.told c.finish.new.out) c.finish.result (asked_of words request (sym c.in-Some.ensures.form ∙ ap (option_map request_of) c.in-Some.field-0-is)) c.in_ok-outcome-in-Some.ensures.comes c.in_ok-outcome-in-Some.ensures.reads.saves c.finish.ensures.stops
 
-pub returns-in-Ok-clause-kept : goal.returns-in-Ok-clause-kept
-returns-in-Ok-clause-kept g c =
+pub returns-in-Some-clause-kept : goal.returns-in-Some-clause-kept
+returns-in-Some-clause-kept g c =
     let words = map string_bytes c.args.words.now in
-    let request = request_of c.in-Ok-Some.command in
-    finished_keeps (g.F.Files.told c.args.files.now) (g.F.Files.told c.answered.new.files) (g.F.Files.told c.finish.new.files) words c.in-Ok.outcome c.in-Ok.ensures.reads.contents (course_of request)
-    (g.S.Sink.told c.args.out.now) (g.S.Sink.told c.finish.new.out) c.finish.result (asked_of words request (sym c.in-Ok-Some.ensures.form ∙ ap (option_map request_of) c.in-Ok-Some.field-0-is)) c.in-Ok.ensures.comes c.finish.ensures.stops
+    let request = request_of c.in-Some.command in
+    finished_keeps (g.F.Files.told c.args.files.now) (g.F.Files.told c.answered.new.files) (g.F.Files.told c.finish.new.files) words c.in_ok-outcome-in-Some.outcome c.in_ok-outcome-in-Some.ensures.reads.contents (course_of request)
+    (g.S.Sink.told c.args.out.now) (g.S.Sink.told c.finish.new.out) c.finish.result (asked_of words request (sym c.in-Some.ensures.form ∙ ap (option_map request_of) c.in-Some.field-0-is)) c.in_ok-outcome-in-Some.ensures.comes c.finish.ensures.stops

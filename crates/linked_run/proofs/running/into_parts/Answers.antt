@@ -7,10 +7,10 @@ use Rattle.std.specs.Prelude.{is_some, map}
 use Rattle.pair_machine.specs.Joint.{AreRising}
 use Rattle.linked_run.specs.Linked.{ids_of}
 use Rattle.run_node.specs.NodeView.{NodeView, name_of}
-use Rattle.linked_run.specs.Runs.{AllAdmit, FitTheirTaps, IsRun, TapOfSome, any_tapped, parts_in, parts_of, taps_of}
+use Rattle.linked_run.specs.Runs.{AllAdmit, FitTheirTaps, IsRun, TapOfSome, any_tapped, ids_in, parts_in, parts_of, taps_of}
 use Rattle.run_node.specs.SoundNode.{IsTrueView, TapFits}
 use Rattle.run_node.specs.declared.part.Part.{Part}
-use Rattle.linked_run.proofs.Gathered.{empty_list, parts_in-more, parts_more, run_of, views_admit}
+use Rattle.linked_run.proofs.Gathered.{empty_list, ids_same, parts_in-more, parts_more, run_of, views_admit}
 use Rattle.linked_run.proofs.Law.{apart_of, runs}
 use Rattle.linked_run.proofs.Taps.{any_is, fit_more, fit_none, map_more, none_gone, tap_of_some}
 use Rattle.linked_run.proofs.running.into_parts.Goals as goal
@@ -79,6 +79,16 @@ returns-clause-run g c = λ inputs may timely.
     let joint = runs _ id g.A.Acts.stands g.N.RunNames.plan inputs g.N.RunNames.script c.requires.planned c.args.nodes.items (apart_of _ id g.A.Acts.stands g.N.RunNames.plan inputs g.N.RunNames.script c.args.nodes.items c.requires.distinct) truth c.requires.settled in
     let run = run_of id g.A.Acts.stands g.N.RunNames.plan inputs g.N.RunNames.script c.args.nodes.items (subst (Each (λ v. AreRising v.history)) all (h.rising inputs they timely)) joint in
     subst (IsRun id g.A.Acts.stands g.N.RunNames.plan inputs g.N.RunNames.script (ids_of (map (name_of id) c.args.nodes.items))) (sym (h.parts ∙ ap (parts_of id) all)) run
+
+pub returns-clause-ids : goal.returns-clause-ids
+returns-clause-ids g c =
+    let h = c.loop-node.invariant.2 in
+    let step = c.in-None.ensures.steps in
+    let views = c.loop-node.yielded in
+    let id = g.A.Acts.id in
+    let nothing : into_iter_items c.loop-node.node-iterator ≡ [] = empty_list _ (omega (arith, step.0)) in
+    let all : views ≡ c.args.nodes.items = sym (append-nil views) ∙ (ap (λ l. views ++ l) (sym nothing) ∙ h.left) in
+    ap (ids_in id) (h.parts ∙ ap (parts_of id) all) ∙ ids_same id c.args.nodes.items
 
 pub returns-clause-tapped : goal.returns-clause-tapped
 returns-clause-tapped g c =

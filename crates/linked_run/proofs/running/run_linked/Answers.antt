@@ -50,6 +50,14 @@ returns-clause-taps g c =
     subst (λ (ms : List NodeName). FitTheirTaps (TapFits g.T.Draws.lets_go g.T.Draws.given g.A.Acts.rows g.A.Acts.gone) (taps_of ms) c.into_parts.result.1 (parts_in g.K.Keeps.kept c.into_parts.result.0.items))
     (ap (map (name_of g.A.Acts.id)) (same ∙ (c.settle_all.ensures.same ∙ c.deref_mut.ensures.value)) ∙ c.float-back.ensures) c.into_parts.ensures.taps
 
+pub returns-clause-ids : goal.returns-clause-ids
+returns-clause-ids g c =
+    let old = c.float-back.result in
+    let new = c.settle_all.new.nodes in
+    let long : length c.deref_mut.result.now ≡ old.len = omega (arith, c.deref_mut.ensures.len) in
+    let same : take old.len (new ++ drop (length new) old.items) ≡ new = written old.len new old.items (c.settle_all.auto.nodes ∙ long) in
+    c.into_parts.ensures.ids ∙ ap ids_of (ap (map (name_of g.A.Acts.id)) (same ∙ (c.settle_all.ensures.same ∙ c.deref_mut.ensures.value)) ∙ c.float-back.ensures)
+
 pub returns-clause-tapped : goal.returns-clause-tapped
 returns-clause-tapped g c =
     let old = c.float-back.result in
