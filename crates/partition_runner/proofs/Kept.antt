@@ -62,8 +62,7 @@ module _ {H K : Type 0} (node_in : H → NodeId) (entries_in : H → List Stampe
 
   pub legal_kept : (plan : PlanView) (inputs : List Input) (script : List Order) (nodes : List NodeState) (hs : List H) (ks : List K) → AreSame hs ks
       → IsLegalWith plan inputs script node_of entries_of nodes ks → IsLegalWith plan inputs script node_in entries_in nodes hs
-  legal_kept plan inputs script nodes hs ks e legal =
-      record { course = course_kept plan inputs script nodes hs ks e legal.course; came = legal.came; held = legal.held }
+  legal_kept plan inputs script nodes hs ks e legal = record { course = course_kept plan inputs script nodes hs ks e legal.course; came = legal.came; held = legal.held }
 
 pub legal_told : (plan : PlanView) (inputs : List Input) (script : List Order) (left : Left LogView) (ran : Ran) → IsLegalLeft plan inputs script left → IsToldOf left ran → IsLegalRun plan inputs script ran
 legal_told plan inputs script left ran legal told =

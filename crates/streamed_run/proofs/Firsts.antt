@@ -1,5 +1,5 @@
 -- The nodes that the threads left, where no more inputs come to the first of them, which is ingress; and nodes by their names.
-use Rattle.std.proofs.Common.{◌≡◌, ◌∙◌, ◌<◌, Bool, true, false, List, [], ◌∷◌, Option, None, Some, arith, length, map, slice_index_or, slice_set, refl, sym, ap, subst, true≢false}
+use Rattle.std.proofs.Common.{◌≡◌, ◌∙◌, Bool, true, false, List, [], ◌∷◌, Some, map, refl, sym, ap, subst, true≢false}
 use Rattle.std.specs.Prelude.{if◌then◌else◌}
 use Rattle.tuple_edge.specs.Input.{Input}
 use Rattle.tuple_edge.specs.declared.node.NodeId.{NodeId}
@@ -9,10 +9,9 @@ use Rattle.pair_machine.specs.Lists.{Each}
 use Rattle.pair_machine.specs.Machine.{State}
 use Rattle.pair_machine.specs.Numbers.{Node, is_node}
 use Rattle.pair_machine.specs.declared.order.Order.{Order}
-use Rattle.pair_machine.proofs.Names.{node_self}
 use Rattle.ingress_egress.specs.IngressView.{IngressView}
 use Rattle.plan_nodes.specs.NodeOrder.{nodes_of}
-use Rattle.plan_nodes.specs.States.{AllCame, StandsFor, contents_of, ended_at, id_of, inputs_in}
+use Rattle.plan_nodes.specs.States.{AllCame, StandsFor, ended_at, id_of, inputs_in}
 use Rattle.plan_nodes.specs.declared.state.NodeState.{NodeState}
 use Rattle.plan_nodes.specs.declared.state.NodeState.TheVariants as state
 use Rattle.plan_nodes.proofs.NodeOrder.{Apart, nodes_apart}
@@ -25,11 +24,6 @@ use Rattle.streamed_run.specs.Streamed.{ended_first}
 
 -- ---- the first node
 
--- it is put in the place of the first
-pub end_is : (nodes : List NodeState) (d : NodeState) → 0 < length nodes → slice_set nodes 0 (ended_at (slice_index_or nodes 0 d)) ≡ ended_first nodes
-end_is [] d l = absurd (omega (arith, l))
-end_is (s ∷ nodes) d l = refl
-
 id_ended : (s : NodeState) → id_of (ended_at s) ≡ id_of s
 id_ended (state.Ingress i) = refl
 id_ended (state.Replica r) = refl
@@ -39,11 +33,6 @@ id_ended (state.Egress e) = refl
 pub ids_ended : (nodes : List NodeState) → map id_of (ended_first nodes) ≡ map id_of nodes
 ids_ended [] = refl
 ids_ended (s ∷ nodes) = ap (λ n. n ∷ map id_of nodes) (id_ended s)
-
--- there is one
-pub some_node : (plan : PlanView) (nodes : List NodeState) → map id_of nodes ≡ nodes_of plan → 0 < length nodes
-some_node plan [] e = let z : ⊥ = cc e in absurd z
-some_node plan (s ∷ nodes) e = omega arith
 
 -- it is ingress, and the others aren't
 first_name : (plan : PlanView) (s : NodeState) (nodes : List NodeState) → map id_of (s ∷ nodes) ≡ nodes_of plan → id_of s ≡ node.Ingress

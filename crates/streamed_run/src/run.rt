@@ -41,7 +41,8 @@ fn finish<G: Gate, S: Source, T: RowTap>(
 {
     // This call's clause says that a plan is within the limits.
     let _stages = job.plan.stages();
-    let _looked = (source, tap);
+    let _source = source;
+    let _tap = tap;
     let StreamLeft {
         left: Left { mut nodes, logs },
         held,

@@ -1,5 +1,5 @@
 -- What the threads left stands for a state from which the drain may begin, and the drain's end is that of a run of just what came.
-use Rattle.std.proofs.Common.{◌≡◌, ◌<◌, ◌∙◌, List, ap, length, map, subst, sym}
+use Rattle.std.proofs.Common.{◌≡◌, ◌∙◌, List, ap, map, subst, sym}
 use Rattle.event_log.specs.Blocks.{BlocksView}
 use Rattle.plan_nodes.specs.NodeOrder.{nodes_of}
 use Rattle.plan_nodes.specs.States.{id_of}
@@ -7,14 +7,9 @@ use Rattle.plan_nodes.specs.declared.state.NodeState.{NodeState}
 use Rattle.flux_core.specs.CoreView.{CoreView, HasItsInputs, gone_by}
 use Rattle.flux_core.specs.Opening.{bare_core}
 use Rattle.flux_core.specs.Stands.{IsGiven}
-use Rattle.streamed_run.proofs.Courses.{legal, nodes_are}
+use Rattle.streamed_run.proofs.Courses.{legal}
 use Rattle.streamed_run.proofs.Finishing.{all_came, begin_output, ends, given, gone_is}
-use Rattle.streamed_run.proofs.Firsts.{some_node}
 use Rattle.streamed_run.proofs.run.finish.Goals as goal
-
-pub end_first-requires : goal.end_first-requires
-end_first-requires g c = some_node c.args.job.now.plan.now c.args.left.left.nodes.items
-    (nodes_are c.args.job.now.plan.now c.args.job.now.script.now (g.S.Source.gave c.args.source.now) (g.S.Source.ended c.args.source.now) c.args.left c.requires.legal)
 
 pub of-requires-clause-names : goal.of-requires-clause-names
 of-requires-clause-names g c = subst (λ (ns : List NodeState). map id_of ns ≡ nodes_of c.args.job.now.plan.now) (sym c.end_first.ensures)
