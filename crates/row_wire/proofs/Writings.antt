@@ -106,7 +106,7 @@ rows_end symbols (r ∷ rows) = ⊎_elim
 pub names_are_lines : (symbols : List (List ℕ)) (bytes : List ℕ) → bytes ≡ part_text symbols [] → AreLines bytes
 names_are_lines symbols bytes e = inr (codes "time,account,symbol,qty,value", e)
 
-rows_are_lines : (symbols : List (List ℕ)) (rows : List Row) (bytes : List ℕ) → bytes ≡ lines_of symbols rows → AreLines bytes
+pub rows_are_lines : (symbols : List (List ℕ)) (rows : List Row) (bytes : List ℕ) → bytes ≡ lines_of symbols rows → AreLines bytes
 rows_are_lines symbols rows bytes e = subst AreLines (sym e) (rows_end symbols rows)
 
 -- what stands behind the column names, which have 30 bytes

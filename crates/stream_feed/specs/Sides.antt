@@ -1,28 +1,14 @@
--- What the sides of a stream leave: the one that reads, the one that runs, and the one that writes.
-use Rattle.std.specs.Prelude.{ℕ, ◌≡◌, ◌≤◌, ◌×◌, List, [], ◌∷◌, ◌++◌, true}
-use Rattle.std.specs.List.{flat_map}
-use mathlib.Core.List.{IsPrefix}
+-- What the side of a stream leaves that reads.
+use Rattle.std.specs.Prelude.{ℕ, ◌≡◌, ◌≤◌, List, ◌++◌, true}
 use Rattle.byte_source.specs.Told.{SourceTold}
 use Rattle.flux_outside.specs.Outside.{Rose}
-use Rattle.symbol_names.specs.Names.{name_of}
 use Rattle.trade_text.specs.Streams.{told_of}
 use Rattle.trade_text.specs.declared.error.StreamError.{StreamError}
 use Rattle.trade_text.specs.declared.error.StreamError.TheVariants as stream
 use Rattle.stream_reader.specs.Telling.{EndedAreTold}
 use Rattle.stream_feed.specs.Streams.{AreFirstOf, Came, IsFirstFaultOf, IsTooLongIn, MayHave, SaysAll}
-use Rattle.stream_feed.specs.declared.naming.Naming.{Naming}
-use Rattle.stream_feed.specs.declared.naming.Naming.TheVariants as naming
 use Rattle.stream_feed.specs.declared.reading.ReadEnd.{ReadEnd}
 use Rattle.stream_feed.specs.declared.reading.ReadEnd.TheVariants as read
-
--- the name in a message, if it has one
-abbrev pub name_in : Naming → List (List ℕ)
-name_in naming.Accepted = []
-name_in (naming.Name name) = name_of name ∷ []
-
--- the names in messages, in order
-abbrev pub names_in : List Naming → List (List ℕ)
-names_in told = flat_map name_in told
 
 module _ (bytes : List ℕ) (came : Came) (was is : SourceTold) where
   -- why nothing more is read by this error: the trades that came are those before it

@@ -114,7 +114,9 @@ pub(crate) fn close<R: Wait, W: Wire>(
 ) -> Streamed {
     let (
         ReadSide {
-            mut trades, names, ..
+            mut trades,
+            names,
+            ..
         },
         how,
     ) = read;
@@ -123,7 +125,14 @@ pub(crate) fn close<R: Wait, W: Wire>(
         mut source,
         rows: to,
     } = run;
-    let (WriteSide { rows, names: told, mut known }, written) = write;
+    let (
+        WriteSide {
+            rows,
+            names: told,
+            mut known,
+        },
+        written,
+    ) = write;
     let mut named = names.settle(told);
     let mut sent = to.settle(rows);
     let Ok(()) = learn_rest(rt, &mut known, &mut named) else {
@@ -132,7 +141,16 @@ pub(crate) fn close<R: Wait, W: Wire>(
     let written = write_sent(rt, alloc, &known, &mut sent, out, written);
     let all = source.settle(&mut trades);
     match end {
-        Ok(ended) => finish(alloc, &known, &ended, sent.received(), how, all, out, written),
+        Ok(ended) => finish(
+            alloc,
+            &known,
+            &ended,
+            sent.received(),
+            how,
+            all,
+            out,
+            written,
+        ),
         Err(OutOfMemory) => match written {
             Written::Broken => Streamed::WriteFault,
             _ => Streamed::OutOfMemory,

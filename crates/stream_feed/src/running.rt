@@ -1,6 +1,7 @@
 // The side that runs.
+use crate::gate::Asked;
 use crate::tap::SendingTap;
-use input_ring::{InputSource, NamedSource, RingNames, StopFlag};
+use input_ring::{InputSource, RingNames, StopFlag};
 use ordered_channel::Sender;
 use partition_runner::{Gate, RunNames, StreamJob, Streaming};
 use std::alloc::Global;
@@ -28,7 +29,7 @@ pub(crate) fn run_side<
     rt: &R,
     alloc: Global,
     job: &StreamJob<'_, G>,
-    ready: &mut Option<Streaming<N, NamedSource<K>, T>>,
+    ready: &mut Option<Streaming<N, Asked<K>, T>>,
     stop: &StopFlag,
 ) -> RunSide {
     let Some(ready) = ready.take() else {

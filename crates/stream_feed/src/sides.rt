@@ -8,7 +8,7 @@ ghost use Rattle.stream_reader.specs.Parts.{view_of};
 
 use crate::answer::Streamed;
 use crate::closing::close;
-use crate::gate::Resting;
+use crate::gate::{Asked, Resting};
 use crate::naming::Naming;
 use crate::reading::{ReadEnd, ReadSide, read_side};
 use crate::running::{RunSide, run_side};
@@ -16,14 +16,15 @@ use crate::tap::{SendingTap, SendsRows};
 use crate::writing::{WriteSide, write_side};
 use byte_source::ByteSource;
 use failure_script::Script;
-use input_ring::{InputSender, InputSource, NamedSource, RingNames, StopFlag, input_ring};
+use input_ring::{InputSender, InputSource, RingNames, StopFlag, input_ring};
 use ordered_channel::{ChannelNames, Receiver, Sender, channel};
 use partition_runner::{Gate, RunNames, StreamJob, Streaming, ready_streamed};
 use plan_reader::Plan;
 use row_wire::{Wire, Written};
 use std::alloc::Global;
 use std::marker::{Brand, PhantomData};
-use std::sync::Wait;
+use std::sync::atomic::AtomicU64;
+use std::sync::{Arc, Wait};
 use std::thread::{Threads, join_mut};
 use std::time::Clock;
 use stream_reader::StreamReader;
@@ -49,7 +50,7 @@ fn run_and_write<
     rt: &R,
     alloc: Global,
     job: &StreamJob<'_, G>,
-    ready: &mut Option<Streaming<N, NamedSource<K>, T>>,
+    ready: &mut Option<Streaming<N, Asked<K>, T>>,
     side: &mut WriteSide,
     stop: &StopFlag,
     out: &mut W,
@@ -76,7 +77,7 @@ fn fork<
     rt: &R,
     alloc: Global,
     job: &StreamJob<'_, G>,
-    ready: &mut Option<Streaming<N, NamedSource<K>, T>>,
+    ready: &mut Option<Streaming<N, Asked<K>, T>>,
     reader: &mut StreamReader<B>,
     reads: &mut ReadSide,
     writes: &mut WriteSide,
@@ -85,8 +86,9 @@ fn fork<
 ) -> (ReadEnd, RunSide, Written) {
     let for_reading = alloc;
     let mut read = || -> ReadEnd { read_side(rt, for_reading, reader, reads, stop) };
-    let mut others =
-        || -> (RunSide, Written) { run_and_write(rt, alloc, job, ready, writes, stop, out) };
+    let mut others = || -> (RunSide, Written) {
+        run_and_write(rt, alloc, job, ready, writes, stop, out)
+    };
     // Where no thread can be made, those come last that wait for the reader.
     let ((run, written), read) = join_mut(rt, &mut others, &mut read);
     (read, run, written)
@@ -105,15 +107,13 @@ fn stream_ready<
     rt: &R,
     alloc: Global,
     job: &StreamJob<'_, G>,
-    ready: Streaming<N, NamedSource<K>, T>,
+    ready: Streaming<N, Asked<K>, T>,
     reader: &mut StreamReader<B>,
     reads: ReadSide,
     writes: WriteSide,
+    stop: &StopFlag,
     out: &mut W,
 ) -> Streamed {
-    let Ok(stop) = reads.trades.stop_flag() else {
-        return Streamed::OutOfMemory;
-    };
     let (mut ready, mut reads, mut writes) = (Some(ready), reads, writes);
     let (how, run, written) = fork(
         rt,
@@ -123,7 +123,7 @@ fn stream_ready<
         reader,
         &mut reads,
         &mut writes,
-        &stop,
+        stop,
         out,
     );
     close(rt, alloc, (reads, how), run, (writes, written), out)
@@ -143,9 +143,11 @@ fn stream_over<
     alloc: Global,
     job: &StreamJob<'_, G>,
     reader: &mut StreamReader<B>,
+    rests: Arc<AtomicU64, Global>,
     trades: (InputSender, InputSource),
     rows: (Sender<Row>, Receiver<Row>),
     names: (Sender<Naming>, Receiver<Naming>),
+    stop: &StopFlag,
     out: &mut W,
 ) -> Streamed {
     let tap: SendsRows<'_, R, C> = SendsRows {
@@ -153,10 +155,12 @@ fn stream_over<
         sender: rows.0,
         channel: PhantomData,
     };
-    let source = trades.1.named::<K>();
-    let Ok(ready) = ready_streamed::<N, NamedSource<K>, SendsRows<'_, R, C>, G>(
-        alloc, job, source, tap,
-    ) else {
+    let source = Asked {
+        source: trades.1.named::<K>(),
+        rests,
+    };
+    let Ok(ready) = ready_streamed::<N, Asked<K>, SendsRows<'_, R, C>, G>(alloc, job, source, tap)
+    else {
         return Streamed::OutOfMemory;
     };
     let reads = ReadSide {
@@ -169,7 +173,7 @@ fn stream_over<
         names: names.1,
         known: SymbolNames::new(alloc),
     };
-    stream_ready(rt, alloc, job, ready, reader, reads, writes, out)
+    stream_ready(rt, alloc, job, ready, reader, reads, writes, stop, out)
 }
 
 // The same for names that are the job's, over a ring and channels that are made first.
@@ -184,18 +188,20 @@ fn stream_named<
     alloc: Global,
     job: &StreamJob<'_, G>,
     reader: &mut StreamReader<B>,
+    rests: Arc<AtomicU64, Global>,
+    trades: (InputSender, InputSource),
+    stop: &StopFlag,
     out: &mut W,
 ) -> Streamed {
-    let Ok(trades) = input_ring(alloc) else {
-        return Streamed::OutOfMemory;
-    };
     let Ok(rows) = channel(alloc, ROWS) else {
         return Streamed::OutOfMemory;
     };
     let Ok(names) = channel(alloc, NAMINGS) else {
         return Streamed::OutOfMemory;
     };
-    stream_over::<N, Brand, Brand, R, B, W, G>(rt, alloc, job, reader, trades, rows, names, out)
+    stream_over::<N, Brand, Brand, R, B, W, G>(
+        rt, alloc, job, reader, rests, trades, rows, names, stop, out,
+    )
 }
 
 /// Runs a plan over the trades that a reader reads, under a failure script, by so many workers, until the input ends, and writes
@@ -225,7 +231,21 @@ pub fn stream<
     ensures complete { IsSafe script.now → (Rose (B.told reader.old.source).faults (B.told reader.new.source).faults → ⊥)
         → (Rose (W.told out.old).faults (W.told out.new).faults → ⊥) → IsUnhurt result }
 {
-    let gate = Resting { rt, gate };
+    let (Ok(trades), Ok(rests)) = (input_ring(alloc), Arc::new(alloc, AtomicU64::new(0))) else {
+        return Streamed::OutOfMemory;
+    };
+    let (Ok(stop), Ok(gates)) = (trades.0.stop_flag(), trades.0.stop_flag()) else {
+        return Streamed::OutOfMemory;
+    };
+    let Ok(rested) = Arc::try_clone(&rests) else {
+        return Streamed::OutOfMemory;
+    };
+    let gate = Resting {
+        rt,
+        gate,
+        stop: gates,
+        rests: rested,
+    };
     let job = StreamJob {
         plan,
         script,
@@ -233,5 +253,7 @@ pub fn stream<
         turns: u64::MAX,
         gate: &gate,
     };
-    stream_named::<Brand, R, B, W, Resting<'_, R, G>>(rt, alloc, &job, reader, out)
+    stream_named::<Brand, R, B, W, Resting<'_, R, G>>(
+        rt, alloc, &job, reader, rests, trades, &stop, out,
+    )
 }

@@ -1,4 +1,14 @@
 // The side that writes: it waits for the names of symbols and for rows, and puts lines.
+ghost use mathlib.Core.List.{IsPrefix};
+ghost use Rattle.flux_outside.specs.Told.{SinkTold};
+ghost use Rattle.ordered_channel.specs.Ends.{batch_of, receives_from, values_got};
+ghost use Rattle.row_wire.specs.Lines.{lines_of};
+ghost use Rattle.row_wire.specs.Written.{WritesOn};
+ghost use Rattle.row_wire.specs.declared.written.Written.TheVariants.{Whole};
+ghost use Rattle.std.specs.Prelude.{◌≡◌, ◌++◌, [], ℕ, List, OnOk};
+ghost use Rattle.stream_feed.specs.Writing.{HasWritten, IsSameSide, IsWrittenUnder, KnowsAll, name_told, names_got, names_told};
+ghost use Rattle.symbol_names.specs.Names.{names_of};
+
 use crate::naming::Naming;
 use input_ring::StopFlag;
 use ordered_channel::Receiver;
@@ -20,7 +30,9 @@ pub(crate) struct WriteSide {
 }
 
 // Learns the name in a message, if it has one.
-pub(crate) fn learn(known: &mut SymbolNames, naming: Naming) -> Result<(), OutOfMemory> {
+pub(crate) fn learn(known: &mut SymbolNames, naming: Naming) -> Result<(), OutOfMemory>
+    ensures { OnOk result (names_of known.new ≡ names_of known.old ++ name_told naming) }
+{
     match naming {
         Naming::Accepted => Ok(()),
         Naming::Name(name) => known.learn(name),
@@ -28,7 +40,9 @@ pub(crate) fn learn(known: &mut SymbolNames, naming: Naming) -> Result<(), OutOf
 }
 
 // Learns the names in messages.
-fn learn_all(known: &mut SymbolNames, told: &[Naming]) -> Result<(), OutOfMemory> {
+fn learn_all(known: &mut SymbolNames, told: &[Naming]) -> Result<(), OutOfMemory>
+    ensures { OnOk result (names_of known.new ≡ names_of known.old ++ names_told told.now) }
+{
     for naming in told {
         learn(known, *naming)?;
     }
@@ -36,15 +50,25 @@ fn learn_all(known: &mut SymbolNames, told: &[Naming]) -> Result<(), OutOfMemory
 }
 
 impl WriteSide {
-    // Learns the names that are at hand.
-    fn learn_at_hand<R: Wait>(&mut self, rt: &R) -> Result<bool, OutOfMemory> {
+    // Learns the names that are at hand, and says whether more may come.
+    fn learn_at_hand<R: Wait>(&mut self, rt: &R) -> Result<bool, OutOfMemory>
+        ensures knows { KnowsAll self.old → OnOk result (KnowsAll self.new) }
+        ensures more { (all : List (List ℕ)) → IsPrefix (names_got self.new) all → IsPrefix (names_got self.old) all }
+        ensures rows { self.new.rows ≡ self.old.rows }
+        ensures same { IsSameSide self.old self.new }
+    {
         let more = self.names.try_take(rt);
         learn_all(&mut self.known, self.names.batch())?;
         Ok(more)
     }
 
-    // Waits for a message, and learns the names that are at hand then. False where no more come.
-    fn learn_next<R: Wait>(&mut self, rt: &R) -> Result<bool, OutOfMemory> {
+    // Waits for a message, learns the names that are at hand then, and says whether more may come.
+    fn learn_next<R: Wait>(&mut self, rt: &R) -> Result<bool, OutOfMemory>
+        ensures knows { KnowsAll self.old → OnOk result (KnowsAll self.new) }
+        ensures more { (all : List (List ℕ)) → IsPrefix (names_got self.new) all → IsPrefix (names_got self.old) all }
+        ensures rows { self.new.rows ≡ self.old.rows }
+        ensures same { IsSameSide self.old self.new }
+    {
         let more = self.names.take(rt);
         learn_all(&mut self.known, self.names.batch())?;
         Ok(more)
@@ -57,7 +81,12 @@ impl WriteSide {
     }
 
     // Waits for the names of the rows that were taken last, as long as names may come.
-    fn learn_enough<R: Wait>(&mut self, rt: &R) -> Result<(), OutOfMemory> {
+    fn learn_enough<R: Wait>(&mut self, rt: &R) -> Result<(), OutOfMemory>
+        ensures knows { KnowsAll self.old → OnOk result (KnowsAll self.new) }
+        ensures more { (all : List (List ℕ)) → IsPrefix (names_got self.new) all → IsPrefix (names_got self.old) all }
+        ensures rows { self.new.rows ≡ self.old.rows }
+        ensures same { IsSameSide self.old self.new }
+    {
         let mut more = self.learn_at_hand(rt)?;
         for _ in rt.forever() {
             if !more || self.knows_all() {
@@ -77,7 +106,9 @@ pub(crate) fn write_rows<W: Wire>(
     rows: &[Row],
     wire: &mut W,
     written: Written,
-) -> Written {
+) -> Written
+    ensures { (all : List (List ℕ)) → IsPrefix (names_of known.now) all → WritesOn (W.told wire.old) (W.told wire.new) written (lines_of all rows.now) result }
+{
     match written {
         Written::Whole => {
             if known.known(rows) < rows.len() {
@@ -99,7 +130,13 @@ fn write_batch<R: Wait, W: Wire>(
     side: &mut WriteSide,
     wire: &mut W,
     written: Written,
-) -> Written {
+) -> Written
+    ensures written { (written ≡ Whole → KnowsAll side.old) → (all : List (List ℕ)) → IsPrefix (names_got side.new) all → WritesOn (W.told wire.old) (W.told wire.new) written (lines_of all (batch_of side.old.rows)) result }
+    ensures knows { (written ≡ Whole → KnowsAll side.old) → result ≡ Whole → KnowsAll side.new }
+    ensures more { (all : List (List ℕ)) → IsPrefix (names_got side.new) all → IsPrefix (names_got side.old) all }
+    ensures rows { side.new.rows ≡ side.old.rows }
+    ensures same { IsSameSide side.old side.new }
+{
     match written {
         Written::Whole => match side.learn_enough(rt) {
             Ok(()) => write_rows(alloc, &side.known, side.rows.batch(), wire, written),
@@ -110,7 +147,12 @@ fn write_batch<R: Wait, W: Wire>(
 }
 
 // Writes the column names, once the header was accepted or no trade will come.
-fn write_names<R: Wait, W: Wire>(rt: &R, side: &mut WriteSide, wire: &mut W) -> Written {
+fn write_names<R: Wait, W: Wire>(rt: &R, side: &mut WriteSide, wire: &mut W) -> Written
+    requires rows { values_got side.old.rows ≡ [] }
+    requires knows { KnowsAll side.old }
+    ensures written { HasWritten (W.told wire.old) (W.told wire.new) side.new result }
+    ensures same { IsSameSide side.old side.new }
+{
     match side.learn_next(rt) {
         Ok(_) => put_on(wire, COLUMN_NAMES, Written::Whole),
         Err(OutOfMemory) => Written::Short,
@@ -133,7 +175,10 @@ fn write_next<R: Wait, W: Wire>(
     stop: &StopFlag,
     wire: &mut W,
     written: &mut Written,
-) -> bool {
+) -> bool
+    ensures written { (start : SinkTold) → HasWritten start (W.told wire.old) side.old written.old → HasWritten start (W.told wire.new) side.new written.new }
+    ensures same { IsSameSide side.old side.new }
+{
     let more = side.rows.take(rt);
     *written = write_batch(rt, alloc, side, wire, *written);
     stop_unless_whole(stop, *written);
@@ -149,7 +194,12 @@ pub(crate) fn write_side<R: Wait, W: Wire>(
     side: &mut WriteSide,
     stop: &StopFlag,
     wire: &mut W,
-) -> Written {
+) -> Written
+    requires rows { values_got side.old.rows ≡ [] }
+    requires knows { KnowsAll side.old }
+    ensures written { HasWritten (W.told wire.old) (W.told wire.new) side.new result }
+    ensures same { IsSameSide side.old side.new }
+{
     let mut written = write_names(rt, side, wire);
     stop_unless_whole(stop, written);
     for _ in rt.forever() {

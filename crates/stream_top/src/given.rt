@@ -26,8 +26,7 @@ pub(crate) fn read_inputs<F: Files>(
     alloc: Global,
     words: &[String],
     files: &mut F,
-) -> Result<Given, Stop>
-{
+) -> Result<Given, Stop> {
     match read_words(words) {
         None => Err(Stop::Usage),
         Some(asked) => match given_at(alloc, files, asked) {

@@ -14,12 +14,7 @@ use trade_text::StreamError;
 use tuple_edge::OutOfMemory;
 
 // A stream.
-fn answer<
-    R: Threads + Wait + Sync + Clock,
-    B: ByteSource + Send + Drop,
-    S: Sink + Send,
-    G: Gate,
->(
+fn answer<R: Threads + Wait + Sync + Clock, B: ByteSource + Send + Drop, S: Sink + Send, G: Gate>(
     rt: &R,
     alloc: Global,
     given: &Given,

@@ -51,9 +51,11 @@ fn refuses_at<R: Threads + Wait + Sync + Clock>(
     let text = text_of(alloc, ONE, &good, false)?;
     let says = format!(in alloc; "flux_stream: -: record {number}: fields\n")?;
     let came = came_to(rt, alloc, &call_over(&bytes))?;
-    Ok(came.status == 3
-        && came.text.as_slice() == text.as_slice()
-        && came.says.as_slice() == says.as_bytes())
+    Ok(
+        came.status == 3
+            && came.text.as_slice() == text.as_slice()
+            && came.says.as_slice() == says.as_bytes(),
+    )
 }
 
 fn first_not_refused<R: Threads + Wait + Sync + Clock>(
@@ -91,9 +93,11 @@ fn unread_at<R: Threads + Wait + Sync + Clock>(
         ..call_over(&bytes)
     };
     let came = came_to(rt, alloc, &call)?;
-    Ok(came.status == 4
-        && came.text.as_slice() == text.as_slice()
-        && came.says.as_slice() == "flux_stream: -: cannot read\n".as_bytes())
+    Ok(
+        came.status == 4
+            && came.text.as_slice() == text.as_slice()
+            && came.says.as_slice() == "flux_stream: -: cannot read\n".as_bytes(),
+    )
 }
 
 fn first_not_unread<R: Threads + Wait + Sync + Clock>(

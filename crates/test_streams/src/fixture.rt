@@ -76,7 +76,14 @@ pub(crate) fn status_of<
     let mut err = MemSink::new(alloc, Vec::new(alloc), 1_000, 1_000)?;
     let mut reader = StreamReader::new(alloc, source)?;
     let status = flux_stream(
-        rt, alloc, &words, &mut files, &mut reader, out, &mut err, &FreeGate,
+        rt,
+        alloc,
+        &words,
+        &mut files,
+        &mut reader,
+        out,
+        &mut err,
+        &FreeGate,
     );
     let says = Vec::from_slice(alloc, err.taken())?;
     Ok((status, says))

@@ -15,8 +15,7 @@ const PLAN: &[u8] = b"flux 1\nmark 1\nstage 1 parts 2 by account total account\n
 
 const TRADES: &[u8] = b"time,account,symbol,side,qty,price\n34200,7,A,B,1,1\n34200,8,A,B,1,1\n";
 
-const ROWS: &[u8] =
-    b"time,account,symbol,qty,value\n34200,7,-,1,100\n34200,8,-,1,100\nrows,2\n";
+const ROWS: &[u8] = b"time,account,symbol,qty,value\n34200,7,-,1,100\n34200,8,-,1,100\nrows,2\n";
 
 // A source that gives nothing behind its first piece until a row was put.
 #[derive(Drop)]

@@ -32,10 +32,34 @@ const CASES: &[Case] = &[
     ("p.txt --turns 2", 1_000, 2, USAGE, ""),
     ("p.txt -x", 1_000, 2, USAGE, ""),
     ("none", 1_000, 4, "flux_stream: none: cannot read\n", ""),
-    ("p.txt none", 1_000, 4, "flux_stream: none: cannot read\n", ""),
-    ("s.txt none", 1_000, 3, "flux_stream: s.txt: line 1: grammar\n", ""),
-    ("p.txt p.txt", 1_000, 3, "flux_stream: p.txt: line 1: grammar\n", ""),
-    ("p.txt", 20, 5, "flux_stream: cannot write\n", "time,account,symbol,"),
+    (
+        "p.txt none",
+        1_000,
+        4,
+        "flux_stream: none: cannot read\n",
+        "",
+    ),
+    (
+        "s.txt none",
+        1_000,
+        3,
+        "flux_stream: s.txt: line 1: grammar\n",
+        "",
+    ),
+    (
+        "p.txt p.txt",
+        1_000,
+        3,
+        "flux_stream: p.txt: line 1: grammar\n",
+        "",
+    ),
+    (
+        "p.txt",
+        20,
+        5,
+        "flux_stream: cannot write\n",
+        "time,account,symbol,",
+    ),
 ];
 
 fn ends_so<R: Threads + Wait + Sync + Clock>(
@@ -53,9 +77,11 @@ fn ends_so<R: Threads + Wait + Sync + Clock>(
         fails: &[],
     };
     let came = came_over(rt, alloc, &call, &[], room)?;
-    Ok(came.status == status
-        && came.says.as_slice() == says.as_bytes()
-        && came.text.as_slice() == text.as_bytes())
+    Ok(
+        came.status == status
+            && came.says.as_slice() == says.as_bytes()
+            && came.text.as_slice() == text.as_bytes(),
+    )
 }
 
 fn first_wrong<R: Threads + Wait + Sync + Clock>(

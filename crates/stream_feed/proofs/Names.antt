@@ -1,0 +1,6 @@
+-- Fronts of names.
+use Rattle.std.proofs.Common.{◌≡◌, ◌∙◌, ℕ, List, [], ◌++◌, append-nil, append_assoc, ap, sym}
+use mathlib.Core.List.{IsPrefix}
+
+pub same_names : (names : List (List ℕ)) → IsPrefix names names
+same_names names = ([], append-nil names)
