@@ -1,7 +1,9 @@
 // The words of the program, read from left to right.
 ghost use Rattle.command_line.specs.Forms.{max_threads};
 ghost use Rattle.command_line.specs.Views.{text_in};
-ghost use Rattle.std.specs.Prelude.{◌≡◌, ◌≤◌, IfSome, map, option_map, string_bytes};
+ghost use Rattle.std.specs.List.{before_first};
+ghost use Rattle.command_line.specs.Words.{value_in};
+ghost use Rattle.std.specs.Prelude.{◌≡◌, ◌==◌, ◌≤◌, IfSome, map, option_map, string_bytes};
 ghost use Rattle.stream_top.specs.Words.{after_word, after_words, asked_at_end, asked_in, form, option_named, reading_in, start, with_name, with_option, with_script, with_threads, with_value};
 
 use crate::asked::Asked;
@@ -110,7 +112,9 @@ impl<'a> Reading<'a> {
     }
 
     // With an option as it stands behind `--`.
-    fn with_dashed(self, text: &'a str) -> Option<Reading<'a>> {
+    fn with_dashed(self, text: &'a str) -> Option<Reading<'a>>
+        ensures { option_map reading_in result ≡ with_option (before_first (λ b. b == 61) text.now) (value_in text.now) (reading_in self.entry) }
+    {
         match text.split_once('=') {
             None => self.with_option(text, None),
             Some((name, value)) => self.with_option(name, Some(value)),
