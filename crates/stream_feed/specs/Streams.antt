@@ -53,9 +53,9 @@ pub record AreFirstOf (came : Came) (told : Told) : Type 0 where
   pub symbols : IsPrefix came.symbols told.symbols
 
 -- just these trades are told, and then the first fault
-pub record IsFirstFaultOf (came : Came) (fault : ReadError Field) (told : Told) : Type 0 where
+pub record IsFirstFaultOf (came : Came) (why : ReadError Field) (told : Told) : Type 0 where
   pub rows : told.rows ≡ came.rows
-  pub fault : told.fault ≡ Some fault
+  pub fault : told.fault ≡ Some why
 
 -- the input has ended, and says just what came, with no fault
 abbrev pub SaysAll : List ℕ → Came → Type 0

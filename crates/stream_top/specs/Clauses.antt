@@ -86,12 +86,12 @@ module _ (words : List (List ℕ)) (o : Outside) (said says : SinkTold) where
   -- a file was refused before any trade was read, and its line said under the own name
   pub record SaysRefusal : Type 0 where
     pub untouched : Untouched words o
-    pub says : program.SaysRefusal (ComesToRefusal o.before o.after words) own_line said says
+    pub refused : program.SaysRefusal (ComesToRefusal o.before o.after words) own_line said says
 
   -- the file that was to be read last could not be read, as the count of faults of reads rose, before any trade was read, and its name was said
   pub record SaysUnread : Type 0 where
     pub untouched : Untouched words o
-    pub says : program.SaysUnread (ComesToRead o.before o.after words) own_line o.before o.after said says
+    pub unread : program.SaysUnread (ComesToRead o.before o.after words) own_line o.before o.after said says
 
   -- A file is refused; or the trades' header or a record of them, or one is too long.
   abbrev pub Refused : Type 0
