@@ -1,5 +1,5 @@
 -- What a reader of a stream tells of the bytes that came.
-use Rattle.std.specs.Prelude.{ℕ, ◌≡◌, Bool, true, false, List, [], ◌∷◌, ◌++◌, Option, Some, None, Ok, Err, Result}
+use Rattle.std.specs.Prelude.{ℕ, ◌≡◌, Bool, true, false, List, [], ◌∷◌, ◌++◌, length, take, Option, Some, None, Ok, Err, Result}
 use mathlib.Core.List.{IsPrefix}
 use Rattle.tuple_edge.specs.declared.row.Row.{Row}
 use Rattle.symbol_names.specs.Names.{name_of}
@@ -40,7 +40,7 @@ AreFirst bytes rows names = (rest : List ℕ) → IsPrefix rows (told_of (bytes 
 
 -- the row of every record that has ended within these bytes is among these
 abbrev pub EndedAreTold : List ℕ → List Row → Type 0
-EndedAreTold bytes rows = (front rest : List ℕ) → bytes ≡ front ++ rest → HasNoneOpen front → IsPrefix (told_of front).rows rows
+EndedAreTold bytes rows = (front rest : List ℕ) → bytes ≡ front ++ rest → HasNoneOpen front → take (length (told_of front).rows) rows ≡ (told_of front).rows
 
 -- ---- what calls tell
 

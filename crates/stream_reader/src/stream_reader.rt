@@ -62,17 +62,21 @@ impl<S: ByteSource + Drop> StreamReader<S> {
         ensures pushes { self.old.parser.over ≡ false → Pushes (view_of self.old) result (view_of self.new) }
         ensures bytes { came (view_of self.new) ≡ came (view_of self.old) }
         ensures source { self.new.source ≡ self.old.source }
+        ensures over { OnOk result (self.new.parser.over ≡ self.old.parser.over) }
         ensures next { (self.new.at ≡ self.old.at + 1) × (self.new.filled ≡ self.old.filled) }
         ensures nothing { self.old.parser.over ≡ true → (result ≡ Ok None) × (self.new.parser.over ≡ true) }
     {
         let byte = self.piece[self.at];
         self.at += 1;
         self.looked = self.looked.and(&byte);
-        let row = self.parser.push(alloc, byte)?;
-        if let Some(row) = &row {
-            self.rows = self.rows.and(row);
+        match self.parser.push(alloc, byte) {
+            Err(error) => Err(error),
+            Ok(None) => Ok(None),
+            Ok(Some(row)) => {
+                self.rows = self.rows.and(&row);
+                Ok(Some(row))
+            }
         }
-        Ok(row)
     }
 
     // A trade with the name of its symbol, where more symbols are known than so many before it.
@@ -100,8 +104,10 @@ impl<S: ByteSource + Drop> StreamReader<S> {
     {
         while self.at < self.filled {
             let known = self.parser.symbols();
-            if let Some(row) = self.push_next(alloc)? {
-                return Ok(Next::Trade(self.trade(row, known)));
+            match self.push_next(alloc) {
+                Err(error) => return Err(error),
+                Ok(None) => {}
+                Ok(Some(row)) => return Ok(Next::Trade(self.trade(row, known))),
             }
         }
         Ok(Next::Nothing)
@@ -138,7 +144,10 @@ impl<S: ByteSource + Drop> StreamReader<S> {
         let known = self.parser.symbols();
         match self.parser.finish(alloc)? {
             None => Ok(None),
-            Some(row) => Ok(Some(self.trade(row, known))),
+            Some(row) => {
+                self.rows = self.rows.and(&row);
+                Ok(Some(self.trade(row, known)))
+            }
         }
     }
 

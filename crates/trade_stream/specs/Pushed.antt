@@ -102,9 +102,13 @@ stands_behind s (c ∷ rest) = stands_behind (stands_by s (step default_config s
 abbrev pub standing_after : List ℕ → Standing
 standing_after bytes = stands_behind at_start (strip_bom bytes)
 
+-- no record is open: the last one, if there is one, has ended by its line's end
+abbrev pub IsBetween : Standing → Type 0
+IsBetween s = ends_at_end s.state ≡ false
+
 -- Every record that began within these bytes has ended within them, by its line's end.
 abbrev pub HasNoneOpen : List ℕ → Type 0
-HasNoneOpen bytes = ends_at_end (standing_after bytes).state ≡ false
+HasNoneOpen bytes = IsBetween (standing_after bytes)
 
 -- The record of this number is too long: as many bytes of it came as a file may have.
 abbrev pub IsLong : List ℕ → ℕ → Type 0
