@@ -114,7 +114,7 @@ IsUnhurt streamed.OutOfMemory = Unit {0}
 
 -- The source gave these bytes, of which this came into the run. Whatever comes behind the bytes, what came is the first that they say; and the run was told that no
 -- more comes only where that was all. Whatever the answer, what was put is a front of the text of the output over all that may come then, and so it was offered: each
--- put was given what the one before it left, or the next lines. No count of faults fell.
+-- put was given what the one before it left, or the next lines. The wire's count of faults didn't fall.
 pub record StreamsSo (plan : PlanView) (script : List Order) (was is : SourceTold) (old new : SinkTold) (answer : Streamed) : Type 0 where
   pub bytes : List ℕ
   pub given : is.given ≡ was.given ++ bytes
@@ -125,5 +125,4 @@ pub record StreamsSo (plan : PlanView) (script : List Order) (was is : SourceTol
   pub answers : AnswersSo plan script bytes came ended was is old new answer
   pub front : (all : Came) → MayCome ended came all → TakesFront old.taken new.taken (whole_text plan all)
   pub offers : (all : Came) → MayCome ended came all → OffersFront old.offered new.offered (whole_text plan all)
-  pub puts_later : old.faults ≤ new.faults
-  pub reads_later : was.faults ≤ is.faults
+  pub later : old.faults ≤ new.faults
