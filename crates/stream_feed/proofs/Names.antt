@@ -1,5 +1,5 @@
 -- Fronts of names.
-use Rattle.std.proofs.Common.{◌≡◌, ◌∙◌, ℕ, List, [], ◌++◌, append-nil, append_assoc, ap, sym}
+use Rattle.std.proofs.Common.{ℕ, List, [], append-nil}
 use mathlib.Core.List.{IsPrefix}
 
 pub same_names : (names : List (List ℕ)) → IsPrefix names names

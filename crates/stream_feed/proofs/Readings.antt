@@ -12,7 +12,7 @@ use Rattle.trade_text.specs.declared.error.ReadError.{ReadError}
 use Rattle.trade_text.specs.declared.error.StreamError.TheVariants as stream
 use Rattle.stream_reader.specs.Telling.{AreAll, AreFirst, EndedAreTold, StreamView, TellsFault, TellsTrade, came, name_in}
 use Rattle.stream_reader.specs.declared.trade.Trade.{Trade}
-use Rattle.stream_feed.specs.Streams.{AreFirstOf, Came, IsFirstFaultOf, MayHave}
+use Rattle.stream_feed.specs.Streams.{AreFirstOf, IsFirstFaultOf, MayHave}
 use Rattle.stream_feed.specs.Sides.{HasRead, IsReading, SendsOn, Sent, came_of}
 use Rattle.stream_feed.specs.declared.reading.ReadEnd.TheVariants as read
 

@@ -1,8 +1,5 @@
 // Workers that rest, and what the run's source tells them.
-ghost use Rattle.input_ring.specs.Ends.{gives_from, inputs_given};
-ghost use Rattle.node_tasks.specs.Coming.{inputs_of};
-ghost use Rattle.node_tasks.specs.declared.source.Came.TheVariants as came;
-ghost use Rattle.std.specs.Prelude.{◌≡◌, ◌++◌, true};
+ghost use Rattle.input_ring.specs.Ends.{inputs_given};
 
 use input_ring::{InputSource, NamedSource, RingNames, StopFlag};
 use partition_runner::{Came, Gate, Source};

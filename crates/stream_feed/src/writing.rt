@@ -1,12 +1,12 @@
 // The side that writes: it waits for the names of symbols and for rows, and puts lines.
 ghost use mathlib.Core.List.{IsPrefix};
 ghost use Rattle.flux_outside.specs.Told.{SinkTold};
-ghost use Rattle.ordered_channel.specs.Ends.{batch_of, receives_from, values_got};
+ghost use Rattle.ordered_channel.specs.Ends.{batch_of, values_got};
 ghost use Rattle.row_wire.specs.Lines.{lines_of};
 ghost use Rattle.row_wire.specs.Written.{WritesOn};
 ghost use Rattle.row_wire.specs.declared.written.Written.TheVariants.{Whole};
 ghost use Rattle.std.specs.Prelude.{◌≡◌, ◌++◌, [], ℕ, List, OnOk};
-ghost use Rattle.stream_feed.specs.Writing.{HasWritten, IsSameSide, IsWrittenUnder, KnowsAll, name_told, names_got, names_told};
+ghost use Rattle.stream_feed.specs.Writing.{HasWritten, IsSameSide, KnowsAll, name_told, names_got, names_told};
 ghost use Rattle.symbol_names.specs.Names.{names_of};
 
 use crate::naming::Naming;

@@ -1,5 +1,5 @@
 -- What the clauses of `flux_stream` say, as those of `flux` do, of its own lines, of its words, and of a run whose trades come and whose rows are written while it goes on.
-use Rattle.std.specs.Prelude.{ℕ, ◌≡◌, ◌⊎◌, ◌≢◌, List, Option, None, Some, IfSome}
+use Rattle.std.specs.Prelude.{ℕ, ◌≡◌, ◌⊎◌, List, Option, None, Some, IfSome}
 use Rattle.pair_machine.specs.Numbers.{Partition}
 use Rattle.pair_machine.specs.declared.order.Order.{Order}
 use Rattle.plan_reader.specs.PlanView.{PlanView}

@@ -1,5 +1,5 @@
 -- What `flux_stream` reads before its trades come: a plan and a failure script, as `flux run` reads them.
-use Rattle.std.specs.Prelude.{ℕ, ◌==◌, false, List, [], Option, None, option_map, if◌then◌else◌}
+use Rattle.std.specs.Prelude.{◌==◌, false, List, [], Option, None, option_map, if◌then◌else◌}
 use Rattle.plan_reader.specs.PlanView.{PlanView}
 use Rattle.pair_machine.specs.declared.order.Order.{Order}
 use Rattle.command_course.specs.Course.{Came, Course, Refuses, Run, Runs, Way}

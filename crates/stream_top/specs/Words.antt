@@ -1,5 +1,5 @@
 -- The words of `flux_stream`, read from left to right: `PLAN [SCRIPT]` or `PLAN --script SCRIPT`, and `--threads N`.
-use Rattle.std.specs.Prelude.{ℕ, List, [], ◌∷◌, codes, fold, Option, Some, None, option_and_then, option_map, if◌then◌else◌}
+use Rattle.std.specs.Prelude.{ℕ, List, [], ◌∷◌, codes, Option, Some, None, option_and_then, if◌then◌else◌}
 use Rattle.std.specs.Str.{bytes_eq}
 use Rattle.command_line.specs.Forms.{default_threads, max_threads, min_threads, number_or}
 use Rattle.command_line.specs.Views.{text_in}

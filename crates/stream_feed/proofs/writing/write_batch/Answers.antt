@@ -1,4 +1,4 @@
-use Rattle.std.proofs.Common.{◌≡◌, ◌∙◌, ap, refl, sym, subst, List, ℕ}
+use Rattle.std.proofs.Common.{◌∙◌, ap, refl, sym, subst, List, ℕ}
 use mathlib.Core.List.{IsPrefix}
 use Rattle.ordered_channel.specs.Ends.{batch_of}
 use Rattle.row_wire.specs.Lines.{lines_of}

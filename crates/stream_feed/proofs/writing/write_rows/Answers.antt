@@ -1,6 +1,6 @@
-use Rattle.std.proofs.Common.{◌∙◌, refl}
+use Rattle.std.proofs.Common.{◌∙◌}
 use Rattle.row_wire.specs.Lines.{lines_of}
-use Rattle.row_wire.proofs.Writings.{puts_nothing, rows_are_lines, stays}
+use Rattle.row_wire.proofs.Writings.{rows_are_lines, stays}
 use Rattle.symbol_names.specs.Names.{names_of}
 use Rattle.stream_feed.proofs.Names.{same_names}
 use Rattle.stream_feed.proofs.writing.write_rows.Goals as goal
