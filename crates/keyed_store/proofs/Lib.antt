@@ -1,4 +1,5 @@
 pub mod Images
+pub mod Places
 pub mod Counting
 pub mod LastSides
 pub mod Copied

@@ -1,3 +1,4 @@
 pub mod Join
 pub mod Limits
+pub mod Placed
 pub mod Store

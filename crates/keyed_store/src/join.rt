@@ -13,11 +13,11 @@ ghost use Rattle.keyed_store.specs.declared.rows.JoinKey.{JoinKey};
 ghost use Rattle.std.specs.Prelude.{◌≡◌, ◌≤◌, ◌++◌, [], ◌∷◌, Some, None, IfOk, if◌then◌else◌, OnOk, OnErr, ◌+◌, length, slice_get};
 ghost use Rattle.std.specs.List.{find};
 
+use crate::placed::Iter;
 use crate::rows::{FIRST_RIGHT_SLOT, JoinKey, Kept, Pair, SideRow, SidedRow, Sides};
 use crate::store::{KeyedStore, OutOfMemory};
 use circular_buffer::HeapCircularBuffer;
 use std::alloc::{AllocError, Global};
-use std::collections::btree_map::Iter;
 use std::marker::Model;
 use std::ops::Bound;
 

@@ -6,10 +6,12 @@
 #![tactic(auto)]
 
 mod join;
+mod placed;
 mod recent;
 mod rows;
 mod store;
 
 pub use join::JoinState;
+pub use placed::Iter;
 pub use rows::{FIRST_RIGHT_SLOT, JoinKey, Kept, MAX_JOIN_ROWS, Pair, SideRow, SidedRow, Sides};
 pub use store::{Image, KeyedStore, OutOfMemory, Takes};

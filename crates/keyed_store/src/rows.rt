@@ -10,7 +10,7 @@ pub const MAX_JOIN_ROWS: u32 = 4;
 pub const FIRST_RIGHT_SLOT: u32 = 4;
 
 /// What rows have in common that are joined: keys are ordered by account, then symbol.
-#[derive(Clone, Copy, Debug, PartialEq, Eq, PartialOrd, Ord)]
+#[derive(Clone, Copy, Debug, PartialEq, Eq, PartialOrd, Ord, Hash)]
 pub struct JoinKey {
     pub account: i64,
     pub symbol: i64,

@@ -7,9 +7,10 @@ ghost use Rattle.std.specs.Map.Iter.{ShowsInOrder, deref_pair};
 ghost use Rattle.std.specs.Option.{MatchOption, option_copied, option_map};
 ghost use Rattle.std.specs.Prelude.{◌≡◌, ◌<◌, ◌^◌, [], Some, None, IfSome, IfOk, OnOk, OnErr, length, slice_get};
 
+use crate::placed::{Iter, PlacedMap};
 use std::alloc::{AllocError, Global};
 use std::collections::BTreeMap;
-use std::collections::btree_map::Iter;
+use std::hash::Hash;
 use std::marker::Model;
 use std::ops::Bound;
 
@@ -42,7 +43,7 @@ pub trait Takes<M, T>: Image {
 #[derive(Drop)]
 pub struct KeyedStore<K: Ord, V> {
     alloc: Global,
-    kept: BTreeMap<K, V>,
+    kept: PlacedMap<K, V>,
     // What the keys had that changed since the watch began, if there is a watch.
     images: Option<BTreeMap<K, Option<V>>>,
 }
@@ -52,19 +53,19 @@ impl<K: Ord, V> Model for KeyedStore<K, V> {
 
     ghost Value = { StoreView K V };
 
-    ghost view = { λ s. watched K.cmp s.kept.entries (images_of s.images) };
+    ghost view = { λ s. watched K.cmp s.kept (images_of s.images) };
 
-    ghost invariant = { λ s. IsStore K.cmp s.kept.entries (images_of s.images) };
+    ghost invariant = { λ s. IsStore K.cmp s.kept (images_of s.images) };
 }
 
-impl<K: Ord + Copy, V: Image> KeyedStore<K, V> {
+impl<K: Ord + Copy + Hash, V: Image> KeyedStore<K, V> {
     /// A store of nothing, unwatched.
     pub fn new(alloc: Global) -> KeyedStore<K, V>
         ensures { result ≡ record { kept = []; old = None } }
     {
         KeyedStore {
             alloc,
-            kept: BTreeMap::new(alloc),
+            kept: PlacedMap::new(alloc),
             images: None,
         }
     }
@@ -92,14 +93,14 @@ impl<K: Ord + Copy, V: Image> KeyedStore<K, V> {
         ensures sorted { IsSorted K.cmp self.now.kept }
         ensures found { All (λ e. lookup (is_at (K.cmp e.0)) self.now.kept ≡ Some e.1) self.now.kept }
     {
-        self.kept.iter()
+        self.kept.iter_from(Bound::Unbounded)
     }
 
     /// The first that is kept from a bound on.
     pub fn first(&self, bound: Bound<K>) -> Option<(&K, &V)>
         ensures { option_map (λ p. (p.0.now, p.1.now)) result ≡ first_from K.cmp bound self.now.kept }
     {
-        self.kept.range((bound, Bound::Unbounded)).next()
+        self.kept.iter_from(bound).next()
     }
 
     /// Puts a value. Where that is refused nothing has changed.
@@ -109,14 +110,11 @@ impl<K: Ord + Copy, V: Image> KeyedStore<K, V> {
         ensures err { OnErr result (self.new ≡ self.old) }
     {
         put_aside(self.alloc, &self.kept, &mut self.images, &key)?;
-        match self.kept.insert(key, value) {
-            Ok(_) => Ok(()),
-            Err(_) => Err(AllocError),
-        }
+        self.kept.insert(key, value)
     }
 
     /// Changes the value that is kept for a key by one more, if there is one, and gives what the
-    /// value tells. Without a watch the key is searched once. Where that is refused nothing has
+    /// value tells. Without a watch the key is looked up once. Where that is refused nothing has
     /// changed.
     pub fn change<M: Drop, T: Drop>(&mut self, key: &K, more: M) -> Result<Option<T>, OutOfMemory>
     where
@@ -129,10 +127,7 @@ impl<K: Ord + Copy, V: Image> KeyedStore<K, V> {
         ensures err { OnErr result (self.new ≡ self.old) }
     {
         put_aside(self.alloc, &self.kept, &mut self.images, key)?;
-        let Some(value) = self.kept.get_mut(key) else {
-            return Ok(None);
-        };
-        Ok(Some(value.take(more)))
+        Ok(self.kept.change(key, more))
     }
 
     /// Begins a watch: what is kept now is what was kept then. A former watch ends.
@@ -172,12 +167,12 @@ impl<K: Ord + Copy, V: Image> KeyedStore<K, V> {
 }
 
 // What was kept for a key, by the images.
-fn value_before<'a, K: Ord, V>(
-    kept: &'a BTreeMap<K, V>,
+fn value_before<'a, K: Ord + Copy + Hash, V: Drop>(
+    kept: &'a PlacedMap<K, V>,
     images: &'a BTreeMap<K, Option<V>>,
     key: &K,
 ) -> Option<&'a V>
-    ensures { option_copied result ≡ overlay (lookup (is_at (K.cmp key.now)) images.now.entries) (lookup (is_at (K.cmp key.now)) kept.now.entries) }
+    ensures { option_copied result ≡ overlay (lookup (is_at (K.cmp key.now)) images.now.entries) (lookup (is_at (K.cmp key.now)) kept.now) }
 {
     match images.get(key) {
         Some(Some(value)) => Some(value),
@@ -202,14 +197,14 @@ fn entry_before<'a, K: Ord, V>(
 }
 
 // The first that was kept from a bound on, by the images.
-fn first_before<'a, K: Ord + Copy, V>(
-    kept: &'a BTreeMap<K, V>,
+fn first_before<'a, K: Ord + Copy + Hash, V: Drop>(
+    kept: &'a PlacedMap<K, V>,
     images: &'a BTreeMap<K, Option<V>>,
     bound: Bound<K>,
 ) -> Option<(&'a K, &'a V)>
-    ensures { option_map (λ p. (p.0.now, p.1.now)) result ≡ first_from K.cmp bound (kept_before K.cmp kept.now.entries images.now.entries) }
+    ensures { option_map (λ p. (p.0.now, p.1.now)) result ≡ first_from K.cmp bound (kept_before K.cmp kept.now images.now.entries) }
 {
-    for (key, value) in kept.range((bound, Bound::Unbounded)) {
+    for (key, value) in kept.iter_from(bound) {
         if let Some(entry) = entry_before(key, value, images) {
             return Some(entry);
         }
@@ -218,15 +213,15 @@ fn first_before<'a, K: Ord + Copy, V>(
 }
 
 // Puts an image of the key's value aside, where there is a watch and none stands aside yet.
-fn put_aside<K: Ord + Copy, V: Image>(
+fn put_aside<K: Ord + Copy + Hash, V: Image>(
     alloc: Global,
-    kept: &BTreeMap<K, V>,
+    kept: &PlacedMap<K, V>,
     images: &mut Option<BTreeMap<K, Option<V>>>,
     key: &K,
 ) -> Result<(), OutOfMemory>
-    requires { IsStore K.cmp kept.now.entries (images_of images.old) }
-    ensures same { watched K.cmp kept.now.entries (images_of images.new) ≡ watched K.cmp kept.now.entries (images_of images.old) }
-    ensures store { IsStore K.cmp kept.now.entries (images_of images.new) }
+    requires { IsStore K.cmp kept.now (images_of images.old) }
+    ensures same { watched K.cmp kept.now (images_of images.new) ≡ watched K.cmp kept.now (images_of images.old) }
+    ensures store { IsStore K.cmp kept.now (images_of images.new) }
     ensures aside { OnOk result (IsAside K.cmp key.now (images_of images.new)) }
 {
     match images {
@@ -235,15 +230,15 @@ fn put_aside<K: Ord + Copy, V: Image>(
     }
 }
 
-fn add_image<K: Ord + Copy, V: Image>(
+fn add_image<K: Ord + Copy + Hash, V: Image>(
     alloc: Global,
-    kept: &BTreeMap<K, V>,
+    kept: &PlacedMap<K, V>,
     images: &mut BTreeMap<K, Option<V>>,
     key: &K,
 ) -> Result<(), OutOfMemory>
-    requires { IsStore K.cmp kept.now.entries (Some images.old.entries) }
-    ensures same { watched K.cmp kept.now.entries (Some images.new.entries) ≡ watched K.cmp kept.now.entries (Some images.old.entries) }
-    ensures store { IsStore K.cmp kept.now.entries (Some images.new.entries) }
+    requires { IsStore K.cmp kept.now (Some images.old.entries) }
+    ensures same { watched K.cmp kept.now (Some images.new.entries) ≡ watched K.cmp kept.now (Some images.old.entries) }
+    ensures store { IsStore K.cmp kept.now (Some images.new.entries) }
     ensures aside { OnOk result (IsAside K.cmp key.now (Some images.new.entries)) }
 {
     if images.contains_key(key) {
@@ -257,12 +252,12 @@ fn add_image<K: Ord + Copy, V: Image>(
 }
 
 // An image of what is kept for the key, if anything is.
-fn image_at<K: Ord, V: Image>(
+fn image_at<K: Ord + Copy + Hash, V: Image>(
     alloc: Global,
-    kept: &BTreeMap<K, V>,
+    kept: &PlacedMap<K, V>,
     key: &K,
 ) -> Result<Option<V>, OutOfMemory>
-    ensures { IfOk result (λ image. image ≡ lookup (is_at (K.cmp key.now)) kept.now.entries) }
+    ensures { IfOk result (λ image. image ≡ lookup (is_at (K.cmp key.now)) kept.now) }
 {
     match kept.get(key) {
         Some(value) => Ok(Some(value.image(alloc)?)),

@@ -29,7 +29,7 @@ pub enum Column {
 
 /// What rows have in common that an operator keeps together: keys are ordered by account, then
 /// symbol. A part that the operator doesn't keep by is 0.
-#[derive(Clone, Copy, Debug, PartialEq, Eq, PartialOrd, Ord)]
+#[derive(Clone, Copy, Debug, PartialEq, Eq, PartialOrd, Ord, Hash)]
 pub struct Key {
     pub account: i64,
     pub symbol: i64,
