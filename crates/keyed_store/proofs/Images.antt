@@ -1,12 +1,12 @@
 -- What images tell of what was kept.
-use Rattle.std.proofs.Common.{◌≡◌, ◌&&◌, slice_get, Bool, true, false, cond, List, [], ◌∷◌, ◌++◌, refl, sym, ap, ◌∙◌, Option, Some, None}
+use Rattle.std.proofs.Common.{◌≡◌, ◌&&◌, slice_get, get_or, Bool, true, false, cond, List, [], ◌∷◌, ◌++◌, refl, sym, ap, subst, ◌∙◌, Option, Some, None}
 use Rattle.std.specs.BTreeMap.{insert_entry, is_at}
 use Rattle.std.specs.BTreeMap.Range.{is_from_start, range_contains}
-use Rattle.std.specs.Cmp.{IsTotalOrder, Equal-is}
+use Rattle.std.specs.Cmp.{IsTotalOrder, Equal-is, eq_by_cmp_equiv}
 use Rattle.std.specs.List.{All, AllByRecursion, filter, find, flat_map}
 use Rattle.std.specs.List.Sorted.{IsStrictlySortedBy}
 use Rattle.std.specs.Map.{keys_of, lookup, set_value}
-use Rattle.std.specs.Option.{IsSome, MatchOption, option_map}
+use Rattle.std.specs.Option.{IfSome, IsSome, MatchOption, option_map}
 use Rattle.std.specs.Map.Iter.{TakesFirst}
 use Rattle.std.specs.Ordering.{is_eq}
 use Rattle.std.specs.declared.cmp.Ordering.{Ordering}
@@ -15,8 +15,9 @@ use Rattle.std.specs.declared.ops.Bound.{Bound}
 use Rattle.std.specs.declared.ops.Bound.TheVariants.{Unbounded}
 use Rattle.std.proofs.lemmas.List.Elements.{All-head, All-tail}
 use Rattle.std.proofs.lemmas.Map.{NonePasses, lookup-none}
-use Rattle.std.proofs.lemmas.Map.Entries.{none_below_head}
-use Rattle.std.proofs.lemmas.Map.Keys.{sorted_head, sorted_tail}
+use Rattle.std.proofs.lemmas.Map.Entries.{lookup_from_place, none_below_head}
+use Rattle.std.proofs.lemmas.Map.Keys.{IsDistinct-from_sorted, sorted_head, sorted_tail}
+use Rattle.std.proofs.lemmas.Option.{slice_get-get_or}
 use Rattle.keyed_store.specs.Store.{AreKnown, IsAside, IsSorted, IsStore, StoreView, changed, kept_before, overlay, was, watched}
 
 -- tests that agree find the same
@@ -285,3 +286,71 @@ pub changed-there : {K X : Type 0} (cmp : K → K → Ordering) (s n : StoreView
     → n ≡ changed s (insert_entry cmp s.kept k (after x))
     → MatchOption (lookup (is_at (cmp k)) s.kept) (n ≡ s) (λ x. n ≡ changed s (insert_entry cmp s.kept k (after x)))
 changed-there cmp s n k after x there is = rw there is
+
+-- each entry is what is found for its key
+pub all-found : {K X : Type 0} {cmp : K → K → Ordering} → IsTotalOrder cmp → (es : List (K × X)) → IsSorted cmp es → All (λ e. lookup (is_at (cmp e.0)) es ≡ Some e.1) es
+all-found {K} {X} {cmp} total es sorted = λ i d within.
+    lookup_from_place (eq_by_cmp_equiv total) es i (get_or es i d).0 (get_or es i d).1 (IsDistinct-from_sorted cmp (keys_of es) sorted) (slice_get-get_or es i d within)
+
+pub filter-true : {X : Type 0} (es : List X) → filter (λ e. true) es ≡ es
+filter-true [] = refl
+filter-true (e ∷ es) = ap (λ rest. e ∷ rest) (filter-true es)
+
+empty_sorted : {K X : Type 0} (cmp : K → K → Ordering) (es : List (K × X)) → es ≡ [] → IsSorted cmp es
+unfolding IsStrictlySortedBy
+empty_sorted cmp [] is = tt
+empty_sorted cmp (e ∷ es) is = let h : false ≡ true = cc in cc
+
+pub empty-store : {K X : Type 0} (cmp : K → K → Ordering) (es : List (K × X)) → es ≡ [] → IsStore cmp es None
+empty-store cmp es is = (empty_sorted cmp es is, tt)
+
+some_else : {X : Type 0} (t : Bool) (v : X) (o : Option X) → IsSome o → IsSome (cond t (Some v) o)
+some_else true v o had = refl
+some_else false v o had = had
+
+-- a key that is kept is kept with one more
+insert_has_by : {K X : Type 0} (cmp : K → K → Ordering) (test : K → Bool) (k : K) (v : X) (e : K × X) (es : List (K × X)) (o : Ordering) (t : Bool) → cmp k e.0 ≡ o → test e.0 ≡ t → IsSome (lookup test (e ∷ es))
+    → (IsSome (lookup test es) → IsSome (lookup test (insert_entry cmp es k v))) → IsSome (lookup test (insert_entry cmp (e ∷ es) k v))
+insert_has_by cmp test k v e es Less t is at had later = rw is (some_else (test k) v (lookup test (e ∷ es)) had)
+insert_has_by cmp test k v e es Equal true is at had later = rw is (rw at refl)
+insert_has_by cmp test k v e es Equal false is at had later = rw is (rw at (rw at at had))
+insert_has_by cmp test k v e es Greater true is at had later = rw is (rw at refl)
+insert_has_by cmp test k v e es Greater false is at had later = rw is (rw at (later (rw at at had)))
+
+insert_has : {K X : Type 0} (cmp : K → K → Ordering) (test : K → Bool) (k : K) (v : X) (es : List (K × X)) → IsSome (lookup test es) → IsSome (lookup test (insert_entry cmp es k v))
+insert_has cmp test k v [] had = let h : false ≡ true = had in cc
+insert_has cmp test k v (e ∷ es) had = insert_has_by cmp test k v e es (cmp k e.0) (test e.0) refl refl had (insert_has cmp test k v es)
+
+known_after : {K X : Type 0} (cmp : K → K → Ordering) (kept : List (K × X)) (images : Option (List (K × Option X))) (k : K) (v : X) → IfSome images (AreKnown cmp kept) → IfSome images (AreKnown cmp (insert_entry cmp kept k v))
+known_after cmp kept None k v known = tt
+known_after {K} {X} cmp kept (Some images) k v known = λ q x image. insert_has cmp (is_at (cmp q)) k v kept (known q x image)
+
+-- a store in which one key's value is put, or which changes where the key is kept
+pub store-inserted : {K X : Type 0} (cmp : K → K → Ordering) (kept new : List (K × X)) (images : Option (List (K × Option X))) (k : K) (v : X) → IsStore cmp kept images → IsSorted cmp new → new ≡ insert_entry cmp kept k v → IsStore cmp new images
+store-inserted {K} {X} cmp kept new images k v store sorted is = (sorted, subst (λ (es : List (K × X)). IfSome images (AreKnown cmp es)) (sym is) (known_after cmp kept images k v store.1))
+
+store_changed_by : {K X : Type 0} (cmp : K → K → Ordering) (kept new : List (K × X)) (images : Option (List (K × Option X))) (k : K) (after : X → X) (o : Option X) → IsStore cmp kept images → IsSorted cmp new
+    → MatchOption o (new ≡ kept) (λ x. new ≡ insert_entry cmp kept k (after x)) → IsStore cmp new images
+store_changed_by {K} {X} cmp kept new images k after None store sorted is = subst (λ (es : List (K × X)). IsStore cmp es images) (sym is) store
+store_changed_by cmp kept new images k after (Some x) store sorted is = store-inserted cmp kept new images k (after x) store sorted is
+
+pub store-changed : {K X : Type 0} (cmp : K → K → Ordering) (kept new : List (K × X)) (images : Option (List (K × Option X))) (k : K) (after : X → X) → IsStore cmp kept images → IsSorted cmp new
+    → MatchOption (lookup (is_at (cmp k)) kept) (new ≡ kept) (λ x. new ≡ insert_entry cmp kept k (after x)) → IsStore cmp new images
+store-changed cmp kept new images k after store sorted is = store_changed_by cmp kept new images k after (lookup (is_at (cmp k)) kept) store sorted is
+
+module _ {K X : Type 0} {cmp : K → K → Ordering} (total : IsTotalOrder cmp) where
+  store_changes_by : (kept new : List (K × X)) (images : Option (List (K × Option X))) (s : StoreView K X) (k : K) (after : X → X) → watched cmp kept images ≡ s → IsStore cmp kept images → IsAside cmp k images
+      → (o : Option X) → lookup (is_at (cmp k)) kept ≡ o → MatchOption o (new ≡ kept) (λ x. new ≡ insert_entry cmp kept k (after x))
+      → MatchOption (lookup (is_at (cmp k)) s.kept) (watched cmp new images ≡ s) (λ x. watched cmp new images ≡ changed s (insert_entry cmp s.kept k (after x)))
+  store_changes_by kept new images s k after view store aside None is had =
+      let none : lookup (is_at (cmp k)) s.kept ≡ None = ap (λ (s : StoreView K X). lookup (is_at (cmp k)) s.kept) (sym view) ∙ is in
+      rw none (ap (λ (es : List (K × X)). watched cmp es images) had ∙ view)
+  store_changes_by kept new images s k after view store aside (Some x) is had =
+      changed-there cmp s (watched cmp new images) k after x (ap (λ (s : StoreView K X). lookup (is_at (cmp k)) s.kept) (sym view) ∙ is)
+      (ap (λ (es : List (K × X)). watched cmp es images) had ∙ insert-watched total kept images k (after x) store aside
+      ∙ ap (λ (s : StoreView K X). changed s (insert_entry cmp s.kept k (after x))) view)
+
+  pub store-changes : (kept new : List (K × X)) (images : Option (List (K × Option X))) (s : StoreView K X) (k : K) (after : X → X) → watched cmp kept images ≡ s → IsStore cmp kept images → IsAside cmp k images
+      → MatchOption (lookup (is_at (cmp k)) kept) (new ≡ kept) (λ x. new ≡ insert_entry cmp kept k (after x))
+      → MatchOption (lookup (is_at (cmp k)) s.kept) (watched cmp new images ≡ s) (λ x. watched cmp new images ≡ changed s (insert_entry cmp s.kept k (after x)))
+  store-changes kept new images s k after view store aside had = store_changes_by kept new images s k after view store aside (lookup (is_at (cmp k)) kept) refl had

@@ -1,5 +1,5 @@
 -- Entries in the order in which they were put, and in the order of their keys.
-use Rattle.std.proofs.Common.{◌≡◌, ◌≢◌, ◌<◌, ◌+◌, ◌&&◌, ℕ, zero, suc, Bool, true, false, cond, List, [], ◌∷◌, ◌++◌, length, refl, sym, ap, subst, ◌∙◌, Option, Some, None, slice_get, slice_set, arith}
+use Rattle.std.proofs.Common.{◌≡◌, ◌<◌, ℕ, zero, suc, Bool, true, false, cond, List, [], ◌∷◌, ◌++◌, length, refl, sym, ap, subst, ◌∙◌, Option, Some, None, slice_get, slice_set, arith}
 use Rattle.std.specs.BTreeMap.{insert_entry, is_at}
 use Rattle.std.specs.Cmp.{IsTotalOrder, Equal-is, eq_by_cmp_equiv, tied_itself}
 use Rattle.std.specs.List.{AllByRecursion, filter}
@@ -192,17 +192,19 @@ module _ {K X : Type 0} where
       new_by : (p : K × ℕ) (ps : List (K × ℕ)) (o : Ordering) → cmp k p.0 ≡ o → AllByRecursion (IsPlaced es) (p ∷ ps) → lookup (is_at (cmp k)) (p ∷ ps) ≡ None
           → (lookup (is_at (cmp k)) ps ≡ None → (in_order more (insert_entry cmp ps k (length es)) ≡ insert_entry cmp (in_order es ps) k v) × AllByRecursion (IsPlaced more) (insert_entry cmp ps k (length es)))
           → (in_order more (insert_entry cmp (p ∷ ps) k (length es)) ≡ insert_entry cmp (in_order es (p ∷ ps)) k v) × AllByRecursion (IsPlaced more) (insert_entry cmp (p ∷ ps) k (length es))
-      new_by p ps Less is all none later =
-          (rw is (rw (get_last es (k, v)) (ap (λ es. (k, v) ∷ es) (more-in_order es ((k, v) ∷ []) (p ∷ ps) all) ∙ rw all.0.1 (rw is refl))),
-          rw is ((v, get_last es (k, v)), all_mapped (IsPlaced es) (IsPlaced more) placed-more (p ∷ ps) all))
+      new_by p ps Less is all none later = (
+        rw is (rw (get_last es (k, v)) (ap (λ es. (k, v) ∷ es) (more-in_order es ((k, v) ∷ []) (p ∷ ps) all) ∙ rw all.0.1 (rw is refl))),
+        rw is ((v, get_last es (k, v)), all_mapped (IsPlaced es) (IsPlaced more) placed-more (p ∷ ps) all),
+      )
       new_by p ps Equal is all none later =
           let e : Some p.1 ≡ None = rw is at none in
           let f : false ≡ true = cc in
           cc
       new_by p ps Greater is all none later =
-          let tail : lookup (is_at (cmp k)) ps ≡ None = rw is at none in
-          (rw is (rw (all.0.1, get_before es ((k, v) ∷ []) p.1 (p.0, all.0.0) all.0.1) (rw is (ap (λ es. (p.0, all.0.0) ∷ es) (later tail).0))),
-          rw is (placed-more p all.0, (later tail).1))
+          let tail : lookup (is_at (cmp k)) ps ≡ None = rw is at none in (
+            rw is (rw (all.0.1, get_before es ((k, v) ∷ []) p.1 (p.0, all.0.0) all.0.1) (rw is (ap (λ es. (p.0, all.0.0) ∷ es) (later tail).0))),
+            rw is (placed-more p all.0, (later tail).1),
+          )
 
       new-both : (ps : List (K × ℕ)) → AllByRecursion (IsPlaced es) ps → lookup (is_at (cmp k)) ps ≡ None
           → (in_order more (insert_entry cmp ps k (length es)) ≡ insert_entry cmp (in_order es ps) k v) × AllByRecursion (IsPlaced more) (insert_entry cmp ps k (length es))
@@ -229,12 +231,12 @@ module _ {K X : Type 0} where
             sorted = sorted;
             placed = rw is (new-both ps are.placed none).1;
             found = λ j e at.
-            get_pushed es (k, v) e j at (lookup (is_at (cmp e.0)) new ≡ Some j)
-            (λ before. updates e.0 ∙ new_found_by e.0 ps j (is_at (cmp k) e.0) refl (are.found j e before) none)
-            (λ last own.
-            let key : e.0 ≡ k = ap (λ (e : K × X). e.0) own in
-            let yes : is_at (cmp k) e.0 ≡ true = (Equal-is (cmp k e.0)).1 (total.congr k k e.0 (tied_itself total k) ∙ ap (cmp k) key ∙ tied_itself total k) in
-            updates e.0 ∙ ap (λ (b : Bool). cond b (Some (length es)) (lookup (is_at (cmp e.0)) ps)) yes ∙ ap Some (sym last));
+                get_pushed es (k, v) e j at (lookup (is_at (cmp e.0)) new ≡ Some j)
+                (λ before. updates e.0 ∙ new_found_by e.0 ps j (is_at (cmp k) e.0) refl (are.found j e before) none)
+                (λ last own.
+                let key : e.0 ≡ k = ap (λ (e : K × X). e.0) own in
+                let yes : is_at (cmp k) e.0 ≡ true = (Equal-is (cmp k e.0)).1 (total.congr k k e.0 (tied_itself total k) ∙ ap (cmp k) key ∙ tied_itself total k) in
+                updates e.0 ∙ ap (λ (b : Bool). cond b (Some (length es)) (lookup (is_at (cmp e.0)) ps)) yes ∙ ap Some (sym last));
           }
 
     -- the place at which a key is held is its own
@@ -260,6 +262,11 @@ module _ {K X : Type 0} where
   pub places-within : (test : K → Bool) (es : List (K × X)) (ps : List (K × ℕ)) → AllByRecursion (IsPlaced es) ps → IfSome (lookup test ps) (λ i. i < length es)
   places-within test es ps all = within_by test es ps all (lookup test ps) refl
 
+-- a change of a key that is there
+pub changed-map : {K X : Type 0} (cmp : K → K → Ordering) (s n : List (K × X)) (k : K) (after : X → X) (x : X) → lookup (is_at (cmp k)) s ≡ Some x → n ≡ insert_entry cmp s k (after x)
+    → MatchOption (lookup (is_at (cmp k)) s) (n ≡ s) (λ x. n ≡ insert_entry cmp s k (after x))
+changed-map cmp s n k after x there is = rw there is
+
 module _ {K X : Type 0} {cmp : K → K → Ordering} where
   -- what a map shows
   pub sorted-view : (es : List (K × X)) (ps : List (K × ℕ)) (s : List (K × X)) → in_order es ps ≡ s → ArePlaced cmp es ps → IsStrictlySortedBy cmp (keys_of s)
@@ -271,11 +278,6 @@ module _ {K X : Type 0} {cmp : K → K → Ordering} where
   pub none-view : (k : K) (es : List (K × X)) (ps : List (K × ℕ)) (s : List (K × X)) → in_order es ps ≡ s → ArePlaced cmp es ps → None ≡ lookup (is_at (cmp k)) ps → lookup (is_at (cmp k)) s ≡ None
   none-view k es ps s is are none = lookup-view k es ps s is are ∙ ap (option_and_then (value_at es)) (sym none)
 
-  -- a change of a key that is there
-  pub changed-map : (s n : List (K × X)) (k : K) (after : X → X) (x : X) → lookup (is_at (cmp k)) s ≡ Some x → n ≡ insert_entry cmp s k (after x)
-      → MatchOption (lookup (is_at (cmp k)) s) (n ≡ s) (λ x. n ≡ insert_entry cmp s k (after x))
-  changed-map s n k after x there is = rw there is
-
   -- another value at the place of a key: what stood there, that it was found, that each key has its place, and what is there in order
   pub value-set : IsTotalOrder cmp → (es new : List (K × X)) (ps : List (K × ℕ)) (k : K) (i : ℕ) (f : X → X) → ArePlaced cmp es ps → Some i ≡ lookup (is_at (cmp k)) ps
       → IfSome (slice_get es i) (λ e. new ≡ slice_set es i (e.0, f e.1))
@@ -283,8 +285,11 @@ module _ {K X : Type 0} {cmp : K → K → Ordering} where
   value-set total es new ps k i f are looked had =
       let at : (held : K) × (x : X) × (is_at (cmp k) held ≡ true) × (slice_get es i ≡ Some (held, x)) = placed_at (is_at (cmp k)) es ps i are.placed (sym looked) in
       let same : cmp k at.0 ≡ Equal = (Equal-is (cmp k at.0)).0 at.2 in
-      let is : new ≡ slice_set es i (at.0, f at.1) = rw at.3 at had in
-      (at.0, at.1, at.3,
-      lookup-in_order (is_at (cmp k)) es ps are.placed ∙ ap (option_and_then (value_at es)) (sym looked) ∙ ap (option_map (λ e. e.1)) at.3,
-      subst (λ (es : List (K × X)). ArePlaced cmp es ps) (sym is) (placed-after_set total es i k at.0 (f at.1) at.1 at.3 same ps are),
-      ap (λ (es : List (K × X)). in_order es ps) is ∙ set-in_order total es i k at.0 (f at.1) at.1 at.3 same ps are.sorted are.placed (sym looked))
+      let is : new ≡ slice_set es i (at.0, f at.1) = rw at.3 at had in (
+        at.0,
+        at.1,
+        at.3,
+        lookup-in_order (is_at (cmp k)) es ps are.placed ∙ ap (option_and_then (value_at es)) (sym looked) ∙ ap (option_map (λ e. e.1)) at.3,
+        subst (λ (es : List (K × X)). ArePlaced cmp es ps) (sym is) (placed-after_set total es i k at.0 (f at.1) at.1 at.3 same ps are),
+        ap (λ (es : List (K × X)). in_order es ps) is ∙ set-in_order total es i k at.0 (f at.1) at.1 at.3 same ps are.sorted are.placed (sym looked),
+      )

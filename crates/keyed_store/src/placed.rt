@@ -28,6 +28,7 @@ use std::ops::Bound;
 
 // How many hints there are at first, and how many there may be: four megabytes.
 const FIRST_HINTS: usize = 64;
+
 const MOST_HINTS: usize = 1 << 20;
 
 // Entries by key.
@@ -206,7 +207,11 @@ fn grow_hints<K: Hash, V>(alloc: Global, hints: &mut Vec<u32>, entries: &[(K, V)
     if count >= MOST_HINTS || count / 4 >= entries.len() {
         return;
     }
-    let more = if count == 0 { FIRST_HINTS } else { count.saturating_mul(4) };
+    let more = if count == 0 {
+        FIRST_HINTS
+    } else {
+        count.saturating_mul(4)
+    };
     if let Ok(grown) = hints_of(alloc, more, entries) {
         *hints = grown;
     }

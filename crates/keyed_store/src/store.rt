@@ -110,7 +110,8 @@ impl<K: Ord + Copy + Hash, V: Image> KeyedStore<K, V> {
         ensures err { OnErr result (self.new ≡ self.old) }
     {
         put_aside(self.alloc, &self.kept, &mut self.images, &key)?;
-        self.kept.insert(key, value)
+        self.kept.insert(key, value)?;
+        Ok(())
     }
 
     /// Changes the value that is kept for a key by one more, if there is one, and gives what the

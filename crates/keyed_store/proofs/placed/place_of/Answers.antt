@@ -1,8 +1,6 @@
-use Rattle.std.proofs.Common.{◌≡◌, ◌<◌, ◌∙◌, length, sym, true, Option, ℕ, ap, subst}
+use Rattle.std.proofs.Common.{◌<◌, ◌∙◌, length, sym, Option, ℕ, subst}
 use Rattle.std.specs.BTreeMap.{is_at}
-use Rattle.std.specs.Map.{lookup}
 use Rattle.std.specs.Option.{IfSome}
-use Rattle.keyed_store.specs.Placed.{is_held_at}
 use Rattle.keyed_store.proofs.Places.{held-place, held-within, places-within}
 use Rattle.keyed_store.proofs.placed.place_of.Goals as goal
 

@@ -7,4 +7,4 @@ use Rattle.keyed_store.proofs.store.first_before.Given as goal
 
 abbrev pub invariant-loop-key : goal.invariant-loop-key
 invariant-loop-key g l =
-    head_of (was_by (λ q. lookup (is_at (g.K.Ord.cmp q)) l.images.entries) l.key-iterator) ≡ first_from g.K.Ord.cmp l.fn.bound (kept_before g.K.Ord.cmp l.kept.entries l.images.entries)
+    head_of (was_by (λ q. lookup (is_at (g.K.Ord.cmp q)) l.images.entries) l.key-iterator) ≡ first_from g.K.Ord.cmp l.fn.bound (kept_before g.K.Ord.cmp l.kept l.images.entries)
