@@ -1,4 +1,4 @@
-// A thousand keys for each operator, with two rows of each, also at the end.
+// A thousand keys for each operator, with two rows of each, also at the end; and keys that share a hint.
 use crate::steps::{Case, Step, check};
 use std::test::Fail;
 use stream_ops::{By, Compare, OpSpec};
@@ -86,4 +86,35 @@ const CASES: &[Case] = &[
 #[test]
 fn answers_for_a_thousand_keys(rt: HostRuntime) -> Result<(), Fail> {
     check(rt.alloc(), CASES)
+}
+
+// The hashes of these two keys end in the same twenty bits, so both have one hint in a table of any size.
+const ONE_HINT: &[Case] = &[(
+    OpSpec::Total { by: By::Account },
+    &[
+        Step::Answers(
+            &[
+                (1, 1, 0, 5, 10),
+                (2, 71462, 0, 7, 20),
+                (3, 1, 0, 1, 1),
+                (4, 71462, 0, 1, 2),
+                (5, 71462, 0, 1, 3),
+                (6, 1, 0, 2, 1),
+            ],
+            &[
+                (1, 1, 0, 5, 10),
+                (2, 71462, 0, 7, 20),
+                (3, 1, 0, 6, 11),
+                (4, 71462, 0, 8, 22),
+                (5, 71462, 0, 9, 25),
+                (6, 1, 0, 8, 12),
+            ],
+        ),
+        Step::Keeps(&[(1, 0, 8, 12, 0), (71462, 0, 9, 25, 0)]),
+    ],
+)];
+
+#[test]
+fn keys_that_share_a_hint_stay_apart(rt: HostRuntime) -> Result<(), Fail> {
+    check(rt.alloc(), ONE_HINT)
 }
