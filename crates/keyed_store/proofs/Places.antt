@@ -293,3 +293,18 @@ module _ {K X : Type 0} {cmp : K → K → Ordering} where
         subst (λ (es : List (K × X)). ArePlaced cmp es ps) (sym is) (placed-after_set total es i k at.0 (f at.1) at.1 at.3 same ps are),
         ap (λ (es : List (K × X)). in_order es ps) is ∙ set-in_order total es i k at.0 (f at.1) at.1 at.3 same ps are.sorted are.placed (sym looked),
       )
+
+-- a place that is given back to its key
+restored_by : {K : Type 0} {cmp : K → K → Ordering} (total : IsTotalOrder cmp) (k : K) (n i : ℕ) (p : K × ℕ) (ps : List (K × ℕ)) (o : Ordering) → cmp k p.0 ≡ o → IsStrictlySortedBy cmp (keys_of (p ∷ ps))
+    → lookup (is_at (cmp k)) (p ∷ ps) ≡ Some i → (lookup (is_at (cmp k)) ps ≡ Some i → insert_entry cmp (insert_entry cmp ps k n) k i ≡ ps)
+    → insert_entry cmp (insert_entry cmp (p ∷ ps) k n) k i ≡ p ∷ ps
+restored_by {K} {cmp} total k n i p ps Less is sorted at later = absurd (has_none (is_at (cmp k)) (p ∷ ps) i at (none_below_head total k p ps sorted is))
+restored_by total k n i p ps Equal is sorted at later =
+    let e : p.1 ≡ i = let s : Some p.1 ≡ Some i = rw is at at in cc in
+    rw is (rw is (ap (λ (j : ℕ). (p.0, j) ∷ ps) (sym e)))
+restored_by total k n i p ps Greater is sorted at later = rw is (rw is (ap (λ (ps : List (_)). p ∷ ps) (later (rw is at at))))
+
+pub restored : {K : Type 0} {cmp : K → K → Ordering} → IsTotalOrder cmp → (k : K) (n i : ℕ) (ps : List (K × ℕ)) → IsStrictlySortedBy cmp (keys_of ps) → lookup (is_at (cmp k)) ps ≡ Some i
+    → insert_entry cmp (insert_entry cmp ps k n) k i ≡ ps
+restored total k n i [] sorted at = let f : false ≡ true = cc in cc
+restored {K} {cmp} total k n i (p ∷ ps) sorted at = restored_by total k n i p ps (cmp k p.0) refl sorted at (restored total k n i ps (sorted_tail cmp p.0 (keys_of ps) sorted))

@@ -15,7 +15,7 @@ ghost use Rattle.std.specs.Map.Iter.{ShowsInOrder, TakesFirst, deref_pair};
 ghost use Rattle.std.specs.Iterator.{at_most};
 ghost use Rattle.std.specs.Option.{MatchOption, option_copied, option_map};
 ghost use Rattle.std.specs.declared.ops.Bound.TheVariants.{Unbounded};
-ghost use Rattle.std.specs.Prelude.{◌≡◌, ◌<◌, ◌^◌, ◌∷◌, [], List, None, IfSome, OnOk, OnErr, length, slice_get, slice_set};
+ghost use Rattle.std.specs.Prelude.{◌≡◌, ◌<◌, ◌^◌, ◌∷◌, [], List, None, IfSome, IsSome, OnOk, OnErr, length, slice_get, slice_set};
 
 use crate::store::{OutOfMemory, Takes};
 use std::alloc::{AllocError, Global};
@@ -142,13 +142,11 @@ impl<K: Ord + Copy + Hash, V: Drop> PlacedMap<K, V> {
     {
         let slot = slot_of(self.hints.len(), &key);
         let hint = hint_at(&self.hints, slot);
-        if let Some(place) = place_of(&self.entries, &self.places, hint, &key) {
-            set_value(&mut self.entries, place, value);
-            put_hint(&mut self.hints, slot, place);
+        if is_held_at(&self.entries, &key, hint) {
+            set_value(&mut self.entries, hint, value);
             return Ok(());
         }
-        let place = self.entries.len();
-        put_new(&mut self.entries, &mut self.places, key, value)?;
+        let place = put(&mut self.entries, &mut self.places, key, value)?;
         put_hint(&mut self.hints, slot, place);
         grow_hints(self.alloc, &mut self.hints, &self.entries);
         Ok(())
@@ -289,24 +287,43 @@ fn set_value<K, V: Drop>(entries: &mut Vec<(K, V)>, place: usize, value: V)
     entry.1 = value;
 }
 
-// Puts an entry of a new key behind the others.
-fn put_new<K: Ord + Copy, V: Drop>(
+// Puts a value under a key, behind the others where the key is new, and tells its place. The order
+// of keys is gone down once for a new key.
+fn put<K: Ord + Copy, V: Drop>(
     entries: &mut Vec<(K, V)>,
     places: &mut BTreeMap<K, usize>,
     key: K,
     value: V,
-) -> Result<(), OutOfMemory>
-    requires placed { ArePlaced K.cmp entries.old.items places.old.entries }
-    requires absent { lookup (is_at (K.cmp key)) places.old.entries ≡ None }
+) -> Result<usize, OutOfMemory>
+    requires { ArePlaced K.cmp entries.old.items places.old.entries }
     ensures placed { ArePlaced K.cmp entries.new.items places.new.entries }
     ensures inserts { OnOk result (in_order entries.new.items places.new.entries ≡ insert_entry K.cmp (in_order entries.old.items places.old.entries) key value) }
     ensures err { OnErr result (in_order entries.new.items places.new.entries ≡ in_order entries.old.items places.old.entries) }
 {
     entries.reserve(1)?;
-    match places.insert(key, entries.len()) {
-        Ok(_) => {}
-        Err(_) => return Err(AllocError),
+    let place = entries.len();
+    match places.insert(key, place) {
+        Ok(Some(own)) => {
+            put_back(places, key, own);
+            set_value(entries, own, value);
+            Ok(own)
+        }
+        Ok(None) => {
+            entries.push_reserved((key, value));
+            Ok(place)
+        }
+        Err(_) => Err(AllocError),
     }
-    entries.push_reserved((key, value));
-    Ok(())
+}
+
+// Gives a key that has a place another one.
+fn put_back<K: Ord>(places: &mut BTreeMap<K, usize>, key: K, place: usize)
+where
+    K: Drop,
+    requires { IsSome (lookup (is_at (K.cmp key)) places.old.entries) }
+    ensures { places.new.entries ≡ insert_entry K.cmp places.old.entries key place }
+{
+    if places.insert(key, place).is_err() {
+        unreachable!();
+    }
 }
